@@ -1,0 +1,51 @@
+-- What is asked of a compacted store, and the versions that suffice to answer it.
+use Rattle.std.specs.Prelude.{◌≡◌, ℕ, ◌≤◌, pos, List, [], length, Result}
+use Rattle.kv_model.specs.declared.version.Version.{Version}
+use Rattle.kv_model.specs.declared.call.RangeQuery.{RangeQuery}
+use Rattle.kv_model.specs.declared.call.Watched.{Watched}
+use Rattle.kv_model.specs.declared.refusal.Refusal.{Refusal}
+use Rattle.kv_model.specs.Lists.{IsPart}
+use Rattle.kv_model.specs.History.{Mutation, now, dress, end_of}
+use Rattle.kv_model.specs.Ranges.{RangeReply, range_answer}
+use Rattle.kv_model.specs.Events.{WatchEvent, events_of}
+
+-- a Range at the revision that it names, or a watch of one revision
+pub data Question : Type 0 where
+  range : RangeQuery → Question
+  watch : Watched → ℕ → Question
+
+pub data Answered : Type 0 where
+  range : Result RangeReply Refusal → Answered
+  watch : List WatchEvent → Answered
+
+-- the revision is not compacted, and not in the future
+pub record IsKept (c now r : ℕ) : Type 0 where
+  pub first : 1 ≤ r
+  pub kept : c ≤ r
+  pub past : r ≤ now
+
+-- the Range has a key and names a revision that is kept
+pub record IsRangeAt (c now : ℕ) (q : RangeQuery) : Type 0 where
+  pub revision : ℕ
+  pub is : q.revision ≡ pos revision
+  pub kept : IsKept c now revision
+  pub has_key : q.range.key ≡ [] → ⊥
+
+abbrev pub IsQuestion : ℕ → ℕ → Question → Type 0
+IsQuestion c now (Question.range q) = IsRangeAt c now q
+IsQuestion c now (Question.watch w r) = IsKept c now r
+
+-- what a list of versions answers
+abbrev pub answered : List Version → ℕ → ℕ → Question → Answered
+answered vs c now (Question.range q) = Answered.range (range_answer vs c now (end_of now) q)
+answered vs c now (Question.watch w r) = Answered.watch (events_of vs c r w)
+
+-- some of the versions of a history, that answer every question as all of them do
+pub record IsGood (vs : List Version) (ms : List Mutation) (c : ℕ) : Type 0 where
+  pub part : IsPart vs (dress ms)
+  pub answers : (q : Question) → IsQuestion c (now ms) q → answered vs c (now ms) q ≡ answered (dress ms) c (now ms) q
+
+-- and no fewer do
+pub record IsLeast (vs : List Version) (ms : List Mutation) (c : ℕ) : Type 0 where
+  pub good : IsGood vs ms c
+  pub least : (us : List Version) → IsGood us ms c → length vs ≤ length us

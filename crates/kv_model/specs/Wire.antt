@@ -1,0 +1,135 @@
+-- From bytes to bytes: the events of a run, and what they are answered.
+use Rattle.std.specs.Prelude.{◌≡◌, ℕ, ℤ, pos, List, Bool, true, false, IsTrue, ◌||◌, ◌&&◌, nat_lt, if◌then◌else◌, is_some, is_none, Option, None, Some, Result, Ok, Err}
+use Rattle.kv_model.specs.declared.version.Rev.{Rev}
+use Rattle.kv_model.specs.declared.version.Version.{Version}
+use Rattle.kv_model.specs.Calls.{Call}
+use Rattle.kv_model.specs.World.{World, Watch, revision, watch_at, without_watch, at_moment}
+use Rattle.kv_model.specs.Leases.{lease_at}
+use Rattle.kv_model.specs.Watches.{deliver as delivered}
+use Rattle.kv_model.specs.Told.{Expiry, Trimmed}
+use Rattle.kv_model.specs.Step.{Made, made_in, perform, expire as expired, compact_refusal}
+use Rattle.kv_model.specs.Requests.{Bad, request_of}
+use Rattle.kv_model.specs.declared.ids.Ids.{Ids}
+use Rattle.kv_model.specs.Answers.{Response, response_to, refused, fault_of_bad, message_text}
+use Rattle.kv_model.specs.Needs.{Need}
+use Rattle.kv_model.specs.Follows as follows
+use Rattle.kv_model.specs.Follows.{Outcome}
+
+abbrev pub post_call : Ids → World → Result Call Bad → Response × World
+post_call ids w (Ok call) = (response_to ids (perform w call).0, (perform w call).1)
+post_call ids w (Err e) = (refused (fault_of_bad e), w)
+
+-- the reply to a request, and the world after it
+abbrev pub reply_to : Ids → World → List ℕ → List ℕ → Response × World
+reply_to ids w path body = post_call ids w (request_of path body)
+
+abbrev pub client_id : Option Watch → ℤ
+client_id None = pos 0
+client_id (Some w) = w.id
+
+-- the message to the watch of this number, if there is one
+abbrev pub message_to : Ids → World → ℕ → Option (List ℕ)
+message_to ids w n = message_text ids (revision w) (client_id (watch_at w.watches n)) (delivered w n).0
+
+-- ---- events
+
+pub data WireEvent : Type 0 where
+  moment : ℕ → WireEvent
+  post : List ℕ → List ℕ → WireEvent
+  deliver : ℕ → WireEvent
+  close : ℕ → WireEvent
+  expire : WireEvent
+  trim : WireEvent
+  certify : WireEvent
+
+-- a need for a version, as a certificate lists them
+pub record Claim : Type 0 where
+  pub rev : Rev
+  pub need : Need
+
+-- raised is the new revision where it rose, and watch the number of a watch that was made
+pub data WireTold : Type 0 where
+  clock : ℕ → WireTold
+  reply : Response → Option ℕ → Option ℕ → WireTold
+  no_watch : WireTold
+  nothing : WireTold
+  message : List ℕ → WireTold
+  closed : Bool → WireTold
+  expiry : Expiry → WireTold
+  trimmed : Trimmed → WireTold
+  done : ℕ → Option (List Claim) → WireTold
+  certified : List Version → ℕ → ℕ → List Claim → WireTold
+  untold : WireTold
+
+-- ---- steps
+
+abbrev pub number_made : World → World → Option ℕ
+number_made w u = if nat_lt w.made u.made then Some u.made else None
+
+abbrev pub raised : World → World → Option ℕ
+raised w u = if nat_lt (revision w) (revision u) then Some (revision u) else None
+
+abbrev pub tell_reply : World → Response × World → WireTold × World
+tell_reply w p = (WireTold.reply p.0 (raised w p.1) (number_made w p.1), p.1)
+
+abbrev pub tell_message : Bool → Option (List ℕ) → WireTold
+tell_message stands (Some text) = WireTold.message text
+tell_message true None = WireTold.nothing
+tell_message false None = WireTold.no_watch
+
+-- one event: what is told, and the world after it; what trimming tells is not said here, and it changes nothing
+abbrev pub wire_step : Ids → World → WireEvent → WireTold × World
+wire_step ids w (WireEvent.moment m) = (WireTold.clock (at_moment w m).clock, at_moment w m)
+wire_step ids w (WireEvent.post path body) = tell_reply w (reply_to ids w path body)
+wire_step ids w (WireEvent.deliver n) = (tell_message (is_some (watch_at w.watches n)) (message_to ids w n), (delivered w n).1)
+wire_step ids w (WireEvent.close n) = (WireTold.closed (is_some (watch_at w.watches n)), record w { watches = without_watch n w.watches })
+wire_step ids w WireEvent.expire = (WireTold.expiry (expired w).0, (expired w).1)
+wire_step ids w WireEvent.trim = (WireTold.untold, w)
+wire_step ids w WireEvent.certify = (WireTold.untold, w)
+
+-- ---- runs
+
+abbrev pub is_free : WireEvent → Bool
+is_free WireEvent.trim = true
+is_free WireEvent.certify = true
+is_free _ = false
+
+-- a command that is accepted changes something besides the history
+abbrev pub changes_beside : World → Call → Bool
+changes_beside w (Call.compact r physical) = true
+changes_beside w (Call.watch watched start id) = true
+changes_beside w (Call.grant ttl id) = true
+changes_beside w (Call.revoke id) = true
+changes_beside w (Call.keep_alive id) = is_some (lease_at w.leases id)
+changes_beside w _ = false
+
+-- the command is accepted and changes the world, to this revision
+abbrev pub IsChange : World → Call → ℕ → Made → Type 0
+IsChange w call r (Err e) = ⊥
+IsChange w call r (Ok made) = IsTrue (nat_lt (revision w) (revision made.1) || changes_beside w call) × (r ≡ revision made.1)
+
+abbrev pub IsChangeBy : World → ℕ → Result Call Bad → Type 0
+IsChangeBy w r (Ok call) = IsChange w call r (made_in w call)
+IsChangeBy w r (Err e) = ⊥
+
+abbrev pub MayLose : World → WireEvent → ℕ → Type 0
+MayLose w (WireEvent.post path body) r = IsChangeBy w r (request_of path body)
+MayLose w _ r = ⊥
+
+-- the outcomes of a run are those of the whole history
+abbrev pub Follows : Ids → List WireEvent → List (Outcome WireTold) → Type 0
+Follows ids = follows.Follows (wire_step ids) is_free MayLose
+
+abbrev pub is_physical_call : World → Result Call Bad → Bool
+is_physical_call w (Ok (Call.compact r physical)) = physical && is_none (compact_refusal w.compacted (revision w) r)
+is_physical_call w _ = false
+
+-- an accepted Compact that waits for trimming
+abbrev pub is_physical : World → WireEvent → Bool
+is_physical w (WireEvent.post path body) = is_physical_call w (request_of path body)
+is_physical w _ = false
+
+-- the version that a trimming step took out
+abbrev pub removed_by : WireTold → Option Rev
+removed_by (WireTold.trimmed (Trimmed.removed p)) = Some p
+removed_by _ = None

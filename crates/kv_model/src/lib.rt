@@ -1,0 +1,9 @@
+// A revisioned key store: its data types, and in specs/ what it does.
+#![tactic(auto)]
+
+pub mod call;
+pub mod feed;
+pub mod ids;
+pub mod laws;
+pub mod refusal;
+pub mod version;
