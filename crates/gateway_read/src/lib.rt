@@ -1,0 +1,2 @@
+// The command that a request asks for, read from its path and its body.
+#![tactic(auto)]

@@ -1,0 +1,2 @@
+// The bytes of answers, written straight into one buffer.
+#![tactic(auto)]

@@ -1,0 +1,2 @@
+// The revisions of each key.
+#![tactic(auto)]

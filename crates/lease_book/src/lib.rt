@@ -1,0 +1,2 @@
+// The leases that are granted, and the clock.
+#![tactic(auto)]

@@ -1,0 +1,29 @@
+//! What a read lends.
+
+/// A live key, lent from the version that holds it (the etcd documentation's KeyValue).
+#[derive(Clone, Copy, Debug)]
+pub struct KvRef<'a> {
+    pub key: &'a [u8],
+    pub value: &'a [u8],
+    /// The revision of the put that created the key.
+    pub create: u64,
+    /// The revision of the key's last put.
+    pub modified: u64,
+    /// The number of the key's puts since it was created.
+    pub version: u64,
+    /// The lease that the last put named, 0 for none.
+    pub lease: i64,
+}
+
+/// The answer to a Range (the etcd documentation's RangeResponse).
+#[derive(Debug, Drop)]
+pub struct RangeReply<'a> {
+    /// What is shown, in the order asked for.
+    pub kvs: Vec<KvRef<'a>>,
+    /// How many live keys the range has, before filters and limit.
+    pub count: u64,
+    /// Whether the limit cut some.
+    pub more: bool,
+    /// The revision of the store that was read.
+    pub revision: u64,
+}

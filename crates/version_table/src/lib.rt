@@ -1,0 +1,2 @@
+// The versions that are kept, in the order in which they were made.
+#![tactic(auto)]
