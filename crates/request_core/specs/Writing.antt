@@ -1,0 +1,25 @@
+-- What a put makes of a key.
+use Rattle.std.specs.Prelude.{◌≡◌, ℕ, ◌+◌, ◌<◌, ◌^◌, List, Option, None, Some, option_and_then, All, ⊤}
+use Rattle.kv_model.specs.declared.version.Rev.{Rev}
+use Rattle.kv_model.specs.declared.version.Version.{Version}
+use Rattle.kv_model.specs.declared.version.Body.{Body}
+use Rattle.kv_model.specs.declared.version.Body.TheVariants.{Put, Gone}
+use Rattle.kv_model.specs.declared.call.PutRequest.{PutRequest}
+use Rattle.kv_model.specs.History.{value_now}
+use Rattle.kv_model.specs.Txns.{next_body, put_action}
+
+-- one put more of the key can be counted
+abbrev pub CanCountBody : Body → Type 0
+CanCountBody (Put create version lease value) = version + 1 < 2 ^ 64
+CanCountBody Gone = ⊤
+
+abbrev pub CanCountOn : Option Version → Type 0
+CanCountOn None = ⊤
+CanCountOn (Some v) = CanCountBody v.body
+
+abbrev pub CanCount : List Version → Type 0
+CanCount vs = All (λ v. CanCountBody v.body) vs
+
+-- the version that a put makes after these
+abbrev pub next_version : List Version → Rev → PutRequest → Version
+next_version vs rev p = record { rev = rev; key = p.key; body = next_body rev.main (put_action p (value_now vs p.key)) (value_now vs p.key) }
