@@ -3,7 +3,7 @@ use Rattle.std.proofs.Common.{◌≡◌, ℕ, zero, suc, ◌≤◌, pos, List, [
 use Rattle.std.specs.Prelude.{codes, map, option_to_list, nat_lt}
 use Rattle.std.proofs.lemmas.Bool.{le-ltb}
 use Rattle.kv_model.specs.Keys.{one_key}
-use Rattle.kv_model.specs.Ranges.{live, refuse_if}
+use Rattle.kv_model.specs.Ranges.{live, refuse_if, range_reply}
 use Rattle.kv_model.specs.declared.refusal.Refusal.TheVariants.{Compacted, Future}
 use Rattle.std.specs.Option.{option_or}
 use Rattle.kv_model.specs.declared.version.Rev.{Rev}
@@ -27,6 +27,7 @@ place-asked (suc r) p h = refl
 -- what holds the same at the end of a revision answers the same Ranges at it
 pub same_ranges : (us vs : List Version) (c n r : ℕ) (p : Rev) (q : RangeQuery) → 1 ≤ r → q.revision ≡ pos r
     → ((k : List ℕ) → value_at us (end_of r) k ≡ value_at vs (end_of r) k) → range_answer us c n p q ≡ range_answer vs c n p q
+unfolding range_reply reply_from
 same_ranges us vs c n r p q h e same =
     ap (λ kvs. unless_refused (range_refusal c n q) (reply_from q n kvs))
     (live-same us vs (read_place q.revision p) q.range (λ k. rw (e, place-asked) (same k)))
@@ -43,6 +44,7 @@ abbrev put_b : Version
 put_b = record { rev = record { main = 4; sub = 0 }; key = codes "b"; body = Put 4 1 (pos 0) (codes "1") }
 
 held_at_four : (k : List ℕ) → value_at last_put (end_of 4) k ≡ value_at (dress put_delete_put) (end_of 4) k
+unfolding value_at dress
 held_at_four k = by (same_key (codes "a") k) (same_key (codes "b") k)
   where
     by : (a b : Bool) → option_and_then key_value (option_or None (cond (b && true) (Some put_b) None))
@@ -56,6 +58,7 @@ four : (r : ℕ) → IsKept 4 4 r → r ≡ 4
 four r k = omega arith
 
 answers : (q : Question) → IsQuestion 4 4 q → answered last_put 4 4 q ≡ answered (dress put_delete_put) 4 4 q
+unfolding dress
 answers (Question.range q) a = ap Answered.range (same_ranges last_put (dress put_delete_put) 4 4 4 (end_of 4) q (omega arith) (a.is ∙ ap pos (four a.revision a.kept)) held_at_four)
 answers (Question.watch w r) a = subst (λ n. answered last_put 4 4 (Question.watch w n) ≡ answered (dress put_delete_put) 4 4 (Question.watch w n)) (sym (four r a)) (by (matches w put_b))
   where
@@ -69,7 +72,7 @@ shown_count (Answered.range (Err e)) = 0
 shown_count (Answered.watch es) = 0
 
 least : (us : List Version) → IsGood us put_delete_put 4 → 1 ≤ length us
-unfolding shown_count
+unfolding shown_count range_reply reply_from live dress value_at
 least [] g =
     let q : RangeQuery = plain_range (codes "b") 4 in
     let asked : IsRangeAt 4 4 q = record { revision = 4; is = refl; kept = record { first = omega arith; kept = omega arith; past = omega arith }; has_key = λ e. cc } in
@@ -77,6 +80,7 @@ least [] g =
 least (u ∷ us) g = omega arith
 
 pub last_put_least : LastPutIsLeast
+unfolding dress
 last_put_least = record { good = record { part = leave (leave (keep nothing)); answers = answers }; least = least }
 
 -- ---- what may be taken out
@@ -99,6 +103,7 @@ or_some (Some x) p h = refl
 -- a version that a later one of its key hides at the place
 pub superseded-out : (xs : List Version) (v : Version) (ys : List Version) (p : Rev) (k : List ℕ)
     → ((same_key v.key k && rev_le v.rev p) ≡ true → is_some (latest ys p k) ≡ true) → value_at (xs ++ v ∷ ys) p k ≡ value_at (xs ++ ys) p k
+unfolding value_at
 superseded-out xs v ys p k h = by (same_key v.key k && rev_le v.rev p) refl
   where
     by : (b : Bool) → (same_key v.key k && rev_le v.rev p) ≡ b → value_at (xs ++ v ∷ ys) p k ≡ value_at (xs ++ ys) p k
@@ -111,6 +116,7 @@ tombstone-shows v e = ap (shown v.rev.main v.key) e
 -- a tombstone with no version of its key before it
 pub tombstone-out : (xs : List Version) (v : Version) (ys : List Version) (p : Rev) (k : List ℕ) → v.body ≡ Gone
     → ((same_key v.key k && rev_le v.rev p) ≡ true → latest xs p k ≡ None) → value_at (xs ++ v ∷ ys) p k ≡ value_at (xs ++ ys) p k
+unfolding value_at
 tombstone-out xs v ys p k gone h = by (same_key v.key k && rev_le v.rev p) refl
   where
     later : (o : Option Version) → option_and_then key_value (option_or (option_or o (Some v)) None) ≡ option_and_then key_value (option_or o None)
@@ -137,12 +143,13 @@ kvs_of (Answered.range (Err e)) = []
 kvs_of (Answered.watch es) = []
 
 plain_kvs : (n r : ℕ) (k : List ℕ) (o : Option KeyValue) → (reply_from (plain_range k r) n (option_to_list o)).kvs ≡ option_to_list o
+unfolding reply_from
 plain_kvs n r k (Some kv) = refl
 plain_kvs n r k None = refl
 
 plain_shows : (us : List Version) (c n r : ℕ) (x : ℕ) (k : List ℕ) → IsKept c n r
     → kvs_of (answered us c n (Question.range (plain_range (x ∷ k) r))) ≡ option_to_list (value_at us (end_of r) (x ∷ k))
-unfolding kvs_of
+unfolding kvs_of range_reply reply_from
 plain_shows us c n r x k h =
     ap (λ o. kvs_of (Answered.range (unless_refused o (reply_from (plain_range (x ∷ k) r) n (live us (read_place (pos r) (end_of n)) (one_key (x ∷ k))))))) (not_refused c n r x k h)
     ∙ ap (λ p. (reply_from (plain_range (x ∷ k) r) n (live us p (one_key (x ∷ k)))).kvs) (place-asked r (end_of n) h.first)

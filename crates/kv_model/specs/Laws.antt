@@ -11,7 +11,7 @@ use Rattle.kv_model.specs.Ranges.{live, keys}
 use Rattle.kv_model.specs.Txns.{extend, Touch, collides}
 use Rattle.kv_model.specs.Questions.{IsLeast}
 use Rattle.kv_model.specs.Feed.{Published, store_of, absorb}
-use Rattle.kv_model.specs.World.{opening}
+use Rattle.kv_model.specs.World.{opening, IsSound}
 use Rattle.kv_model.specs.Stands.{Store, StandsFor}
 use Rattle.kv_model.specs.declared.ids.Ids.{Ids}
 use Rattle.kv_model.specs.Headline.{IsRun}
@@ -71,6 +71,9 @@ LastPutIsLeast = IsLeast last_put put_delete_put 4
 
 abbrev pub EmptyRunIsRun : Type 0
 EmptyRunIsRun = (ids : Ids) → IsRun ids [] []
+
+abbrev pub OpeningIsSound : Type 0
+OpeningIsSound = IsSound opening
 
 abbrev pub blank_store : Store
 blank_store = record { versions = []; revision = 1; compacted = 0; leases = []; clock = 0; watches = []; made = 0 }

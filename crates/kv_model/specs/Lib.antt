@@ -11,6 +11,7 @@ pub mod World
 pub mod Watches
 pub mod Told
 pub mod Step
+pub mod OnLiterals
 pub mod Follows
 pub mod Questions
 pub mod Needs

@@ -32,14 +32,14 @@ abbrev pub value_within : List Version → Rev → KeyRange → List ℕ → Opt
 value_within vs p r k = if in_range r k then value_at vs p k else None
 
 -- the live keys of a range at a place, ascending
-abbrev pub live : List Version → Rev → KeyRange → List KeyValue
+unfoldable pub live : List Version → Rev → KeyRange → List KeyValue
 live vs p r = filter_map (value_within vs p r) (keys vs)
 
 abbrev pub value_now_within : List Version → KeyRange → List ℕ → Option KeyValue
 value_now_within vs r k = if in_range r k then value_now vs k else None
 
 -- the keys of a range that are live at last, ascending
-abbrev pub live_now : List Version → KeyRange → List KeyValue
+unfoldable pub live_now : List Version → KeyRange → List KeyValue
 live_now vs r = filter_map (value_now_within vs r) (keys vs)
 
 -- 0 is no filter
@@ -93,7 +93,7 @@ pub record RangeReply : Type 0 where
   pub revision : ℕ
 
 -- the live keys, counted, and then filtered, sorted, cut and stripped
-abbrev pub reply_from : RangeQuery → ℕ → List KeyValue → RangeReply
+unfoldable pub reply_from : RangeQuery → ℕ → List KeyValue → RangeReply
 reply_from q now kvs =
     let hits = sorted q.order q.target (filter (passes_filters q) kvs) in
     if q.count_only
@@ -124,7 +124,7 @@ unless_refused None x = Ok x
 unless_refused (Some e) x = Err e
 
 -- the reply to a Range over versions, c the last compaction and now the present revision
-abbrev pub range_reply : List Version → ℕ → ℕ → Rev → RangeQuery → RangeReply
+unfoldable pub range_reply : List Version → ℕ → ℕ → Rev → RangeQuery → RangeReply
 range_reply vs c now p q = reply_from q now (live vs (read_place q.revision p) q.range)
 
 abbrev pub range_answer : List Version → ℕ → ℕ → Rev → RangeQuery → Result RangeReply Refusal

@@ -35,16 +35,16 @@ abbrev pub commit : Reply → World → List Mutation → Made
 commit r w [] = Ok (r, w)
 commit r w (m ∷ ms) = if nat_lt (revision w) last_main then Ok (r, changed w (m ∷ ms)) else Err RevisionsSpent
 
-abbrev pub range_in : World → RangeQuery → Made
+unfoldable pub range_in : World → RangeQuery → Made
 range_in w q = refused_or (range_refusal w.compacted (revision w) q)
     (Ok (Reply.range (range_reply (versions w) w.compacted (revision w) (end_of (revision w)) q), w))
 
-abbrev pub put_in : World → PutRequest → Made
+unfoldable pub put_in : World → PutRequest → Made
 put_in w p = refused_or (option_or (put_fault p) (put_refusal (is_granted w.leases) (versions w) p))
     (commit (Reply.put (previous_value p.prev_kv (value_at (versions w) (end_of (revision w)) p.key))) w
     (put_change (versions w) (revision w + 1) 0 p ∷ []))
 
-abbrev pub delete_in : World → DeleteRequest → Made
+unfoldable pub delete_in : World → DeleteRequest → Made
 delete_in w d =
     let kvs = live (versions w) (end_of (revision w)) d.range in
     refused_or (refuse_if (is_empty d.range.key) NoKey)
@@ -66,13 +66,13 @@ inner_path (Path.delete d rest) = Path.end
 inner_path (Path.txn b inner rest) = inner
 
 -- the path is known, and so is what it changes: the reply is read in the world after it
-abbrev pub run_path : World → Path → Made
+unfoldable pub run_path : World → Path → Made
 run_path w path =
     let ms = effect (versions w) (revision w + 1) 0 path in
     refused_or (run_refusal (is_granted w.leases) w.compacted (revision w) (versions w) 0 path)
     (commit (Reply.txn (succeeded path) (replies_of (versions (changed w ms)) w.compacted (revision w) 0 (inner_path path))) w ms)
 
-abbrev pub txn_in : World → Ops → Made
+unfoldable pub txn_in : World → Ops → Made
 txn_in w ops = refused_or (static_fault ops) (run_path w (path_of (versions w) (revision w) ops))
 
 abbrev pub compact_refusal : ℕ → ℕ → ℤ → Option Refusal
@@ -84,7 +84,7 @@ abbrev pub at_least_zero : ℤ → ℕ
 at_least_zero (pos n) = n
 at_least_zero (negsuc n) = 0
 
-abbrev pub compact_in : World → ℤ → Made
+unfoldable pub compact_in : World → ℤ → Made
 compact_in w r = refused_or (compact_refusal w.compacted (revision w) r) (Ok (Reply.compact, record w { compacted = at_least_zero r }))
 
 abbrev pub most_watches : ℕ
@@ -109,7 +109,7 @@ new_watch w watched start id = record {
   next = start_of (revision w) start;
 }
 
-abbrev pub watch_in : World → Watched → ℤ → ℤ → Made
+unfoldable pub watch_in : World → Watched → ℤ → ℤ → Made
 watch_in w watched start id = refused_or (refuse_if (nat_le most_watches (length w.watches) || nat_le last_main w.made) TooManyWatches)
     (Ok (Reply.watch id (w.made + 1), record w { watches = w.watches ++ new_watch w watched start id ∷ []; made = w.made + 1 }))
 
@@ -118,7 +118,7 @@ grant_refusal w ttl id = option_or (refuse_if (nat_lt longest_ttl (ttl_asked ttl
     (option_or (refuse_if (is_granted w.leases id) LeaseExists)
     (refuse_if (nat_le most_leases (length w.leases)) TooManyLeases))
 
-abbrev pub grant_in : World → ℤ → ℤ → Made
+unfoldable pub grant_in : World → ℤ → ℤ → Made
 grant_in w ttl id =
     let l : Lease = record { id = id_asked w.leases id; ttl = ttl_asked ttl; deadline = deadline_of w.clock (ttl_asked ttl) } in
     refused_or (grant_refusal w ttl id) (Ok (Reply.grant l.id l.ttl, record w { leases = insert_lease l w.leases }))
@@ -126,15 +126,15 @@ grant_in w ttl id =
 abbrev pub lease_changes : World → ℤ → List Mutation
 lease_changes w id = deletes_of (revision w + 1) 0 (keys_of_lease (versions w) (revision w) id)
 
-abbrev pub revoke_in : World → ℤ → Made
+unfoldable pub revoke_in : World → ℤ → Made
 revoke_in w id = refused_or (refuse_if (not (is_granted w.leases id)) LeaseMissing)
     (commit Reply.revoke (record w { leases = without_lease id w.leases }) (lease_changes w id))
 
-abbrev pub keep_alive_in : World → ℤ → Option Lease → Made
+unfoldable pub keep_alive_in : World → ℤ → Option Lease → Made
 keep_alive_in w id None = Ok (Reply.keep_alive id 0, w)
 keep_alive_in w id (Some l) = Ok (Reply.keep_alive id l.ttl, record w { leases = map (renewed w.clock id) w.leases })
 
-abbrev pub time_to_live_in : World → ℤ → Bool → Option Lease → Made
+unfoldable pub time_to_live_in : World → ℤ → Bool → Option Lease → Made
 time_to_live_in w id asked None = Ok (Reply.time_to_live id (negsuc 0) 0 [], w)
 time_to_live_in w id asked (Some l) = Ok (Reply.time_to_live id (pos (seconds_left w.clock l)) l.ttl (if_asked asked (keys_of_lease (versions w) (revision w) id)), w)
 

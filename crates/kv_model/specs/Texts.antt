@@ -10,6 +10,7 @@ use Rattle.kv_model.specs.Requests.{request_of, range_query, put_request, decode
 use Rattle.kv_model.specs.declared.ids.Ids.{Ids}
 use Rattle.kv_model.specs.Answers.{Response, bytes_text, header, key_value_text, range_text, put_text, reply_text, fault_text}
 use Rattle.kv_model.specs.Wire.{reply_to}
+use Rattle.kv_model.specs.OnLiterals.{model_on_literals}
 
 abbrev pub ones : Ids
 ones = record { cluster = 1; member = 1 }
@@ -29,35 +30,35 @@ ok body = record { status = 200; body = body }
 
 pub put_and_range : posts opening ((codes "/v3/kv/put", codes "{\"key\":\"Zm9v\",\"value\":\"YmFy\"}") ∷ (codes "/v3/kv/range", codes "{\"key\":\"Zm9v\"}") ∷ [])
     ≡ ok (codes "{\"header\":{\"cluster_id\":\"1\",\"member_id\":\"1\",\"raft_term\":\"1\",\"revision\":\"2\"}}") ∷ ok (codes "{\"count\":\"1\",\"header\":{\"cluster_id\":\"1\",\"member_id\":\"1\",\"raft_term\":\"1\",\"revision\":\"2\"},\"kvs\":[{\"create_revision\":\"2\",\"key\":\"Zm9v\",\"mod_revision\":\"2\",\"value\":\"YmFy\",\"version\":\"1\"}]}") ∷ []
-unfolding wire_on_literals serde_json_on_literals is_utf8 chars digits encode_symbols groups_error groups_bytes scan_steps
+unfolding model_on_literals wire_on_literals serde_json_on_literals is_utf8 chars digits encode_symbols groups_error groups_bytes scan_steps
 put_and_range = refl
 
 pub range_of_nothing : posts opening ((codes "/v3/kv/range", codes "{\"key\":\"Zm9v\"}") ∷ [])
     ≡ ok (codes "{\"header\":{\"cluster_id\":\"1\",\"member_id\":\"1\",\"raft_term\":\"1\",\"revision\":\"1\"}}") ∷ []
-unfolding wire_on_literals serde_json_on_literals is_utf8 chars digits encode_symbols groups_error groups_bytes scan_steps
+unfolding model_on_literals wire_on_literals serde_json_on_literals is_utf8 chars digits encode_symbols groups_error groups_bytes scan_steps
 range_of_nothing = refl
 
 pub no_key : posts opening ((codes "/v3/kv/put", codes "{\"value\":\"YmFy\"}") ∷ (codes "/v3/kv/put", codes "{\"key\":\"Zm9v\",\"value\":\"YmFy\"}") ∷ [])
     ≡ record { status = 400; body = codes "{\"code\":3,\"error\":\"etcdserver: key is not provided\",\"message\":\"etcdserver: key is not provided\"}" } ∷ ok (codes "{\"header\":{\"cluster_id\":\"1\",\"member_id\":\"1\",\"raft_term\":\"1\",\"revision\":\"2\"}}") ∷ []
-unfolding wire_on_literals serde_json_on_literals is_utf8 chars digits encode_symbols groups_error groups_bytes scan_steps
+unfolding model_on_literals wire_on_literals serde_json_on_literals is_utf8 chars digits encode_symbols groups_error groups_bytes scan_steps
 no_key = refl
 
 pub camel_case : posts opening ((codes "/v3/kv/put", codes "{\"key\":\"Zm9v\",\"value\":\"YmFy\"}") ∷ (codes "/v3/kv/range", codes "{\"key\":\"Zm9v\",\"rangeEnd\":null,\"other\":[1]}") ∷ [])
     ≡ ok (codes "{\"header\":{\"cluster_id\":\"1\",\"member_id\":\"1\",\"raft_term\":\"1\",\"revision\":\"2\"}}") ∷ ok (codes "{\"count\":\"1\",\"header\":{\"cluster_id\":\"1\",\"member_id\":\"1\",\"raft_term\":\"1\",\"revision\":\"2\"},\"kvs\":[{\"create_revision\":\"2\",\"key\":\"Zm9v\",\"mod_revision\":\"2\",\"value\":\"YmFy\",\"version\":\"1\"}]}") ∷ []
-unfolding wire_on_literals serde_json_on_literals is_utf8 chars digits encode_symbols groups_error groups_bytes scan_steps
+unfolding model_on_literals wire_on_literals serde_json_on_literals is_utf8 chars digits encode_symbols groups_error groups_bytes scan_steps
 camel_case = refl
 
 pub alphabets : posts opening ((codes "/v3/kv/put", codes "{\"key\":\"/+8=\"}") ∷ (codes "/v3/kv/range", codes "{\"key\":\"_-8\"}") ∷ (codes "/v3/kv/range", codes "{\"key\":\"Zm9\"}") ∷ (codes "/v3/kv/range", codes "{\"key\":\"Zm9v\"") ∷ (codes "/v3/kv/range", codes "{\"key\":\"Zm9v\",\"limit\":1.5}") ∷ [])
     ≡ ok (codes "{\"header\":{\"cluster_id\":\"1\",\"member_id\":\"1\",\"raft_term\":\"1\",\"revision\":\"2\"}}") ∷ ok (codes "{\"count\":\"1\",\"header\":{\"cluster_id\":\"1\",\"member_id\":\"1\",\"raft_term\":\"1\",\"revision\":\"2\"},\"kvs\":[{\"create_revision\":\"2\",\"key\":\"/+8=\",\"mod_revision\":\"2\",\"version\":\"1\"}]}") ∷ record { status = 400; body = codes "{\"code\":3,\"error\":\"gateway: bad base64 in key\",\"message\":\"gateway: bad base64 in key\"}" } ∷ record { status = 400; body = codes "{\"code\":3,\"error\":\"gateway: body is not a JSON object\",\"message\":\"gateway: body is not a JSON object\"}" } ∷ record { status = 400; body = codes "{\"code\":3,\"error\":\"gateway: bad field limit\",\"message\":\"gateway: bad field limit\"}" } ∷ []
-unfolding wire_on_literals serde_json_on_literals is_utf8 chars digits encode_symbols groups_error groups_bytes scan_steps
+unfolding model_on_literals wire_on_literals serde_json_on_literals is_utf8 chars digits encode_symbols groups_error groups_bytes scan_steps
 alphabets = refl
 
 pub not_built_yet : posts opening ((codes "/v3/kv/range", codes "{\"key\":\"Zm9v\",\"limit\":\"1\"}") ∷ (codes "/v3/kv/range", codes "{\"key\":\"Zm9v\",\"limit\":\"0\"}") ∷ [])
     ≡ record { status = 400; body = codes "{\"code\":3,\"error\":\"gateway: bad field limit\",\"message\":\"gateway: bad field limit\"}" } ∷ ok (codes "{\"header\":{\"cluster_id\":\"1\",\"member_id\":\"1\",\"raft_term\":\"1\",\"revision\":\"1\"}}") ∷ []
-unfolding wire_on_literals serde_json_on_literals is_utf8 chars digits encode_symbols groups_error groups_bytes scan_steps
+unfolding model_on_literals wire_on_literals serde_json_on_literals is_utf8 chars digits encode_symbols groups_error groups_bytes scan_steps
 not_built_yet = refl
 
 pub no_such_path : posts opening ((codes "/v3/nothing", codes "{}") ∷ (codes "/v3/kv/put", codes "{\"key\":\"YQ==\",\"ignore_value\":true}") ∷ [])
     ≡ record { status = 404; body = codes "{\"code\":5,\"error\":\"gateway: no such path\",\"message\":\"gateway: no such path\"}" } ∷ record { status = 400; body = codes "{\"code\":3,\"error\":\"gateway: bad field ignore_value\",\"message\":\"gateway: bad field ignore_value\"}" } ∷ []
-unfolding wire_on_literals serde_json_on_literals is_utf8 chars digits encode_symbols groups_error groups_bytes scan_steps
+unfolding model_on_literals wire_on_literals serde_json_on_literals is_utf8 chars digits encode_symbols groups_error groups_bytes scan_steps
 no_such_path = refl

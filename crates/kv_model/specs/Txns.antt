@@ -85,7 +85,7 @@ abbrev pub size_fault : ℕ → ℕ → ℕ → Option Refusal
 size_fault cs s f = refuse_if (nat_lt most_ops cs || nat_lt most_ops s || nat_lt most_ops f) TooManyOps
 
 -- the first fault of a row whose transactions lie under so many others
-abbrev pub walk_fault : ℕ → Ops → Option Refusal
+unfoldable pub walk_fault : ℕ → Ops → Option Refusal
 walk_fault depth Ops.no_ops = None
 walk_fault depth (Ops.range q rest) = option_or (refuse_if (is_empty q.range.key) NoKey) (walk_fault depth rest)
 walk_fault depth (Ops.put p rest) = option_or (put_fault p) (walk_fault depth rest)
@@ -123,14 +123,14 @@ any_collide ts us = list_any (λ t. list_any (collides t) us) ts
 
 -- Two operations run together unless they lie in opposite branches of one transaction: so each is held against
 -- what follows it in its row, and a transaction's branches not against each other.
-abbrev pub clashes : Ops → Bool
+unfoldable pub clashes : Ops → Bool
 clashes Ops.no_ops = false
 clashes (Ops.range q rest) = clashes rest
 clashes (Ops.put p rest) = list_any (collides (Touch.one p.key)) (touches rest) || clashes rest
 clashes (Ops.delete d rest) = list_any (collides (Touch.each d.range)) (touches rest) || clashes rest
 clashes (Ops.txn cs s f rest) = any_collide (touches s ++ touches f) (touches rest) || clashes s || clashes f || clashes rest
 
-abbrev pub static_fault : Ops → Option Refusal
+unfoldable pub static_fault : Ops → Option Refusal
 static_fault ops = option_or (walk_fault 0 ops) (refuse_if (clashes ops) DuplicateKey)
 
 -- ---- the operations that run
@@ -143,7 +143,7 @@ pub data Path : Type 0 where
   txn : Bool → Path → Path → Path
 
 -- every compare, nested ones too, is decided on the state before
-abbrev pub path_of : List Version → ℕ → Ops → Path
+unfoldable pub path_of : List Version → ℕ → Ops → Path
 path_of vs now Ops.no_ops = Path.end
 path_of vs now (Ops.range q rest) = Path.range q (path_of vs now rest)
 path_of vs now (Ops.put p rest) = Path.put p (path_of vs now rest)
@@ -185,7 +185,7 @@ abbrev pub delete_changes : List Version → ℕ → ℕ → DeleteRequest → L
 delete_changes vs main sub d = deletes_of main sub (map (λ kv. kv.key) (live_now vs d.range))
 
 -- the changes of a path at a main revision, numbered from sub on; each operation is made on what those before it left
-abbrev pub effect : List Version → ℕ → ℕ → Path → List Mutation
+unfoldable pub effect : List Version → ℕ → ℕ → Path → List Mutation
 effect vs main sub Path.end = []
 effect vs main sub (Path.range q rest) = effect vs main sub rest
 effect vs main sub (Path.put p rest) =
@@ -205,7 +205,7 @@ put_refusal granted vs p = option_or (refuse_if ((p.ignore_value || p.ignore_lea
     (refuse_if (not (int_eq p.lease (pos 0)) && not (granted p.lease)) LeaseMissing)
 
 -- the first refusal of the operations that run, in order; a Range's own revision is held against the state before
-abbrev pub run_refusal : (ℤ → Bool) → ℕ → ℕ → List Version → ℕ → Path → Option Refusal
+unfoldable pub run_refusal : (ℤ → Bool) → ℕ → ℕ → List Version → ℕ → Path → Option Refusal
 run_refusal granted c now vs sub Path.end = None
 run_refusal granted c now vs sub (Path.range q rest) = option_or (revision_refusal c now q.revision) (run_refusal granted c now vs sub rest)
 run_refusal granted c now vs sub (Path.put p rest) = option_or (put_refusal granted vs p) (run_refusal granted c now (extend vs (put_change vs (now + 1) sub p)) (suc sub) rest)
@@ -238,7 +238,7 @@ abbrev pub previous_value : Bool → Option KeyValue → Option KeyValue
 previous_value asked held = if asked then held else None
 
 -- how many changes a path makes
-abbrev pub changes_of : List Version → ℕ → ℕ → Path → ℕ
+unfoldable pub changes_of : List Version → ℕ → ℕ → Path → ℕ
 changes_of vs main sub Path.end = 0
 changes_of vs main sub (Path.range q rest) = changes_of vs main sub rest
 changes_of vs main sub (Path.put p rest) = suc (changes_of vs main (suc sub) rest)
@@ -249,7 +249,7 @@ changes_of vs main sub (Path.txn b inner rest) =
     let n = changes_of vs main sub inner in
     n + changes_of vs main (sub + n) rest
 
-abbrev pub replies_of : List Version → ℕ → ℕ → ℕ → Path → Replies
+unfoldable pub replies_of : List Version → ℕ → ℕ → ℕ → Path → Replies
 replies_of vs c now sub Path.end = Replies.no_replies
 replies_of vs c now sub (Path.range q rest) = Replies.range (range_reply vs c now (place_before (now + 1) sub) q) (replies_of vs c now sub rest)
 replies_of vs c now sub (Path.put p rest) = Replies.put (previous_value p.prev_kv (value_at vs (place_before (now + 1) sub) p.key)) (replies_of vs c now (suc sub) rest)
