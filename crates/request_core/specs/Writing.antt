@@ -1,5 +1,5 @@
 -- What a put makes of a key.
-use Rattle.std.specs.Prelude.{◌≡◌, ℕ, ◌+◌, ◌<◌, ◌^◌, List, Option, None, Some, option_and_then, All, ⊤}
+use Rattle.std.specs.Prelude.{◌≡◌, ℕ, ◌+◌, ◌<◌, ◌^◌, List, Option, MatchOption, All, ⊤}
 use Rattle.kv_model.specs.declared.version.Rev.{Rev}
 use Rattle.kv_model.specs.declared.version.Version.{Version}
 use Rattle.kv_model.specs.declared.version.Body.{Body}
@@ -14,8 +14,7 @@ CanCountBody (Put create version lease value) = version + 1 < 2 ^ 64
 CanCountBody Gone = ⊤
 
 abbrev pub CanCountOn : Option Version → Type 0
-CanCountOn None = ⊤
-CanCountOn (Some v) = CanCountBody v.body
+CanCountOn newest = MatchOption newest (Unit {0}) (λ v. CanCountBody v.body)
 
 abbrev pub CanCount : List Version → Type 0
 CanCount vs = All (λ v. CanCountBody v.body) vs

@@ -2,6 +2,6 @@
 #![tactic(auto)]
 
 pub mod answer;
-
-pub mod reading;
-pub mod writing;
+pub mod core;
+mod reading;
+mod writing;

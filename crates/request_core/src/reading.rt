@@ -64,6 +64,7 @@ pub fn shown(version: &Version) -> Option<KvRef<'_>>
 }
 
 /// What the key holds at the place.
+#[tactic(auto, unfolding(kv_model::specs::History::value_at))]
 pub fn value_of<'a>(versions: &'a [Version], place: Rev, key: &[u8]) -> Option<KvRef<'a>>
     ensures { option_map kv_view result ≡ value_at versions.now place key.now }
 {

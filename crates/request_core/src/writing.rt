@@ -41,6 +41,7 @@ pub fn put_refusal(versions: &[Version], request: &PutRequest) -> Option<Refusal
 }
 
 /// Whether the key holds something at last.
+#[tactic(auto, unfolding(kv_model::specs::History::value_now))]
 fn is_live(versions: &[Version], key: &Bytes) -> bool
     ensures { result ≡ is_some (value_now versions.now key.now) }
 {
@@ -51,6 +52,7 @@ fn is_live(versions: &[Version], key: &Bytes) -> bool
 }
 
 /// The version that a put makes at a place.
+#[tactic(auto, unfolding(kv_model::specs::History::value_now))]
 pub fn put_version(
     versions: &[Version],
     rev: Rev,
