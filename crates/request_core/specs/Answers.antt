@@ -1,9 +1,9 @@
 -- What receipts and answers say, in the definitions' terms.
-use Rattle.std.specs.Prelude.{◌≡◌, ℕ, ◌-◌, ◌×◌, Bool, Option, None, Some, option_map, Result, Ok, Err, ⊤}
+use Rattle.std.specs.Prelude.{◌≡◌, ℕ, ◌-◌, Bool, true, false, MatchBool, Option, None, Some, option_map, Result, Ok, Err, ⊤}
 use Rattle.kv_model.specs.declared.refusal.Refusal.{Refusal}
-use Rattle.kv_model.specs.declared.refusal.Refusal.TheVariants.{Memory, Compacted, Future, NoKey, TooManyOps, DuplicateKey, ValueGiven, LeaseGiven, TooDeep, KeyMissing, LeaseMissing, LeaseExists, TtlTooLarge, TooManyLeases, TooManyWatches, NoWatch, RevisionsSpent}
+use Rattle.kv_model.specs.declared.refusal.Refusal.TheVariants.{Memory}
 use Rattle.kv_model.specs.History.{value_at, end_of}
-use Rattle.kv_model.specs.Ranges.{range_reply}
+use Rattle.kv_model.specs.Ranges.{range_reply, plain_range}
 use Rattle.kv_model.specs.Txns.{previous_value}
 use Rattle.kv_model.specs.Told.{Reply, Answer as ModelAnswer}
 use Rattle.kv_model.specs.World.{World}
@@ -37,22 +37,30 @@ pub record Accepts (new : CoreState) (r : Receipt) (w : World) (told : Result Mo
   pub stands : StandsFor new.store after
   pub raised : r.raised ≡ raised w after
 
--- a refusal is the model's, but for want of memory, which any refusal after it may be
+-- the receipt of a command that leaves this to be read
+abbrev pub receipt_of : CoreState → Option ℕ → Todo → Receipt
+receipt_of s raised left = record { stamp = s.stamp; revision = s.store.revision; raised = raised; todo = left }
+
+-- a Range asks for nothing but its key
+abbrev pub IsPlain : Todo → Type 0
+IsPlain (todo.Range q) = q.now ≡ plain_range q.now.range.key 0
+IsPlain (todo.Put key asked) = ⊤
+
+-- the state is the one that the receipt's command left
+pub record IsReadable (r : Receipt) (s : CoreState) : Type 0 where
+  pub stamp : r.stamp ≡ s.stamp
+  pub revision : r.revision ≡ s.store.revision
+  pub plain : IsPlain r.todo
+
+abbrev pub is_memory : Refusal → Bool
+is_memory Memory = true
+is_memory _ = false
+
+-- a refusal is the model's, but for want of memory, which may come in its place
 abbrev pub IsRefusal : Refusal → Option Refusal → Type 0
-IsRefusal Memory first = ⊤
-IsRefusal (Compacted c) first = first ≡ Some (Compacted c)
-IsRefusal (Future r) first = first ≡ Some (Future r)
-IsRefusal NoKey first = first ≡ Some NoKey
-IsRefusal TooManyOps first = first ≡ Some TooManyOps
-IsRefusal DuplicateKey first = first ≡ Some DuplicateKey
-IsRefusal ValueGiven first = first ≡ Some ValueGiven
-IsRefusal LeaseGiven first = first ≡ Some LeaseGiven
-IsRefusal TooDeep first = first ≡ Some TooDeep
-IsRefusal KeyMissing first = first ≡ Some KeyMissing
-IsRefusal LeaseMissing first = first ≡ Some LeaseMissing
-IsRefusal LeaseExists first = first ≡ Some LeaseExists
-IsRefusal TtlTooLarge first = first ≡ Some TtlTooLarge
-IsRefusal TooManyLeases first = first ≡ Some TooManyLeases
-IsRefusal TooManyWatches first = first ≡ Some TooManyWatches
-IsRefusal NoWatch first = first ≡ Some NoWatch
-IsRefusal RevisionsSpent first = first ≡ Some RevisionsSpent
+IsRefusal e first = MatchBool (is_memory e) ⊤ (first ≡ Some e)
+
+-- the refusal that an answer is, if it is one
+abbrev pub first_refusal : Result ModelAnswer Refusal → Option Refusal
+first_refusal (Ok a) = None
+first_refusal (Err e) = Some e

@@ -1,20 +1,19 @@
 -- What a core holds, and how a command changes it.
-use Rattle.std.specs.Prelude.{◌≡◌, ℕ, ◌+◌, ◌≤◌, ◌×◌, ◌%◌, ◌^◌, List, [], ◌∷◌, ◌++◌, not, nat_lt, Option, ⊤}
+use Rattle.std.specs.Prelude.{◌≡◌, ℕ, ◌+◌, ◌≤◌, ◌%◌, ◌^◌, List, [], ◌∷◌, ◌++◌, not, nat_lt, Option}
 use Rattle.std.specs.Option.{option_or}
 use Rattle.std.specs.List.{AllByRecursion}
-use Rattle.kv_model.specs.declared.version.Rev.{Rev}
 use Rattle.kv_model.specs.declared.version.Version.{Version}
-use Rattle.kv_model.specs.declared.version.Body.{Body}
-use Rattle.kv_model.specs.declared.version.Body.TheVariants.{Put, Gone}
 use Rattle.kv_model.specs.declared.call.PutRequest.{PutRequest}
+use Rattle.kv_model.specs.declared.call.RangeQuery.{RangeQuery}
 use Rattle.kv_model.specs.declared.refusal.Refusal.{Refusal}
-use Rattle.kv_model.specs.declared.refusal.Refusal.TheVariants.{RevisionsSpent}
+use Rattle.kv_model.specs.declared.refusal.Refusal.TheVariants.{NoKey, RevisionsSpent}
+use Rattle.kv_model.specs.Lists.{is_empty}
 use Rattle.kv_model.specs.Leases.{is_granted}
 use Rattle.kv_model.specs.Ranges.{refuse_if}
 use Rattle.kv_model.specs.Txns.{put_fault, put_refusal}
 use Rattle.kv_model.specs.Step.{last_main}
 use Rattle.kv_model.specs.Stands.{Store}
-use Rattle.request_core.specs.Writing.{next_version}
+use Rattle.request_core.specs.Writing.{next_rev, IsCountedTo, next_version}
 
 -- what clauses see of a core: what is kept, and how many changing calls came, wrapping
 pub record CoreState : Type 0 where
@@ -24,11 +23,6 @@ pub record CoreState : Type 0 where
 -- a store without leases, watches and compactions
 abbrev pub store_of : List Version → ℕ → Store
 store_of vs revision = record { versions = vs; revision = revision; compacted = 0; leases = []; clock = 0; watches = []; made = 0 }
-
--- a key was put no more often than there are revisions
-abbrev pub IsCountedTo : ℕ → Body → Type 0
-IsCountedTo revision (Put create version lease value) = version ≤ revision
-IsCountedTo revision Gone = ⊤
 
 pub record IsUpTo (revision : ℕ) (v : Version) : Type 0 where
   pub main : v.rev.main ≤ revision
@@ -40,10 +34,6 @@ pub record IsSound (vs : List Version) (revision : ℕ) : Type 0 where
   pub fits : revision ≤ last_main
   pub kept : AllByRecursion (IsUpTo revision) vs
 
--- the place of the first change of the next revision
-abbrev pub next_rev : ℕ → Rev
-next_rev revision = record { main = revision + 1; sub = 0 }
-
 -- the first refusal of a put, if there is one
 abbrev pub refusal_of_put : Store → PutRequest → Option Refusal
 refusal_of_put s p = option_or (option_or (put_fault p) (put_refusal (is_granted s.leases) s.versions p))
@@ -53,9 +43,17 @@ refusal_of_put s p = option_or (option_or (put_fault p) (put_refusal (is_granted
 abbrev pub added_by_put : Store → PutRequest → Version
 added_by_put s p = next_version s.versions (next_rev s.revision) p
 
--- what an accepted put leaves
-abbrev pub after_put : CoreState → PutRequest → CoreState
-after_put s p = record {
-  store = record s.store { versions = s.store.versions ++ added_by_put s.store p ∷ []; revision = s.store.revision + 1 };
+-- one version more, at its revision
+abbrev pub with_version : CoreState → Version → CoreState
+with_version s v = record {
+  store = record s.store { versions = s.store.versions ++ v ∷ []; revision = v.rev.main };
   stamp = (s.stamp + 1) % 2 ^ 64;
 }
+
+-- what an accepted put leaves
+abbrev pub after_put : CoreState → PutRequest → CoreState
+after_put s p = with_version s (added_by_put s.store p)
+
+-- the first refusal of a Range of one key at the present revision
+abbrev pub first_fault_of_range : RangeQuery → Option Refusal
+first_fault_of_range q = refuse_if (is_empty q.range.key) NoKey

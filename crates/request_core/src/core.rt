@@ -1,17 +1,24 @@
 //! The core: one step of the store.
 use crate::answer::{Answer, Receipt, Status, Todo};
-use crate::reading::{end_of, value_of};
-use crate::writing::{put_refusal, put_version};
+use crate::reading::{place_behind, value_of};
+use crate::writing::{put_fault, put_refusal, put_version};
+use bytes::Bytes;
 use kv_model::call::{Command, PutRequest, RangeQuery};
 use kv_model::feed::{NoSink, Op, Sink};
 use kv_model::refusal::Refusal;
-use kv_model::version::Rev;
-use range_view::reply::RangeReply;
+use kv_model::version::{Rev, Version};
+use range_view::reply::{KvRef, RangeReply};
 use std::alloc::{AllocError, Global};
 use std::marker::Model;
 use version_table::VersionTable;
 
-ghost use Rattle.std.specs.Prelude.{◌≡◌, ◌→◌, ◌<◌, ◌^◌, length, IfOk, IfErr, OnOk, OnErr, Some, None};
+ghost use Rattle.kv_model.specs.Feed.{Published, published};
+ghost use Rattle.kv_model.specs.History.{end_of, value_at};
+ghost use Rattle.kv_model.specs.Ranges.{range_reply, plain_range};
+ghost use Rattle.kv_model.specs.Step.{last_main};
+ghost use Rattle.range_view.specs.Replies.{kv_view, reply_view};
+ghost use Rattle.request_core.specs.Writing.{next_rev, IsCountedTo, reply_to_one};
+ghost use Rattle.std.specs.Prelude.{◌≡◌, option_map, ◌+◌, ◌-◌, ◌×◌, ◌<◌, ◌≤◌, [], ◌∷◌, ◌++◌, length, IfOk, IfErr, OnOk, OnErr, Ok, Err, Some, None};
 
 /// The greatest revision.
 pub const LAST_MAIN: u64 = 9_223_372_036_854_775_807;
@@ -36,11 +43,14 @@ impl Model for Core {
 }
 
 impl Core {
-    ghost use Rattle.kv_model.specs.Calls.{call_of};
+    ghost use Rattle.kv_model.specs.Calls.{Call, call_of};
     ghost use Rattle.kv_model.specs.World.{World, opening};
     ghost use Rattle.kv_model.specs.Stands.{StandsFor};
     ghost use Rattle.kv_model.specs.Step.{perform};
-    ghost use Rattle.request_core.specs.Answers.{Accepts, Refuses, answer_view, reply_of};
+    ghost use Rattle.kv_model.specs.Built.{IsBuilt};
+    ghost use Rattle.request_core.specs.State.{CoreState, refusal_of_put, added_by_put, after_put, with_version, first_fault_of_range};
+    ghost use Rattle.request_core.specs.declared.answer.Todo.TheVariants as todo;
+    ghost use Rattle.request_core.specs.Answers.{Accepts, IsRefusal, receipt_of, IsReadable, answer_view, answer_of, first_refusal};
 
     /// The store before the first event. Takes no memory.
     pub fn new(alloc: Global) -> Self
@@ -76,8 +86,20 @@ impl Core {
         }
     }
 
-    /// Does one command. A refused one changes nothing.
-    pub fn apply<'c>(&mut self, command: &'c Command) -> Result<Receipt<'c>, Refusal> {
+    /// Does one command, on what the core stands for.
+    ///
+    /// The refusals come in the order of the etcd documentation's checks of a request; want of memory may come in
+    /// place of any later one. A refused command leaves the core as it was. A Put is linear in the versions.
+    pub fn apply<'c>(&mut self, command: &'c Command) -> Result<Receipt<'c>, Refusal>
+        requires built { IsBuilt (call_of command.now) }
+        ensures accepted { IfOk result (λ r. (w : World) → StandsFor self.old.store w
+            → Accepts self.new r w (perform w (call_of command.now)).0 (perform w (call_of command.now)).1) }
+        ensures readable { IfOk result (λ r. IsReadable r self.new) }
+        ensures unraised { IfOk result (λ r. r.raised ≡ None → self.new ≡ self.old) }
+        ensures refused { IfErr result (λ e. (w : World) → StandsFor self.old.store w
+            → IsRefusal e (first_refusal (perform w (call_of command.now)).0)) }
+        ensures err { OnErr result (self.new ≡ self.old) }
+    {
         self.apply_over(command, &mut NoSink)
     }
 
@@ -85,14 +107,28 @@ impl Core {
         &mut self,
         command: &'c Command,
         sink: &mut S,
-    ) -> Result<Receipt<'c>, Refusal> {
+    ) -> Result<Receipt<'c>, Refusal>
+        requires built { IsBuilt (call_of command.now) }
+        ensures accepted { IfOk result (λ r. (w : World) → StandsFor self.old.store w
+            → Accepts self.new r w (perform w (call_of command.now)).0 (perform w (call_of command.now)).1) }
+        ensures readable { IfOk result (λ r. IsReadable r self.new) }
+        ensures unraised { IfOk result (λ r. r.raised ≡ None → self.new ≡ self.old) }
+        ensures refused { IfErr result (λ e. (w : World) → StandsFor self.old.store w
+            → IsRefusal e (first_refusal (perform w (call_of command.now)).0)) }
+        ensures err { OnErr result ((self.new ≡ self.old) × (sink.new ≡ sink.old)) }
+    {
         match command {
             Command::Range(query) => self.apply_range(query),
             Command::Put(request) => self.apply_put(request, sink),
         }
     }
 
-    fn apply_range<'c>(&self, query: &'c RangeQuery) -> Result<Receipt<'c>, Refusal> {
+    /// A Range changes nothing, and takes no memory before its answer.
+    fn apply_range<'c>(&self, query: &'c RangeQuery) -> Result<Receipt<'c>, Refusal>
+        requires built { IsBuilt (Call.range query.now) }
+        ensures receipt { IfOk result (λ r. (first_fault_of_range query.now ≡ None) × (r ≡ receipt_of self.now None (todo.Range query.entry))) }
+        ensures refused { IfErr result (λ e. first_fault_of_range query.now ≡ Some e) }
+    {
         if query.range.key.is_empty() {
             return Err(Refusal::NoKey);
         }
@@ -121,65 +157,141 @@ impl Core {
         })
     }
 
-    /// Appends the version that a put makes.
-    fn put<S: Sink>(&mut self, request: &PutRequest, sink: &mut S) -> Result<(), Refusal> {
+    /// Appends the version that a put makes. What can fail comes first, and the sink's taking last.
+    fn put<S: Sink>(&mut self, request: &PutRequest, sink: &mut S) -> Result<(), Refusal>
+        ensures made { OnOk result ((refusal_of_put self.old.store request.now ≡ None) × (self.new ≡ after_put self.old request.now)) }
+        ensures told { OnOk result (S.takes sink.old (Published.batch (added_by_put self.old.store request.now ∷ [])) sink.new) }
+        ensures refused { IfErr result (λ e. IsRefusal e (refusal_of_put self.old.store request.now)) }
+        ensures err { OnErr result ((self.new ≡ self.old) × (sink.new ≡ sink.old)) }
+    {
         if let Some(refusal) = self.refusal_of_put(request) {
             return Err(refusal);
         }
+        let Ok(version) = self.version_of_put(request) else {
+            return Err(Refusal::Memory);
+        };
+        if self.append(version, sink).is_err() {
+            return Err(Refusal::Memory);
+        }
+        Ok(())
+    }
+
+    /// The first refusal of a put, if there is one.
+    fn refusal_of_put(&self, request: &PutRequest) -> Option<Refusal>
+        ensures { result ≡ refusal_of_put self.now.store request.now }
+    {
+        if let Some(refusal) = put_fault(request) {
+            return Some(refusal);
+        }
+        if let Some(refusal) = put_refusal(self.table.as_slice(), request) {
+            return Some(refusal);
+        }
+        if self.revision < LAST_MAIN {
+            None
+        } else {
+            Some(Refusal::RevisionsSpent)
+        }
+    }
+
+    /// The version that a put adds.
+    fn version_of_put(&self, request: &PutRequest) -> Result<Version, AllocError>
+        requires { self.now.store.revision < last_main }
+        ensures { IfOk result (λ v. v ≡ added_by_put self.now.store request.now) }
+    {
         let rev = Rev {
             main: self.revision + 1,
             sub: 0,
         };
-        let Ok(version) = put_version(self.table.as_slice(), rev, request) else {
-            return Err(Refusal::Memory);
-        };
-        let Ok(batch) = batch_of(self.alloc, &version) else {
-            return Err(Refusal::Memory);
-        };
-        if self.table.push(version).is_err() {
-            return Err(Refusal::Memory);
+        put_version(self.table.as_slice(), rev, request)
+    }
+
+    /// Appends a version at the next revision, once the sink has taken it.
+    fn append<S: Sink>(&mut self, version: Version, sink: &mut S) -> Result<(), AllocError>
+        requires room { self.old.store.revision < last_main }
+        requires next { version.rev ≡ next_rev self.old.store.revision }
+        requires counted { IsCountedTo (self.old.store.revision + 1) version.body }
+        ensures ok { OnOk result (self.new ≡ with_version self.old version) }
+        ensures told { OnOk result (S.takes sink.old (Published.batch (version ∷ [])) sink.new) }
+        ensures err { OnErr result ((self.new ≡ self.old) × (sink.new ≡ sink.old)) }
+    {
+        let main = version.rev.main;
+        let batch = batch_of(self.alloc, &version)?;
+        self.table.push(version)?;
+        if let Err(full) = sink.take(batch) {
+            self.table.retract(main);
+            return Err(full);
         }
-        if sink.take(batch).is_err() {
-            self.table.retract(rev.main);
-            return Err(Refusal::Memory);
-        }
-        self.revision = rev.main;
+        self.revision = main;
         self.stamp = self.stamp.wrapping_add(1);
         Ok(())
     }
 
     /// The answer of a receipt, on the state that it left. `AllocError` comes where the list of an answer finds no
     /// memory.
-    pub fn answer<'a>(&'a self, receipt: &Receipt<'_>) -> Result<Answer<'a>, AllocError> {
+    pub fn answer<'a>(&'a self, receipt: &Receipt<'_>) -> Result<Answer<'a>, AllocError>
+        requires { IsReadable receipt.now self.now }
+        ensures { IfOk result (λ a. answer_view a ≡ answer_of receipt.now self.now) }
+    {
         match &receipt.todo {
             Todo::Range(query) => Ok(Answer::Range(self.range(query)?)),
-            Todo::Put { key, previous } => {
-                let place = end_of(receipt.revision.saturating_sub(1));
-                Ok(Answer::Put {
-                    revision: receipt.revision,
-                    previous: if *previous {
-                        value_of(self.table.as_slice(), place, key.as_slice())
-                    } else {
-                        None
-                    },
-                })
-            }
+            Todo::Put { key, previous } => Ok(Answer::Put {
+                revision: receipt.revision,
+                previous: if *previous {
+                    self.value_before(receipt.revision, key)
+                } else {
+                    None
+                },
+            }),
         }
     }
 
-    /// The reply to a Range of one key at the present revision.
-    fn range(&self, query: &RangeQuery) -> Result<RangeReply<'_>, AllocError> {
-        let mut kvs = Vec::new(self.alloc);
-        let place = end_of(self.revision);
-        if let Some(kv) = value_of(self.table.as_slice(), place, query.range.key.as_slice()) {
-            kvs.push(kv)?;
-        }
-        let count = kvs.len() as u64;
-        Ok(RangeReply {
-            kvs,
-            count,
-            more: false,
-            revision: self.revision,
-        })
+    /// What a key held before a revision.
+    fn value_before<'a>(&'a self, revision: u64, key: &Bytes) -> Option<KvRef<'a>>
+        ensures { option_map kv_view result ≡ value_at self.now.store.versions (end_of (revision - 1)) key.now }
+    {
+        let place = place_behind(revision.saturating_sub(1));
+        value_of(self.table.as_slice(), place, key.as_slice())
     }
+
+    /// The reply to a Range of one key at the present revision.
+    fn range(&self, query: &RangeQuery) -> Result<RangeReply<'_>, AllocError>
+        requires { query.now ≡ plain_range query.now.range.key 0 }
+        ensures { IfOk result (λ r. reply_view r ≡ range_reply self.now.store.versions self.now.store.compacted self.now.store.revision
+            (end_of self.now.store.revision) query.now) }
+    {
+        let place = place_behind(self.revision);
+        let found = value_of(self.table.as_slice(), place, query.range.key.as_slice());
+        one_found(self.alloc, found, self.revision)
+    }
+}
+
+/// The batch of one version.
+fn batch_of(alloc: Global, version: &Version) -> Result<Op, AllocError>
+    ensures { IfOk result (λ op. published op ≡ Published.batch (version.now ∷ [])) }
+{
+    let mut versions = Vec::with_capacity(alloc, 1)?;
+    versions.push(version.clone()?)?;
+    Ok(Op::Batch(versions))
+}
+
+/// The reply to a Range that finds what one key holds.
+fn one_found(
+    alloc: Global,
+    found: Option<KvRef<'_>>,
+    revision: u64,
+) -> Result<RangeReply<'_>, AllocError>
+    ensures { IfOk result (λ r. reply_view r ≡ reply_to_one (option_map kv_view found) revision) }
+{
+    let mut kvs = Vec::new(alloc);
+    let mut count = 0;
+    if let Some(kv) = found {
+        kvs.push(kv)?;
+        count = 1;
+    }
+    Ok(RangeReply {
+        kvs,
+        count,
+        more: false,
+        revision,
+    })
 }
