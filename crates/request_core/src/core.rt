@@ -18,7 +18,7 @@ ghost use Rattle.kv_model.specs.Ranges.{range_reply, plain_range};
 ghost use Rattle.kv_model.specs.Step.{last_main};
 ghost use Rattle.range_view.specs.Replies.{kv_view, reply_view};
 ghost use Rattle.request_core.specs.Writing.{next_rev, IsCountedTo, reply_to_one};
-ghost use Rattle.std.specs.Prelude.{◌≡◌, option_map, ◌+◌, ◌-◌, ◌×◌, ◌<◌, ◌≤◌, [], ◌∷◌, ◌++◌, length, IfOk, IfErr, OnOk, OnErr, Ok, Err, Some, None};
+ghost use Rattle.std.specs.Prelude.{◌≡◌, option_map, ◌+◌, ◌-◌, ◌<◌, ◌≤◌, [], ◌∷◌, ◌++◌, length, IfOk, IfErr, OnOk, OnErr, Ok, Err, Some, None};
 
 /// The greatest revision.
 pub const LAST_MAIN: u64 = 9_223_372_036_854_775_807;
@@ -280,7 +280,7 @@ fn one_found(
     found: Option<KvRef<'_>>,
     revision: u64,
 ) -> Result<RangeReply<'_>, AllocError>
-    ensures { IfOk result (λ r. reply_view r ≡ reply_to_one (option_map kv_view found) revision) }
+    ensures { IfOk result (λ r. reply_view r ≡ reply_to_one (option_map kv_view found.entry) revision) }
 {
     let mut kvs = Vec::new(alloc);
     let mut count = 0;

@@ -1,7 +1,8 @@
 -- Rising lists of versions: what is behind the last, what stands at a place, and how the list changes.
-use Rattle.std.proofs.Common.{◌≡◌, ◌≢◌, ℕ, zero, suc, ◌<◌, ◌≤◌, ◌-◌, ◌⊎◌, inl, inr, List, [], ◌∷◌, ◌++◌, length, take, drop, Bool, true, false, not, ◌==◌, cond, Option, None, Some, filter, refl, sym, ◌∙◌, ap, subst, arith}
+use Rattle.std.proofs.Common.{◌≡◌, ◌≢◌, ℕ, zero, suc, ◌<◌, ◌≤◌, ◌-◌, ◌⊎◌, inl, inr, List, [], ◌∷◌, ◌++◌, length, take, drop, get_or, Bool, true, false, not, ◌==◌, cond, Option, None, Some, filter, refl, sym, ◌∙◌, ap, subst, arith}
 use Rattle.std.proofs.lemmas.Bool.Decides.{nat_tests}
 use Rattle.std.specs.Prelude.{⊤}
+use Rattle.std.specs.List.Sorted.{IsPartitionedBy, IsPartitionPoint}
 use Rattle.std.specs.Option.{option_or}
 use Rattle.std.specs.List.{AllByRecursion, find, slice_get, remove}
 use Rattle.kv_model.specs.declared.version.Rev.{Rev}
@@ -53,6 +54,14 @@ pub last-behind : (p : Rev) (vs : List Version) (l : Version) → last vs ≡ So
 last-behind p [] l e b = cc
 last-behind p (v ∷ []) l e b = let same : v ≡ l = cc in subst (λ u. rev_lt u.rev p ≡ true) same b.0
 last-behind p (v ∷ w ∷ ws) l e b = last-behind p (w ∷ ws) l (last-cons v w ws ∙ e) b.1
+
+pub behind-none : (p : Rev) (vs : List Version) → last vs ≡ None → IsBehind p vs
+behind-none p [] e = tt
+behind-none p (v ∷ vs) e = by (last vs) e
+  where
+    by : (o : Option Version) → option_or o (Some v) ≡ None → IsBehind p (v ∷ vs)
+    by None e = cc
+    by (Some w) e = cc
 
 -- ---- what stands at a place
 
@@ -122,10 +131,30 @@ without-place p (v ∷ vs) r = by (rev_lt v.rev p) refl (without-place p vs r.1)
     by true e rest = ap (λ b. cond (not b) (v ∷ rest_of) rest_of) (is_at-before p v e) ∙ ap (λ ws. v ∷ ws) rest ∙ left-cons p v vs (place p vs) (slice_get vs (place p vs))
     by false e rest = ap (λ ws. cond (not (is_at p v)) (v ∷ ws) ws) (all-above p vs (above-not p v vs e r.0)) ∙ first (is_at p v)
 
-pub slice_get-some : (vs : List Version) (n : ℕ) (v : Version) → slice_get vs n ≡ Some v → n < length vs
-slice_get-some [] n v e = cc
-slice_get-some (w ∷ ws) zero v e = omega arith
-slice_get-some (w ∷ ws) (suc n) v e = omega (arith, slice_get-some ws n v e)
+module _ (p : Rev) (vs : List Version) (n : ℕ) (r : IsRising vs) (at : n ≡ place p vs) where
+  abbrev without : List Version
+  without = filter (λ v. not (is_at p v)) vs
+
+  held_is : (o : Option Version) → slice_get vs n ≡ o → (find (is_at p) vs ≡ held p o) × (without ≡ left p vs n o)
+  held_is o e =
+      (find-place p vs r ∙ ap (λ k. held p (slice_get vs k)) (sym at) ∙ ap (held p) e,
+      without-place p vs r ∙ ap (λ k. left p vs k (slice_get vs k)) (sym at) ∙ ap (left p vs n) e)
+
+  -- the version before which no other stands is at the place
+  pub found : (v : Version) → slice_get vs n ≡ Some v → is_at p v ≡ true → (find (is_at p) vs ≡ slice_get vs n) × (without ≡ remove vs n)
+  found v e h =
+      let k = held_is (Some v) e in
+      (k.0 ∙ ap (λ b. cond b (Some v) None) h ∙ sym e, k.1 ∙ ap (λ b. cond b (remove vs n) vs) h)
+
+  -- it is not
+  pub missed : (v : Version) → slice_get vs n ≡ Some v → is_at p v ≡ false → (find (is_at p) vs ≡ None) × (without ≡ vs)
+  missed v e h =
+      let k = held_is (Some v) e in
+      (k.0 ∙ ap (λ b. cond b (Some v) None) h, k.1 ∙ ap (λ b. cond b (remove vs n) vs) h)
+
+  -- all are before the place
+  pub past : slice_get vs n ≡ None → (find (is_at p) vs ≡ None) × (without ≡ vs)
+  past e = held_is None e
 
 -- ---- a main revision is taken back
 
@@ -192,11 +221,13 @@ take-first main (v ∷ vs) r u = by (rev_lt v.rev (record { main = main; sub = 0
         let most : v.rev.main ≤ main = u.0 in
         sym (ap (λ b. cond (not b) (v ∷ kept) kept) (same_main v.rev.main main (omega arith) (omega arith)) ∙ gone-above main v vs least r.0 u.1)
 
-pub retracted-newest : (main : ℕ) (vs : List Version) (l : Version) → IsRising vs → last vs ≡ Some l → (l.rev.main == main) ≡ true
-    → take (place (record { main = main; sub = 0 }) vs) vs ≡ retracted main vs
-retracted-newest main vs l r e h =
-    take-first main vs r (up_to-last main vs l r e (grind (arith, nat_tests)))
-    ∙ sym (ap (λ b. cond b (filter (λ v. not (v.rev.main == main)) vs) vs) (ap (is_of main) e ∙ h))
+retracted-last : (main : ℕ) (vs : List Version) (o : Option Version) → IsRising vs → last vs ≡ o → is_of main o ≡ true
+    → take (place (record { main = main; sub = 0 }) vs) vs ≡ filter (λ v. not (v.rev.main == main)) vs
+retracted-last main vs None r e h = cc
+retracted-last main vs (Some l) r e h = take-first main vs r (up_to-last main vs l r e (grind (arith, nat_tests)))
+
+pub retracted-newest : (main : ℕ) (vs : List Version) → IsRising vs → is_newest main vs ≡ true → take (place (record { main = main; sub = 0 }) vs) vs ≡ retracted main vs
+retracted-newest main vs r h = retracted-last main vs (last vs) r refl h ∙ sym (ap (λ b. cond b (filter (λ v. not (v.rev.main == main)) vs) vs) h)
 
 pub retracted-other : (main : ℕ) (vs : List Version) → is_newest main vs ≡ false → vs ≡ retracted main vs
 retracted-other main vs h = sym (ap (λ b. cond b (filter (λ v. not (v.rev.main == main)) vs) vs) h)
@@ -207,3 +238,25 @@ rising-retracted main vs r = by (is_newest main vs)
     by : (b : Bool) → IsRising (cond b (filter (λ v. not (v.rev.main == main)) vs) vs)
     by true = rising-filter (λ v. not (v.rev.main == main)) vs r
     by false = r
+
+-- ---- halving
+
+above-at : (p : Rev) (vs : List Version) (j : ℕ) (d : Version) → IsAbove p vs → j < length vs → rev_lt p (get_or vs j d).rev ≡ true
+above-at p [] j d a h = absurd (omega arith)
+above-at p (v ∷ vs) zero d a h = a.0
+above-at p (v ∷ vs) (suc j) d a h = above-at p vs j d a.1 (omega arith)
+
+-- what is before the place comes before what is not
+pub partitioned : (p : Rev) (vs : List Version) → IsRising vs → IsPartitionedBy (λ v. rev_lt v.rev p) vs
+partitioned p [] r i j d l m h = absurd (omega arith)
+partitioned p (v ∷ vs) r zero zero d l m h = h
+partitioned p (v ∷ vs) r zero (suc j) d l m h = rev_lt-trans v.rev (get_or vs j d).rev p (above-at v.rev vs j d r.0 (omega arith)) h
+partitioned p (v ∷ vs) r (suc i) zero d l m h = absurd (omega arith)
+partitioned p (v ∷ vs) r (suc i) (suc j) d l m h = partitioned p vs r.1 i j d (omega arith) (omega arith) h
+
+pub place_point : (p : Rev) (vs : List Version) (n : ℕ) → n ≤ length vs → IsPartitionPoint (λ v. rev_lt v.rev p ≡ true) (λ v. rev_lt v.rev p ≡ false) vs n → n ≡ place p vs
+place_point p [] n h t = omega arith
+place_point p (v ∷ vs) zero h t = ap (λ b. cond b (suc (place p vs)) zero) (sym (t.1 0 v (omega arith) (omega arith)))
+place_point p (v ∷ vs) (suc n) h t =
+    ap suc (place_point p vs n (omega arith) ((λ k d l m. t.0 (suc k) d (omega arith) (omega arith)), (λ k d l m. t.1 (suc k) d (omega arith) (omega arith))))
+    ∙ ap (λ b. cond b (suc (place p vs)) zero) (sym (t.0 0 v (omega arith) (omega arith)))

@@ -3,7 +3,7 @@ ghost use Rattle.std.specs.Prelude.{◌≡◌, ◌↔◌, List, [], ◌∷◌, �
 ghost use Rattle.std.specs.List.{find, slice_get};
 ghost use Rattle.kv_model.specs.History.{rev_lt};
 ghost use Rattle.kv_model.specs.Kept.{is_at, without_rev};
-ghost use Rattle.version_table.specs.Rising.{IsBehind, IsRising, place, retracted, without_index};
+ghost use Rattle.version_table.specs.Rising.{IsBehind, IsRising, is_of, last, place, retracted, without_index};
 
 use kv_model::version::{Rev, Version};
 use std::alloc::{AllocError, Global};
@@ -59,16 +59,6 @@ impl VersionTable {
         self.versions.as_slice()
     }
 
-    /// Whether `push` takes a version at this revision: it is above each one in the table. Constant time.
-    pub fn takes(&self, rev: Rev) -> bool
-        ensures { IsTrue result ↔ IsBehind rev self.now }
-    {
-        match self.versions.last() {
-            Some(last) => is_before(last.rev, rev),
-            None => true,
-        }
-    }
-
     /// Adds a version at the end. Its revision is above each one in the table.
     ///
     /// The error is want of memory, and the table is then as it was. Constant time, but for the growth of the list.
@@ -87,11 +77,7 @@ impl VersionTable {
     pub fn retract(&mut self, main: u64)
         ensures { self.new ≡ retracted main self.old }
     {
-        let is_newest = match self.versions.last() {
-            Some(last) => last.rev.main == main,
-            None => false,
-        };
-        if is_newest {
+        if is_newest(&self.versions, main) {
             let kept = count_before(&self.versions, Rev { main, sub: 0 });
             self.versions.truncate(kept);
         }
@@ -103,9 +89,7 @@ impl VersionTable {
     pub fn remove(&mut self, rev: Rev)
         ensures { self.new ≡ without_rev (Some rev) self.old }
     {
-        if let Some(place) = place_of(&self.versions, rev) {
-            let _ = self.versions.remove(place);
-        }
+        remove_at(&mut self.versions, rev);
     }
 
     /// The version at a revision. Takes no memory, and logarithmic time.
@@ -113,8 +97,9 @@ impl VersionTable {
         ensures value { option_copied result ≡ find (is_at rev) self.now }
         ensures rising { IsRising self.now }
     {
-        match place_of(&self.versions, rev) {
-            Some(place) => self.versions.get(place),
+        let versions = self.as_slice();
+        match place_of(versions, rev) {
+            Some(place) => version_at(versions, place),
             None => None,
         }
     }
@@ -124,11 +109,8 @@ impl VersionTable {
         ensures value { result ≡ option_map (λ v. v.rev) (find (λ v. not (rev_lt v.rev rev)) self.now) }
         ensures rising { IsRising self.now }
     {
-        let place = count_before(&self.versions, rev);
-        match self.versions.get(place) {
-            Some(version) => Some(version.rev),
-            None => None,
-        }
+        let versions = self.as_slice();
+        rev_at(versions, count_before(versions, rev))
     }
 }
 
@@ -137,6 +119,37 @@ fn is_before(left: Rev, right: Rev) -> bool
     ensures { result ≡ rev_lt left right }
 {
     left.cmp(&right).is_lt()
+}
+
+/// The last version.
+fn newest(versions: &[Version]) -> Option<&Version>
+    ensures { option_copied result ≡ last versions.now }
+{
+    versions.last()
+}
+
+/// Whether the last version is of a main revision.
+fn is_newest(versions: &[Version], main: u64) -> bool
+    ensures { result ≡ is_of main (last versions.now) }
+{
+    match newest(versions) {
+        Some(newest) => newest.rev.main == main,
+        None => false,
+    }
+}
+
+/// The version at an index.
+fn version_at(versions: &[Version], place: usize) -> Option<&Version>
+    ensures { option_copied result ≡ slice_get versions.now place }
+{
+    versions.get(place)
+}
+
+/// The revision at an index.
+fn rev_at(versions: &[Version], place: usize) -> Option<Rev>
+    ensures { result ≡ option_map (λ v. v.rev) (slice_get versions.now place) }
+{
+    version_at(versions, place).map(|version| version.rev)
 }
 
 /// How many of the versions, which rise, stand before a revision. It halves.
@@ -155,8 +168,18 @@ fn place_of(versions: &[Version], rev: Rev) -> Option<usize>
     ensures without { without_rev (Some rev) versions.now ≡ without_index versions.now result }
 {
     let place = count_before(versions, rev);
-    match versions.get(place) {
+    match version_at(versions, place) {
         Some(version) if version.rev == rev => Some(place),
         _ => None,
+    }
+}
+
+/// Takes out the version at a revision.
+fn remove_at(versions: &mut Vec<Version>, rev: Rev)
+    requires { IsRising versions.old.items }
+    ensures { versions.new.items ≡ without_rev (Some rev) versions.old.items }
+{
+    if let Some(place) = place_of(versions, rev) {
+        let _ = versions.remove(place);
     }
 }

@@ -1,14 +1,13 @@
-use Rattle.std.proofs.Common.{rules, ◌≡◌, ◌↔◌, List, [], ◌∷◌, ◌++◌, ◌<◌, length, not, take, drop, refl, sym, ◌∙◌, ap, subst, cond, option_and_then, IfSome, option_map, option_copied, OnOk, OnErr, IsTrue, Some, None, ℕ, ◌+◌, ◌-◌, ◌≤◌, Bool, true, false, nat_eq, nat_lt, slice_index_or, arith, filter, ◌==◌}
-use Rattle.std.specs.List.{find, slice_get, remove}
+-- The first version that is not before the place is the one behind those that are.
+use Rattle.std.proofs.Common.{◌≡◌, sym, ◌∙◌, ap, not, option_map}
+use Rattle.std.specs.List.{find, slice_get}
 use Rattle.kv_model.specs.History.{rev_lt}
-use Rattle.kv_model.specs.Kept.{is_at, without_rev}
 use Rattle.kv_model.specs.declared.version.Version.{Version}
-use Rattle.version_table.specs.Rising.{IsBehind, IsRising, place, last, is_newest, retracted, without_index}
-use Rattle.version_table.proofs.Rising.{slice_get-last, behind-last, last-behind, find-place, next-place, without-place, held, left, slice_get-some, rising-filter, retracted-newest, retracted-other, rising-retracted}
+use Rattle.version_table.proofs.Rising.{next-place}
 use Rattle.version_table.proofs.table.VersionTable.next_from.Goals as goal
 
-pub returns-in-Some-clause-value : goal.returns-in-Some-clause-value
-returns-in-Some-clause-value c = ?
-
-pub returns-in-None-clause-value : goal.returns-in-None-clause-value
-returns-in-None-clause-value c = ?
+pub returns-clause-value : goal.returns-clause-value
+returns-clause-value c =
+    let next : slice_get c.as_slice-versions.result.now c.count_before.result ≡ find (λ v. not (rev_lt v.rev c.args.rev)) c.as_slice-versions.result.now =
+    ap (slice_get c.as_slice-versions.result.now) c.count_before.ensures ∙ sym (next-place c.args.rev c.as_slice-versions.result.now) in
+    c.rev_at.ensures ∙ ap (option_map (λ (v : Version). v.rev)) (next ∙ ap (find (λ v. not (rev_lt v.rev c.args.rev))) c.as_slice-versions.ensures.value)

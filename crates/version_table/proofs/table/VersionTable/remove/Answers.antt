@@ -1,17 +1,8 @@
-use Rattle.std.proofs.Common.{rules, ◌≡◌, ◌↔◌, List, [], ◌∷◌, ◌++◌, ◌<◌, length, not, take, drop, refl, sym, ◌∙◌, ap, subst, cond, option_and_then, IfSome, option_map, option_copied, OnOk, OnErr, IsTrue, Some, None, ℕ, ◌+◌, ◌-◌, ◌≤◌, Bool, true, false, nat_eq, nat_lt, slice_index_or, arith, filter, ◌==◌}
-use Rattle.std.specs.List.{find, slice_get, remove}
-use Rattle.kv_model.specs.History.{rev_lt}
-use Rattle.kv_model.specs.Kept.{is_at, without_rev}
-use Rattle.kv_model.specs.declared.version.Version.{Version}
-use Rattle.version_table.specs.Rising.{IsBehind, IsRising, place, last, is_newest, retracted, without_index}
-use Rattle.version_table.proofs.Rising.{slice_get-last, behind-last, last-behind, find-place, next-place, without-place, held, left, slice_get-some, rising-filter, retracted-newest, retracted-other, rising-retracted}
+-- A rising list still rises when an element is taken out.
+use Rattle.std.specs.Prelude.{not}
+use Rattle.kv_model.specs.Kept.{is_at}
+use Rattle.version_table.proofs.Rising.{rising-filter}
 use Rattle.version_table.proofs.table.VersionTable.remove.Goals as goal
 
 pub invariant_of-self : goal.invariant_of-self
-invariant_of-self c = ?
-
-pub invariant_of-self-in-Some-2 : goal.invariant_of-self-in-Some-2
-invariant_of-self-in-Some-2 c = ?
-
-pub invariant_of-self-in-Some-3 : goal.invariant_of-self-in-Some-3
-invariant_of-self-in-Some-3 c = ?
+invariant_of-self c = rw c.remove_at.ensures (rising-filter (λ v. not (is_at c.args.rev v)) _ c.self.invariant)
