@@ -181,9 +181,13 @@ grown-events vs t ms c r w g h f one kept last at = by (cases_lt (now ms) r)
     by (inr l) = events-append vs t c r (now ms + 1) w at (omega arith) ∙ good-events vs ms c r w g (record { first = one; kept = kept; past = l })
         ∙ sym (events-append (dress ms) t c r (now ms + 1) w at (omega arith))
 
-now-most : (ms us : List Mutation) → AllByRecursion (λ u. u.rev.main ≡ now ms + 1) us → now (ms ++ us) ≤ now ms + 1
+pub now-most : (ms us : List Mutation) → AllByRecursion (λ u. u.rev.main ≡ now ms + 1) us → now (ms ++ us) ≤ now ms + 1
 now-most ms [] h = let e : now (ms ++ []) ≡ now ms = ap now (append-nil ms) in omega arith
 now-most ms (u ∷ us) h = let e : now (ms ++ u ∷ us) ≡ now ms + 1 = now-grows ms u us (now ms + 1) h in omega arith
+
+pub now-least : (ms us : List Mutation) → AllByRecursion (λ u. u.rev.main ≡ now ms + 1) us → now ms ≤ now (ms ++ us)
+now-least ms [] h = let e : now (ms ++ []) ≡ now ms = ap now (append-nil ms) in omega arith
+now-least ms (u ∷ us) h = let e : now (ms ++ u ∷ us) ≡ now ms + 1 = now-grows ms u us (now ms + 1) h in omega arith
 
 -- a good part gets the versions that the whole history gets
 pub good-added : (vs : List Version) (ms us : List Mutation) (c : ℕ) → IsGood vs ms c → IsHistory ms → c ≤ now ms → extend_all vs us ≡ vs ++ added_by (dress ms) us

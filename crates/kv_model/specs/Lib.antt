@@ -17,6 +17,7 @@ pub mod Questions
 pub mod Needs
 pub mod Feed
 pub mod Stands
+pub mod Stores
 pub mod Requests
 pub mod Answers
 pub mod Wire
