@@ -35,10 +35,13 @@ other_key k l h = by (same_key k l) refl
 
 -- ---- a history and its parts lie before the end of its revision
 
-pub dressed-by : (ms : List Mutation) → IsHistory ms → AreBy (end_of (now ms)) (dress ms)
-dressed-by ms h = each-dressed (λ p k. rev_le p (end_of (now ms)) ≡ true) ms
-    (each-map (λ m. (m.rev.main ≤ now ms) × IsChange m) (λ m. rev_le m.rev (end_of (now ms)) ≡ true) (λ m f. rev_le-end m.rev (now ms) f.0 f.1.number) ms
+pub dressed-before : (ms : List Mutation) (r : ℕ) → IsHistory ms → now ms ≤ r → AreBy (end_of r) (dress ms)
+dressed-before ms r h l = each-dressed (λ p k. rev_le p (end_of r) ≡ true) ms
+    (each-map (λ m. (m.rev.main ≤ now ms) × IsChange m) (λ m. rev_le m.rev (end_of r) ≡ true) (λ m f. rev_le-end m.rev r (let e : m.rev.main ≤ now ms = f.0 in omega arith) f.1.number) ms
     (each-both (λ m. m.rev.main ≤ now ms) IsChange ms (mains-by ms h) (each-change ms h)))
+
+pub dressed-by : (ms : List Mutation) → IsHistory ms → AreBy (end_of (now ms)) (dress ms)
+dressed-by ms h = dressed-before ms (now ms) h (omega arith)
 
 pub part-by : (vs : List Version) (ms : List Mutation) → IsPart vs (dress ms) → IsHistory ms → AreBy (end_of (now ms)) vs
 part-by vs ms p h = each-part (λ v. rev_le v.rev (end_of (now ms)) ≡ true) p (dressed-by ms h)

@@ -20,6 +20,7 @@ pub mod Needs
 pub mod Certificates
 pub mod Feed
 pub mod Stands
+pub mod Stores
 pub mod Requests
 pub mod Answers
 pub mod Wire
