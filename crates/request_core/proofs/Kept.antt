@@ -64,7 +64,7 @@ retracted-push vs r v h at =
     other u = not (nat_eq u.rev.main v.rev.main)
 
     below : (u : Version) → IsUpTo r u → nat_eq u.rev.main v.rev.main ≡ false
-    below u b = let ne : u.rev.main ≢ v.rev.main = λ e. omega (arith, b.main) in grind (arith, nat_tests)
+    below u b = let ne : u.rev.main ≢ v.rev.main = λ e. omega (arith, main_is, b.main) in grind (arith, nat_tests)
 
     rest : (us : List Version) → AllByRecursion (IsUpTo r) us → filter other us ≡ us
     rest [] k = refl

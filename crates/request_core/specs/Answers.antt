@@ -37,10 +37,6 @@ pub record Accepts (new : CoreState) (r : Receipt) (w : World) (told : Result Mo
   pub stands : StandsFor new.store after
   pub raised : r.raised ≡ raised w after
 
--- the receipt of a command that leaves this to be read
-abbrev pub receipt_of : CoreState → Option ℕ → Todo → Receipt
-receipt_of s raised left = record { stamp = s.stamp; revision = s.store.revision; raised = raised; todo = left }
-
 -- a Range asks for nothing but its key
 abbrev pub IsPlain : Todo → Type 0
 IsPlain (todo.Range q) = q.now ≡ plain_range q.now.range.key 0

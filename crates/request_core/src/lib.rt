@@ -2,6 +2,6 @@
 #![tactic(auto)]
 
 pub mod answer;
-pub mod core;
+pub mod store;
 mod reading;
 mod writing;

@@ -47,10 +47,10 @@ impl Core {
     ghost use Rattle.kv_model.specs.World.{World, opening};
     ghost use Rattle.kv_model.specs.Stands.{StandsFor};
     ghost use Rattle.kv_model.specs.Step.{perform};
+    ghost use Rattle.kv_model.specs.Stores.{reply_of_range};
     ghost use Rattle.kv_model.specs.Built.{IsBuilt};
-    ghost use Rattle.request_core.specs.State.{CoreState, refusal_of_put, added_by_put, after_put, with_version, first_fault_of_range};
-    ghost use Rattle.request_core.specs.declared.answer.Todo.TheVariants as todo;
-    ghost use Rattle.request_core.specs.Answers.{Accepts, IsRefusal, receipt_of, IsReadable, answer_view, answer_of, first_refusal};
+    ghost use Rattle.request_core.specs.State.{CoreState, fault_of_put, added_by_put, after_put, answer_after_put, with_version};
+    ghost use Rattle.request_core.specs.Answers.{Accepts, IsRefusal, IsReadable, answer_view, answer_of, first_refusal};
 
     /// The store before the first event. Takes no memory.
     pub fn new(alloc: Global) -> Self
@@ -126,27 +126,59 @@ impl Core {
     /// A Range changes nothing, and takes no memory before its answer.
     fn apply_range<'c>(&self, query: &'c RangeQuery) -> Result<Receipt<'c>, Refusal>
         requires built { IsBuilt (Call.range query.now) }
-        ensures receipt { IfOk result (λ r. (first_fault_of_range query.now ≡ None) × (r ≡ receipt_of self.now None (todo.Range query.entry))) }
-        ensures refused { IfErr result (λ e. first_fault_of_range query.now ≡ Some e) }
+        ensures accepted { IfOk result (λ r. (w : World) → StandsFor self.now.store w
+            → Accepts self.now r w (perform w (Call.range query.now)).0 (perform w (Call.range query.now)).1) }
+        ensures readable { IfOk result (λ r. IsReadable r self.now) }
+        ensures refused { IfErr result (λ e. (w : World) → StandsFor self.now.store w
+            → IsRefusal e (first_refusal (perform w (Call.range query.now)).0)) }
     {
         if query.range.key.is_empty() {
             return Err(Refusal::NoKey);
         }
-        Ok(Receipt {
+        Ok(self.receipt_of_range(query))
+    }
+
+    fn receipt_of_range<'c>(&self, query: &'c RangeQuery) -> Receipt<'c>
+        requires { IsBuilt (Call.range query.now) }
+        ensures answers { answer_of result self.now ≡ record { reply = reply_of_range self.now.store query.now; revision = self.now.store.revision } }
+        ensures unraised { result.raised ≡ None }
+        ensures readable { IsReadable result self.now }
+    {
+        Receipt {
             stamp: self.stamp,
             revision: self.revision,
             raised: None,
             todo: Todo::Range(query),
-        })
+        }
     }
 
+    /// A Put appends one version at the next revision.
     fn apply_put<'c, S: Sink>(
         &mut self,
         request: &'c PutRequest,
         sink: &mut S,
-    ) -> Result<Receipt<'c>, Refusal> {
-        self.put(request, sink)?;
-        Ok(Receipt {
+    ) -> Result<Receipt<'c>, Refusal>
+        ensures accepted { IfOk result (λ r. (w : World) → StandsFor self.old.store w
+            → Accepts self.new r w (perform w (Call.put request.now)).0 (perform w (Call.put request.now)).1) }
+        ensures readable { IfOk result (λ r. IsReadable r self.new) }
+        ensures raised { IfOk result (λ r. r.raised ≡ Some (self.old.store.revision + 1)) }
+        ensures told { OnOk result (S.takes sink.old (Published.batch (added_by_put self.old.store request.now ∷ [])) sink.new) }
+        ensures refused { IfErr result (λ e. (w : World) → StandsFor self.old.store w
+            → IsRefusal e (first_refusal (perform w (Call.put request.now)).0)) }
+        ensures err { OnErr result ((self.new ≡ self.old) × (sink.new ≡ sink.old)) }
+    {
+        if let Err(refusal) = self.put(request, sink) {
+            return Err(refusal);
+        }
+        Ok(self.receipt_of_put(request))
+    }
+
+    fn receipt_of_put<'c>(&self, request: &'c PutRequest) -> Receipt<'c>
+        ensures answers { answer_of result self.now ≡ answer_after_put self.now.store request.now }
+        ensures raised { result.raised ≡ Some self.now.store.revision }
+        ensures readable { IsReadable result self.now }
+    {
+        Receipt {
             stamp: self.stamp,
             revision: self.revision,
             raised: Some(self.revision),
@@ -154,17 +186,19 @@ impl Core {
                 key: &request.key,
                 previous: request.prev_kv,
             },
-        })
+        }
     }
 
     /// Appends the version that a put makes. What can fail comes first, and the sink's taking last.
     fn put<S: Sink>(&mut self, request: &PutRequest, sink: &mut S) -> Result<(), Refusal>
-        ensures made { OnOk result ((refusal_of_put self.old.store request.now ≡ None) × (self.new ≡ after_put self.old request.now)) }
+        ensures made { OnOk result ((fault_of_put self.old.store request.now ≡ None) × (self.new ≡ after_put self.old request.now)) }
+        ensures quiet { self.old.store.watches ≡ [] }
         ensures told { OnOk result (S.takes sink.old (Published.batch (added_by_put self.old.store request.now ∷ [])) sink.new) }
-        ensures refused { IfErr result (λ e. IsRefusal e (refusal_of_put self.old.store request.now)) }
+        ensures refused { IfErr result (λ e. IsRefusal e (fault_of_put self.old.store request.now)) }
         ensures err { OnErr result ((self.new ≡ self.old) × (sink.new ≡ sink.old)) }
     {
-        if let Some(refusal) = self.refusal_of_put(request) {
+        let _ = &self.alloc;
+        if let Some(refusal) = self.fault_of_put(request) {
             return Err(refusal);
         }
         let Ok(version) = self.version_of_put(request) else {
@@ -177,8 +211,8 @@ impl Core {
     }
 
     /// The first refusal of a put, if there is one.
-    fn refusal_of_put(&self, request: &PutRequest) -> Option<Refusal>
-        ensures { result ≡ refusal_of_put self.now.store request.now }
+    fn fault_of_put(&self, request: &PutRequest) -> Option<Refusal>
+        ensures { result ≡ fault_of_put self.now.store request.now }
     {
         if let Some(refusal) = put_fault(request) {
             return Some(refusal);
@@ -196,7 +230,8 @@ impl Core {
     /// The version that a put adds.
     fn version_of_put(&self, request: &PutRequest) -> Result<Version, AllocError>
         requires { self.now.store.revision < last_main }
-        ensures { IfOk result (λ v. v ≡ added_by_put self.now.store request.now) }
+        ensures added { IfOk result (λ v. v ≡ added_by_put self.now.store request.now) }
+        ensures counted { IfOk result (λ v. IsCountedTo (self.now.store.revision + 1) v.body) }
     {
         let rev = Rev {
             main: self.revision + 1,
