@@ -8,8 +8,8 @@ use Rattle.kv_model.specs.declared.refusal.Refusal.{Refusal}
 use Rattle.kv_model.specs.declared.refusal.Refusal.TheVariants.{NoKey}
 use Rattle.kv_model.specs.Lists.{is_empty}
 use Rattle.kv_model.specs.History.{Mutation, value_at, end_of}
-use Rattle.kv_model.specs.Ranges.{range_refusal, range_reply, live, refuse_if}
-use Rattle.kv_model.specs.Txns.{put_fault, put_refusal, put_change, delete_changes, previous_value, if_asked}
+use Rattle.kv_model.specs.Ranges.{range_refusal, range_reply, live, keys_of, refuse_if}
+use Rattle.kv_model.specs.Txns.{put_fault, put_refusal, put_change, deletes_of, previous_value, if_asked}
 use Rattle.kv_model.specs.Leases.{is_granted}
 use Rattle.kv_model.specs.Told.{Reply}
 use Rattle.kv_model.specs.Stands.{Store}
@@ -44,4 +44,4 @@ reply_of_delete s d =
     Reply.delete (length kvs) (if_asked d.prev_kv kvs)
 
 abbrev pub changes_of_delete : Store → DeleteRequest → List Mutation
-changes_of_delete s d = delete_changes s.versions (s.revision + 1) 0 d
+changes_of_delete s d = deletes_of (s.revision + 1) 0 (keys_of (live s.versions (end_of s.revision) d.range))
