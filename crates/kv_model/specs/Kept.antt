@@ -1,41 +1,91 @@
--- The versions that a run keeps: every change adds, and trimming takes out.
-use Rattle.std.specs.Prelude.{◌≡◌, List, [], ◌∷◌, ◌++◌, length, drop, filter, Bool, not, ◌&&◌, ◌==◌, MatchBool, Option, None, Some}
-use Rattle.kv_model.specs.declared.version.Rev.{Rev}
+-- What a run keeps: each change adds, and trimming takes out what no least list needs.
+use Rattle.std.specs.Prelude.{◌≡◌, ℕ, List, [], ◌∷◌, ◌++◌, length, drop, filter, Bool, nat_lt, nat_le, if◌then◌else◌, MatchBool, MatchOption, Option, None, Some, ⊤}
 use Rattle.kv_model.specs.declared.version.Version.{Version}
-use Rattle.kv_model.specs.World.{World, opening, versions}
-use Rattle.kv_model.specs.Follows.{Outcome, after_outcome}
-use Rattle.kv_model.specs.Questions.{IsLeast}
 use Rattle.kv_model.specs.declared.ids.Ids.{Ids}
-use Rattle.kv_model.specs.Wire.{WireEvent, WireTold, wire_step, is_free, MayLose, is_physical, removed_by}
+use Rattle.kv_model.specs.Lists.{IsIn}
+use Rattle.kv_model.specs.World.{World, revision, versions}
+use Rattle.kv_model.specs.Questions.{IsLeast}
+use Rattle.kv_model.specs.Needs.{HasNeed}
+use Rattle.kv_model.specs.Certificates.{Dump, Claim, claims_of, first_fault}
+use Rattle.kv_model.specs.Follows.{Outcome}
+use Rattle.kv_model.specs.Wire.{WireEvent, WireTold, WireOutcome, wire_step, is_physical}
+pub use Rattle.kv_model.specs.Trimming.{is_at, without_rev}
 
--- the versions that stand in the second world and not in the first
+-- the versions that are kept, and those of them that trimming has still to visit, the next one first
+pub record Keeping : Type 0 where
+  pub kept : List Version
+  pub ahead : List Version
+
+-- ---- changes
+
+-- the versions that the second world has behind those of the first
 abbrev pub added : World → World → List Version
 added w u = drop (length (versions w)) (versions u)
 
-abbrev pub is_at : Rev → Version → Bool
-is_at p v = v.rev.main == p.main && v.rev.sub == p.sub
+-- what a change adds is kept; where it is an accepted Compact, all that is kept at or below it is to be visited
+abbrev pub kept_after : World → World → Keeping → Keeping
+kept_after w u k = record {
+  kept = k.kept ++ added w u;
+  ahead = if nat_lt w.compacted u.compacted then filter (λ v. nat_le v.rev.main u.compacted) k.kept else k.ahead;
+}
 
-abbrev pub without_rev : Option Rev → List Version → List Version
-without_rev None vs = vs
-without_rev (Some p) vs = filter (λ v. not (is_at p v)) vs
+-- a least list is kept, and nothing is left to visit
+pub record IsTrimmed (w : World) (k : Keeping) : Type 0 where
+  pub least : IsLeast k.kept w.mutations w.compacted
+  pub visited : k.ahead ≡ []
 
--- what is kept after an event that was made
-abbrev pub KeepsMade : World → World → Bool → List Version → List Version → Type 0
-KeepsMade w u physical vs us = MatchBool physical (IsLeast us u.mutations u.compacted) (us ≡ vs ++ added w u)
+-- a Compact that waits for trimming leaves a least list
+abbrev pub Changes : Bool → World → World → Keeping → Keeping → Type 0
+Changes physical w u k l = MatchBool physical (IsTrimmed u l) (l ≡ kept_after w u k)
 
--- from what is kept before an event to what is kept after it
-abbrev pub Keeps : Ids → World → WireEvent → Outcome WireTold → List Version → List Version → Type 0
-Keeps ids w e Outcome.memory vs us = us ≡ vs
-Keeps ids w e (Outcome.lost r) vs us = KeepsMade w (wire_step ids w e).1 (is_physical w e) vs us
-Keeps ids w e (Outcome.said t) vs us = KeepsMade w (wire_step ids w e).1 (is_physical w e) (without_rev (removed_by t) vs) us
+-- ---- trimming steps
 
--- what is kept over a run, from one world on
-abbrev pub KeepsFrom : Ids → World → List WireEvent → List (Outcome WireTold) → List Version → List Version → Type 0
-KeepsFrom ids w [] [] vs us = us ≡ vs
-KeepsFrom ids w [] (o ∷ os) vs us = ⊥
-KeepsFrom ids w (e ∷ es) [] vs us = ⊥
-KeepsFrom ids w (e ∷ es) (o ∷ os) vs us = (mid : List Version) × Keeps ids w e o vs mid × KeepsFrom ids (after_outcome (wire_step ids) is_free MayLose w e o) es os mid us
+-- some least list has the version
+abbrev pub IsInLeast : World → Version → Type 0
+IsInLeast w v = (us : List Version) × IsLeast us w.mutations w.compacted × IsIn v us
 
--- what a run keeps
-abbrev pub IsKept : Ids → List WireEvent → List (Outcome WireTold) → List Version → Type 0
-IsKept ids es os vs = KeepsFrom ids opening es os [] vs
+abbrev pub dump_of : World → List Version → Dump
+dump_of w vs = record { floor = w.compacted; revision = revision w; versions = vs }
+
+-- a claim for each version, in their order, and each a need in the whole history
+abbrev pub AreNeeds : World → List Version → List Claim → Type 0
+AreNeeds w [] [] = ⊤
+AreNeeds w [] (claim ∷ claims) = ⊥
+AreNeeds w (v ∷ vs) [] = ⊥
+AreNeeds w (v ∷ vs) (claim ∷ claims) = (claim.rev ≡ v.rev) × HasNeed w.compacted (revision w) (versions w) v claim.need × AreNeeds w vs claims
+
+-- the certificate passes its check, and what it claims is so
+pub record IsCertificate (w : World) (vs : List Version) (claims : List Claim) : Type 0 where
+  pub passes : first_fault (dump_of w vs) claims ≡ None
+  pub needs : AreNeeds w vs claims
+
+-- a step that is done tells how many versions are kept, no fewer would do, and its certificate is one
+pub record IsDone (w : World) (k : Keeping) (n : ℕ) (certificate : Option (List Claim)) : Type 0 where
+  pub number : n ≡ length k.kept
+  pub least : IsLeast k.kept w.mutations w.compacted
+  pub certified : MatchOption certificate ⊤ (IsCertificate w k.kept)
+
+-- A trimming step names the next version to visit: removed where no least list has it, and else kept. Without a next one it is done.
+abbrev pub Trims : World → Keeping → List Version → WireTold → Keeping → Type 0
+Trims w k (v ∷ vs) (WireTold.removed p) l = (p ≡ v.rev) × (IsInLeast w v → ⊥) × (l ≡ record { kept = without_rev (Some p) k.kept; ahead = vs })
+Trims w k (v ∷ vs) (WireTold.kept p) l = (p ≡ v.rev) × IsInLeast w v × (l ≡ record { kept = k.kept; ahead = vs })
+Trims w k [] (WireTold.done n certificate) l = IsDone w k n certificate × (l ≡ k)
+Trims w k _ _ l = ⊥
+
+-- ---- events
+
+-- what is told shows what is kept and its certificate
+abbrev pub Certifies : World → Keeping → WireTold → Type 0
+Certifies w k t = t ≡ WireTold.certified (dump_of w k.kept) (claims_of (dump_of w k.kept))
+
+-- from what is kept before an event that was answered to what is kept after it
+abbrev pub KeepsSaid : Ids → World → Keeping → WireEvent → WireTold → Keeping → Type 0
+KeepsSaid ids w k WireEvent.trim t l = Trims w k k.ahead t l
+KeepsSaid ids w k WireEvent.certify t l = Certifies w k t × (l ≡ k)
+KeepsSaid ids w k e t l = Changes (is_physical w e) w (wire_step ids w e).1 k l
+
+-- and for any outcome: an event that found no memory changes nothing
+abbrev pub Keeps : Ids → World → Keeping → WireEvent → WireOutcome → Keeping → Type 0
+Keeps ids w k e Outcome.memory l = l ≡ k
+Keeps ids w k e (Outcome.lost loss) l = Changes (is_physical w e) w (wire_step ids w e).1 k l
+Keeps ids w k e (Outcome.said t) l = KeepsSaid ids w k e t l

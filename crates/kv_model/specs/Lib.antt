@@ -10,11 +10,13 @@ pub mod Leases
 pub mod World
 pub mod Watches
 pub mod Told
+pub mod Trimming
 pub mod Step
 pub mod OnLiterals
 pub mod Follows
 pub mod Questions
 pub mod Needs
+pub mod Certificates
 pub mod Feed
 pub mod Stands
 pub mod Stores

@@ -8,6 +8,10 @@ use Rattle.kv_model.specs.Calls.{Call}
 use Rattle.kv_model.specs.Txns.{Replies}
 use Rattle.kv_model.specs.Watches.{Delivery}
 
+-- The reply to an accepted command. A put has the key-value before, where it was asked for; a delete the number of keys
+-- deleted, and their key-values before; a transaction whether its compares held. A watch has the client's ID for it and
+-- the store's number, a grant and a KeepAlive the lease's ID and time to live in seconds. A time to live has the ID, the
+-- seconds left, those granted, and the keys of the lease.
 pub data Reply : Type 0 where
   range : RangeReply → Reply
   put : Option KeyValue → Reply
@@ -26,18 +30,21 @@ pub record Answer : Type 0 where
   pub reply : Reply
   pub revision : ℕ
 
--- the ID, the revision after it, and whether that rose
+-- An expiry step: no lease is due, or one is revoked (its ID, the revision after it, and whether that rose), or its keys
+-- can't be deleted since the revisions are spent.
 pub data Expiry : Type 0 where
   nothing : Expiry
   expired : ℤ → ℕ → Bool → Expiry
   spent : Expiry
 
--- what a trimming step did
+-- A trimming step takes a version out, or keeps it, or has none left to look at and tells how many there are.
 pub data Trimmed : Type 0 where
   removed : Rev → Trimmed
   kept : Rev → Trimmed
   done : ℕ → Trimmed
 
+-- What happens to a store: the clock is read (in milliseconds), a client asks, a watch is told what it has not seen or is
+-- closed (by its number), or the server itself makes a step of expiry or of trimming, or shows what it keeps.
 pub data Event : Type 0 where
   moment : ℕ → Event
   command : Call → Event
@@ -47,6 +54,7 @@ pub data Event : Type 0 where
   trim : Event
   certify : Event
 
+-- What an event is answered. A delivery comes with the revision of the store, and a closing tells whether the watch stood.
 pub data Told : Type 0 where
   clock : ℕ → Told
   answer : Result Answer Refusal → Told

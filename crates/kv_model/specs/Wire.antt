@@ -6,12 +6,12 @@ use Rattle.kv_model.specs.Calls.{Call}
 use Rattle.kv_model.specs.World.{World, Watch, revision, watch_at, without_watch, at_moment}
 use Rattle.kv_model.specs.Leases.{lease_at}
 use Rattle.kv_model.specs.Watches.{deliver as delivered}
-use Rattle.kv_model.specs.Told.{Expiry, Trimmed}
+use Rattle.kv_model.specs.Told.{Expiry}
 use Rattle.kv_model.specs.Step.{Made, made_in, perform, expire as expired, compact_refusal}
 use Rattle.kv_model.specs.Requests.{Bad, request_of}
 use Rattle.kv_model.specs.declared.ids.Ids.{Ids}
 use Rattle.kv_model.specs.Answers.{Response, response_to, refused, fault_of_bad, message_text}
-use Rattle.kv_model.specs.Needs.{Need}
+use Rattle.kv_model.specs.Certificates.{Dump, Claim}
 use Rattle.kv_model.specs.Follows as follows
 use Rattle.kv_model.specs.Follows.{Outcome}
 
@@ -42,12 +42,8 @@ pub data WireEvent : Type 0 where
   trim : WireEvent
   certify : WireEvent
 
--- a need for a version, as a certificate lists them
-pub record Claim : Type 0 where
-  pub rev : Rev
-  pub need : Need
-
--- raised is the new revision where it rose, and watch the number of a watch that was made
+-- What an event is answered. With a reply come the new revision, where it rose, and the number of a watch that was
+-- made. A trimming step that is done has a certificate of what is kept, or none where no memory was found for it.
 pub data WireTold : Type 0 where
   clock : ℕ → WireTold
   reply : Response → Option ℕ → Option ℕ → WireTold
@@ -56,10 +52,17 @@ pub data WireTold : Type 0 where
   message : List ℕ → WireTold
   closed : Bool → WireTold
   expiry : Expiry → WireTold
-  trimmed : Trimmed → WireTold
+  removed : Rev → WireTold
+  kept : Rev → WireTold
   done : ℕ → Option (List Claim) → WireTold
-  certified : List Version → ℕ → ℕ → List Claim → WireTold
+  certified : Dump → List Claim → WireTold
   untold : WireTold
+
+-- what stands of a command whose answer was lost: the revision after it, where it rose, and the number of a watch made
+pub record Loss : Type 0 where
+  pub revision : ℕ
+  pub raised : Option ℕ
+  pub watch : Option ℕ
 
 -- ---- steps
 
@@ -77,7 +80,7 @@ tell_message stands (Some text) = WireTold.message text
 tell_message true None = WireTold.nothing
 tell_message false None = WireTold.no_watch
 
--- one event: what is told, and the world after it; what trimming tells is not said here, and it changes nothing
+-- one event: what is told, and the world after it; trimming and certifying change nothing, and what they tell goes by what is kept
 abbrev pub wire_step : Ids → World → WireEvent → WireTold × World
 wire_step ids w (WireEvent.moment m) = (WireTold.clock (at_moment w m).clock, at_moment w m)
 wire_step ids w (WireEvent.post path body) = tell_reply w (reply_to ids w path body)
@@ -89,10 +92,18 @@ wire_step ids w WireEvent.certify = (WireTold.untold, w)
 
 -- ---- runs
 
+-- what is told goes by what is kept
 abbrev pub is_free : WireEvent → Bool
 is_free WireEvent.trim = true
 is_free WireEvent.certify = true
 is_free _ = false
+
+-- the clock, the end of a watch and a trimming step take no memory
+abbrev pub takes_memory : WireEvent → Bool
+takes_memory (WireEvent.moment m) = false
+takes_memory (WireEvent.close n) = false
+takes_memory WireEvent.trim = false
+takes_memory _ = true
 
 -- a command that is accepted changes something besides the history
 abbrev pub changes_beside : World → Call → Bool
@@ -103,22 +114,29 @@ changes_beside w (Call.revoke id) = true
 changes_beside w (Call.keep_alive id) = is_some (lease_at w.leases id)
 changes_beside w _ = false
 
--- the command is accepted and changes the world, to this revision
-abbrev pub IsChange : World → Call → ℕ → Made → Type 0
-IsChange w call r (Err e) = ⊥
-IsChange w call r (Ok made) = IsTrue (nat_lt (revision w) (revision made.1) || changes_beside w call) × (r ≡ revision made.1)
+abbrev pub loss_of : World → World → Loss
+loss_of w u = record { revision = revision u; raised = raised w u; watch = number_made w u }
 
-abbrev pub IsChangeBy : World → ℕ → Result Call Bad → Type 0
-IsChangeBy w r (Ok call) = IsChange w call r (made_in w call)
-IsChangeBy w r (Err e) = ⊥
+-- the command is accepted and changes the world, with this loss
+abbrev pub IsChange : World → Call → Loss → Made → Type 0
+IsChange w call l (Err e) = ⊥
+IsChange w call l (Ok made) = IsTrue (nat_lt (revision w) (revision made.1) || changes_beside w call) × (l ≡ loss_of w made.1)
 
-abbrev pub MayLose : World → WireEvent → ℕ → Type 0
-MayLose w (WireEvent.post path body) r = IsChangeBy w r (request_of path body)
-MayLose w _ r = ⊥
+abbrev pub IsChangeBy : World → Loss → Result Call Bad → Type 0
+IsChangeBy w l (Ok call) = IsChange w call l (made_in w call)
+IsChangeBy w l (Err e) = ⊥
+
+-- only a command that changed the world may lose its answer
+abbrev pub MayLose : World → WireEvent → Loss → Type 0
+MayLose w (WireEvent.post path body) l = IsChangeBy w l (request_of path body)
+MayLose w _ l = ⊥
+
+abbrev pub WireOutcome : Type 0
+WireOutcome = Outcome Loss WireTold
 
 -- the outcomes of a run are those of the whole history
-abbrev pub Follows : Ids → List WireEvent → List (Outcome WireTold) → Type 0
-Follows ids = follows.Follows (wire_step ids) is_free MayLose
+abbrev pub Follows : Ids → List WireEvent → List WireOutcome → Type 0
+Follows ids = follows.Follows (wire_step ids) is_free takes_memory MayLose
 
 abbrev pub is_physical_call : World → Result Call Bad → Bool
 is_physical_call w (Ok (Call.compact r physical)) = physical && is_none (compact_refusal w.compacted (revision w) r)
@@ -128,8 +146,3 @@ is_physical_call w _ = false
 abbrev pub is_physical : World → WireEvent → Bool
 is_physical w (WireEvent.post path body) = is_physical_call w (request_of path body)
 is_physical w _ = false
-
--- the version that a trimming step took out
-abbrev pub removed_by : WireTold → Option Rev
-removed_by (WireTold.trimmed (Trimmed.removed p)) = Some p
-removed_by _ = None
