@@ -76,7 +76,7 @@ put_has_key s p e none =
     let empty : refuse_if (is_empty p.key) NoKey ≡ None = or-first (refuse_if (is_empty p.key) NoKey) _ fault in
     let bad : Some NoKey ≡ None = ap (λ k. refuse_if (is_empty k) NoKey) (sym none) ∙ empty in cc
 
-store-one : (s : Store) (w : World) → StandsFor s w → 1 ≤ s.revision
+pub store-one : (s : Store) (w : World) → StandsFor s w → 1 ≤ s.revision
 store-one s w h = omega (arith, now-above w.mutations h.sound.history, h.revision_is)
 
 pub put_batch : (s : Store) (w : World) → StandsFor s w → (p : PutRequest) → p.key ≢ [] → IsBatch (s.revision + 1) (changes_of_put s p)
