@@ -27,5 +27,6 @@ pub mod Wire
 pub mod Kept
 pub mod Headline
 pub mod Laws
+pub mod Growth
 pub mod Samples
 pub mod Texts
