@@ -18,6 +18,8 @@ pub mod Questions
 pub mod Needs
 pub mod Certificates
 pub mod Feed
+pub mod Changes
+pub mod FeedLaws
 pub mod Stands
 pub mod Requests
 pub mod Answers
