@@ -28,4 +28,9 @@ pub mod Kept
 pub mod Headline
 pub mod Laws
 pub mod Samples
+pub mod SampleReads
+pub mod SampleTxns
+pub mod SampleLeases
+pub mod SampleWatches
+pub mod SampleTrims
 pub mod Texts
