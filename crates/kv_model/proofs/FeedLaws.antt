@@ -194,6 +194,7 @@ part-filter {X} t (keep {x = x} {xs = xs} {ys = ys} p) = by (t x) (part-filter t
 part-filter t (leave p) = leave (part-filter t p)
 
 trimmed_part : (vs us : List Version) (p : Rev) (c : ℕ) → IsPart vs us → IsPart (trimmed vs p c).versions us
+unfolding trimmed
 trimmed_part vs us p c h = next (find (λ v. not (rev_lt v.rev p)) vs)
   where
     visit : (v : Version) (b : Bool) → IsPart (cond {A = TrimStep} b (record { told = Trimmed.removed v.rev; versions = without_rev (Some v.rev) vs; place = place_after v.rev }) (record { told = Trimmed.kept v.rev; versions = vs; place = place_after v.rev })).versions us
