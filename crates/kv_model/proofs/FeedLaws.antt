@@ -1,5 +1,5 @@
 -- What is published makes of the versions what the commands made of them, and a reader stores a part of it.
-use Rattle.std.proofs.Common.{append_assoc, ◌≡◌, ◌⊎◌, ℕ, zero, suc, ◌≤◌, ℤ, pos, negsuc, List, [], ◌∷◌, ◌++◌, length, map, filter, Bool, true, false, not, cond, Option, None, Some, Ok, Err, refl, sym, ◌∙◌, ap, subst, inl, inr, arith}
+use Rattle.std.proofs.Common.{◌≡◌, ◌⊎◌, ℕ, ◌≤◌, ℤ, pos, negsuc, List, [], ◌∷◌, ◌++◌, length, filter, Bool, true, false, not, cond, Option, None, Some, Ok, Err, refl, sym, ◌∙◌, ap, subst, inl, inr, arith}
 use Rattle.std.specs.Prelude.{fold, find, drop, ◌+◌, nat_lt, nat_le, ◌||◌, ◌==◌}
 use Rattle.std.proofs.lemmas.Bool.{le-ltb, lt-ltb, leb-false}
 use Rattle.std.proofs.lemmas.List.{append-nil}
@@ -13,15 +13,15 @@ use Rattle.kv_model.specs.Lists.{IsPart, nothing, keep, leave}
 use Rattle.kv_model.specs.History.{Mutation, dress, dress_after, now, rev_lt, value_at, end_of}
 use Rattle.kv_model.specs.Ranges.{refuse_if}
 use Rattle.kv_model.specs.Calls.{Call}
-use Rattle.kv_model.specs.Leases.{Lease, lease_at, due, renewed, without_lease}
+use Rattle.kv_model.specs.Leases.{Lease, lease_at, due}
 use Rattle.kv_model.specs.World.{World, revision, versions}
 use Rattle.kv_model.specs.Txns.{Path, previous_value, put_change}
 use Rattle.kv_model.specs.Told.{Reply, Trimmed}
-use Rattle.kv_model.specs.Step.{lease_changes, Made, made_in, perform, expire, world_of, commit, refused_or, last_main, compact_refusal, compact_in, keep_alive_in, time_to_live_in, range_in, put_in, delete_in, txn_in, run_path, watch_in, grant_in, revoke_in, expire_at, expiry_of}
+use Rattle.kv_model.specs.Step.{Made, made_in, perform, expire, world_of, commit, refused_or, last_main, compact_in, keep_alive_in, time_to_live_in, range_in, put_in, delete_in, txn_in, run_path, watch_in, grant_in, revoke_in, expire_at, expiry_of}
 use Rattle.kv_model.specs.Trimming.{TrimStep, trimmed, trimmed_next, visited, finished, without_rev, is_trimmed, is_at, place_after}
-use Rattle.kv_model.specs.Feed.{Published, Snapshot, Untrimmed, absorb, grow, blank, nothing_published, last_main_or, trim_snapshot, store_of, untrimmed_of}
+use Rattle.kv_model.specs.Feed.{Published, Snapshot, Untrimmed, absorb, grow, blank, nothing_published, last_main_or}
 use Rattle.kv_model.specs.Changes.{untrimmed, change_between, batch_of, added}
-use Rattle.kv_model.specs.FeedLaws.{CommandIsPublished, ExpiryIsPublished, CommandIsOneChange, ExpiryIsOneChange, Stores, ReaderStoresPart}
+use Rattle.kv_model.specs.FeedLaws.{CommandIsPublished, ExpiryIsPublished, CommandIsOneChange, ExpiryIsOneChange, ReaderStoresPart}
 use Rattle.kv_model.proofs.HistoryLaws.{dress_after-append}
 
 -- ---- one operation at most

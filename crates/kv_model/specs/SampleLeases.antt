@@ -1,5 +1,5 @@
 -- Worked rows of leases.
-use Rattle.std.specs.Prelude.{◌≡◌, refl, ℕ, ℤ, pos, negsuc, List, [], ◌∷◌, true, false, None, Some}
+use Rattle.std.specs.Prelude.{◌≡◌, refl, ℕ, ℤ, pos, negsuc, List, [], ◌∷◌, true, false}
 use Rattle.kv_model.specs.declared.call.PutRequest.{PutRequest}
 use Rattle.kv_model.specs.declared.refusal.Refusal.TheVariants.{LeaseMissing, LeaseExists, LeaseGiven, TtlTooLarge}
 use Rattle.kv_model.specs.Ranges.{plain_range}

@@ -1,14 +1,13 @@
 -- Worked rows of puts, reads and deletes.
-use Rattle.std.specs.Prelude.{◌≡◌, refl, ℕ, ◌-◌, ◌^◌, pos, List, [], ◌∷◌, Bool, true, false, None, Some, codes}
-use Rattle.kv_model.specs.declared.version.Version.{Version}
+use Rattle.std.specs.Prelude.{◌≡◌, refl, ℕ, ◌-◌, ◌^◌, pos, List, [], ◌∷◌, true, false, Some, codes}
 use Rattle.kv_model.specs.declared.call.SortOrder.TheVariants.{Descend}
 use Rattle.kv_model.specs.declared.call.SortTarget.TheVariants.{ByVersion}
 use Rattle.kv_model.specs.declared.refusal.Refusal.TheVariants.{NoKey, KeyMissing, Future, Compacted, RevisionsSpent}
-use Rattle.kv_model.specs.History.{Mutation, Action}
+use Rattle.kv_model.specs.History.{Action}
 use Rattle.kv_model.specs.Ranges.{plain_range}
 use Rattle.kv_model.specs.Calls.{Call}
 use Rattle.kv_model.specs.World.{World, opening}
-use Rattle.kv_model.specs.Told.{Reply, Event, Told}
+use Rattle.kv_model.specs.Told.{Reply, Event}
 use Rattle.kv_model.specs.Step.{told_by}
 use Rattle.kv_model.specs.OnLiterals.{model_on_literals}
 use Rattle.kv_model.specs.Samples.{a, b, c, one, two, put_of, put_event, delete_event, range_event, all_query, compact_event, told, refused, put_reply, kv_of, found, told_after, rev_at, puts, put_delete_put}

@@ -13,7 +13,7 @@ use Rattle.kv_model.specs.Certificates.{Dump, Claim, NeedFault, claims_of, first
 use Rattle.kv_model.specs.Feed.{Published, Snapshot, blank, absorb}
 use Rattle.kv_model.specs.Changes.{change_between}
 use Rattle.kv_model.specs.OnLiterals.{model_on_literals}
-use Rattle.kv_model.specs.Samples.{a, b, c, x, y, one, two, put_of, put_event, delete_event, compact_event, rev_at, put_version, gone_version}
+use Rattle.kv_model.specs.Samples.{a, b, c, x, y, one, two, put_of, put_event, delete_event, compact_event, rev_at}
 
 -- an `unfolding` line that names this opens the definitions of trimming and of certificates
 unfoldable pub trimming_on_literals : ⊤
