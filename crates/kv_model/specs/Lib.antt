@@ -21,6 +21,7 @@ pub mod Feed
 pub mod Changes
 pub mod FeedLaws
 pub mod Stands
+pub mod Stores
 pub mod Requests
 pub mod Answers
 pub mod Wire

@@ -30,10 +30,13 @@ abbrev pub refused_or : Option Refusal → Made → Made
 refused_or (Some e) made = Err e
 refused_or None made = made
 
--- the changes made, as long as there is a revision for them
+-- the changes made behind a revision, as long as there is another for them
+abbrev pub commit_at : ℕ → Reply → World → List Mutation → Made
+commit_at now r w [] = Ok (r, w)
+commit_at now r w (m ∷ ms) = if nat_lt now last_main then Ok (r, changed w (m ∷ ms)) else Err RevisionsSpent
+
 abbrev pub commit : Reply → World → List Mutation → Made
-commit r w [] = Ok (r, w)
-commit r w (m ∷ ms) = if nat_lt (revision w) last_main then Ok (r, changed w (m ∷ ms)) else Err RevisionsSpent
+commit r w ms = commit_at (revision w) r w ms
 
 unfoldable pub range_in : World → RangeQuery → Made
 range_in w q = refused_or (range_refusal w.compacted (revision w) q)

@@ -160,13 +160,22 @@ next_body main Action.delete held = Gone
 next_body main (Action.put value lease) None = Put main 1 lease value
 next_body main (Action.put value lease) (Some kv) = Put kv.create (kv.version + 1) lease value
 
+-- the version that a change makes after others
+abbrev pub next_version : List Version → Mutation → Version
+next_version vs m = record { rev = m.rev; key = m.key; body = next_body m.rev.main m.action (value_now vs m.key) }
+
 -- the versions with one change more
 abbrev pub extend : List Version → Mutation → List Version
-extend vs m = vs ++ (record { rev = m.rev; key = m.key; body = next_body m.rev.main m.action (value_now vs m.key) }) ∷ []
+extend vs m = vs ++ next_version vs m ∷ []
 
 abbrev pub extend_all : List Version → List Mutation → List Version
 extend_all vs [] = vs
 extend_all vs (m ∷ ms) = extend_all (extend vs m) ms
+
+-- the versions that changes in a row add to others
+abbrev pub added_by : List Version → List Mutation → List Version
+added_by vs [] = []
+added_by vs (m ∷ ms) = next_version vs m ∷ added_by (extend vs m) ms
 
 -- the value and the lease that a put leaves, of a key that held this before
 abbrev pub put_action : PutRequest → Option KeyValue → Action

@@ -1,0 +1,98 @@
+-- What a Range, a Put and a DeleteRange are answered and what they change, told over a store that stands for the world.
+use Rattle.std.proofs.Common.{◌≡◌, ◌≤◌, ◌<◌, ◌≢◌, ℕ, zero, suc, ◌+◌, ◌-◌, ◌^◌, List, [], ◌∷◌, ◌++◌, length, map, Bool, true, false, cond, Option, None, Some, Result, Ok, Err, refl, sym, ◌∙◌, ap, subst, arith}
+use Rattle.std.specs.Prelude.{nat_lt, ⊤}
+use Rattle.std.specs.Option.{option_or}
+use Rattle.std.proofs.lemmas.Bool.{lt-ltb, le-ltb}
+use Rattle.kv_model.specs.declared.call.RangeQuery.{RangeQuery}
+use Rattle.kv_model.specs.declared.call.PutRequest.{PutRequest}
+use Rattle.kv_model.specs.declared.call.DeleteRequest.{DeleteRequest}
+use Rattle.kv_model.specs.declared.refusal.Refusal.{Refusal}
+use Rattle.kv_model.specs.declared.refusal.Refusal.TheVariants.{NoKey, RevisionsSpent}
+use Rattle.kv_model.specs.Lists.{is_empty}
+use Rattle.kv_model.specs.History.{Mutation, IsChange, IsBatch, now, value_at, end_of, KeyValue}
+use Rattle.kv_model.specs.Ranges.{live, range_reply, range_answer, range_refusal, refuse_if, unless_refused}
+use Rattle.kv_model.specs.Txns.{put_fault, put_change, previous_value, if_asked}
+use Rattle.kv_model.specs.Calls.{Call}
+use Rattle.kv_model.specs.Told.{Reply, Answer}
+use Rattle.kv_model.specs.World.{World, revision, versions, changed}
+use Rattle.kv_model.specs.Step.{Made, last_main, refused_or, commit_at, range_in, put_in, delete_in, made_in, answer_of, world_of, perform}
+use Rattle.kv_model.specs.Stands.{Store, StandsFor, grown}
+use Rattle.kv_model.specs.Stores.{refusal_of_range, reply_of_range, refusal_of_put, reply_of_put, changes_of_put, refusal_of_delete, reply_of_delete, changes_of_delete}
+use Rattle.kv_model.proofs.PlaceLaws.{now-above}
+use Rattle.kv_model.proofs.StandsLaws.{grown_revision, value_stands, live_stands, range_answer_stands, range_refusal_stands, put_refusal_stands, put_change_stands, delete_changes_stands, grown_stands}
+
+-- ---- Range
+
+-- where it is not refused, the reply is the whole history's
+pub range_reply_stands : (s : Store) (w : World) → StandsFor s w → (q : RangeQuery) → refusal_of_range s q ≡ None
+    → range_reply s.versions s.compacted s.revision (end_of s.revision) q ≡ range_reply (versions w) w.compacted (revision w) (end_of (revision w)) q
+range_reply_stands s w h q e =
+    let same : unless_refused None (range_reply s.versions s.compacted s.revision (end_of s.revision) q) ≡ unless_refused None (range_reply (versions w) w.compacted (revision w) (end_of (revision w)) q)
+    = sym (ap (λ o. unless_refused o (range_reply s.versions s.compacted s.revision (end_of s.revision) q)) e) ∙ range_answer_stands s w h q
+    ∙ ap (λ o. unless_refused o (range_reply (versions w) w.compacted (revision w) (end_of (revision w)) q)) (sym (range_refusal_stands s w h q) ∙ e) in cc
+
+pub range_made : (s : Store) (w : World) → StandsFor s w → (q : RangeQuery) → refusal_of_range s q ≡ None → made_in w (Call.range q) ≡ Ok (reply_of_range s q, w)
+unfolding range_in
+range_made s w h q e =
+    ap (λ o. refused_or o (Ok (Reply.range (range_reply (versions w) w.compacted (revision w) (end_of (revision w)) q), w))) (sym (range_refusal_stands s w h q) ∙ e)
+    ∙ ap (λ r. Ok (Reply.range r, w)) (sym (range_reply_stands s w h q e))
+
+pub range_refused : (s : Store) (w : World) → StandsFor s w → (q : RangeQuery) (e : Refusal) → refusal_of_range s q ≡ Some e → made_in w (Call.range q) ≡ Err e
+unfolding range_in
+range_refused s w h q e is = ap (λ o. refused_or o (Ok (Reply.range (range_reply (versions w) w.compacted (revision w) (end_of (revision w)) q), w))) (sym (range_refusal_stands s w h q) ∙ is)
+
+-- ---- Put
+
+-- a put, whatever comes of it
+pub put_told : (s : Store) (w : World) → StandsFor s w → (p : PutRequest)
+    → made_in w (Call.put p) ≡ refused_or (refusal_of_put s p) (commit_at s.revision (reply_of_put s p) w (changes_of_put s p))
+unfolding put_in
+put_told s w h p = sym (λ i. refused_or (option_or (put_fault p) (put_refusal_stands s w h p i))
+    (commit_at (h.revision_is i) (Reply.put (previous_value p.prev_kv (value_stands s w h p.key i))) w (put_change_stands s w h 0 p i ∷ [])))
+
+pub put_refused : (s : Store) (w : World) → StandsFor s w → (p : PutRequest) (e : Refusal) → refusal_of_put s p ≡ Some e → made_in w (Call.put p) ≡ Err e
+put_refused s w h p e is = put_told s w h p ∙ ap (λ o. refused_or o (commit_at s.revision (reply_of_put s p) w (changes_of_put s p))) is
+
+pub put_made : (s : Store) (w : World) → StandsFor s w → (p : PutRequest) → refusal_of_put s p ≡ None → s.revision < last_main
+    → made_in w (Call.put p) ≡ Ok (reply_of_put s p, changed w (changes_of_put s p))
+put_made s w h p none l = put_told s w h p ∙ ap (λ o. refused_or o (commit_at s.revision (reply_of_put s p) w (changes_of_put s p))) none
+    ∙ ap (λ b. cond b (Ok (reply_of_put s p, changed w (changes_of_put s p))) (Err RevisionsSpent)) (lt-ltb s.revision last_main l)
+
+-- at the last revision
+pub put_spent : (s : Store) (w : World) → StandsFor s w → (p : PutRequest) → refusal_of_put s p ≡ None → last_main ≤ s.revision → made_in w (Call.put p) ≡ Err RevisionsSpent
+put_spent s w h p none l = put_told s w h p ∙ ap (λ o. refused_or o (commit_at s.revision (reply_of_put s p) w (changes_of_put s p))) none
+    ∙ ap (λ b. cond b (Ok (reply_of_put s p, changed w (changes_of_put s p))) (Err RevisionsSpent)) (le-ltb s.revision last_main l)
+
+or-first : {X : Type 0} (a b : Option X) → option_or a b ≡ None → a ≡ None
+or-first None b e = refl
+or-first (Some x) b e = cc
+
+-- what is not refused has a key
+pub put_has_key : (s : Store) (p : PutRequest) → refusal_of_put s p ≡ None → p.key ≢ []
+put_has_key s p e none =
+    let fault : put_fault p ≡ None = or-first (put_fault p) _ e in
+    let empty : refuse_if (is_empty p.key) NoKey ≡ None = or-first (refuse_if (is_empty p.key) NoKey) _ fault in
+    let bad : Some NoKey ≡ None = ap (λ k. refuse_if (is_empty k) NoKey) (sym none) ∙ empty in cc
+
+store-one : (s : Store) (w : World) → StandsFor s w → 1 ≤ s.revision
+store-one s w h = omega (arith, now-above w.mutations h.sound.history, h.revision_is)
+
+pub put_batch : (s : Store) (w : World) → StandsFor s w → (p : PutRequest) → p.key ≢ [] → IsBatch (s.revision + 1) (changes_of_put s p)
+put_batch s w h p k =
+    let one : 1 ≤ s.revision = store-one s w h in
+    record { history = (record { behind = omega arith; number = omega arith; has_key = k }, tt, tt); at = (refl, tt) }
+
+-- the store goes on standing for the world after a put
+pub put_stands : (s : Store) (w : World) → StandsFor s w → s.watches ≡ [] → (p : PutRequest) → p.key ≢ [] → StandsFor (grown s (changes_of_put s p)) (changed w (changes_of_put s p))
+put_stands s w h none p k = grown_stands s w h none (changes_of_put s p) (put_batch s w h p k)
+
+-- what is answered to a command that is made, and to one that is refused
+pub answer_made : (s : Store) (w : World) → StandsFor s w → (call : Call) (r : Reply) (us : List Mutation) → made_in w call ≡ Ok (r, changed w us)
+    → perform w call ≡ (Ok (record { reply = r; revision = (grown s us).revision }), changed w us)
+answer_made s w h call r us made = ap (λ m. (answer_of m, world_of w m)) made ∙ ap (λ n. (Ok (record { reply = r; revision = n }), changed w us)) (sym (grown_revision s w h us))
+
+pub answer_refused : (w : World) (call : Call) (e : Refusal) → made_in w call ≡ Err e → perform w call ≡ (Err e, w)
+answer_refused w call e made = ap (λ m. (answer_of m, world_of w m)) made
+
+pub answer_read : (s : Store) (w : World) → StandsFor s w → (call : Call) (r : Reply) → made_in w call ≡ Ok (r, w) → perform w call ≡ (Ok (record { reply = r; revision = s.revision }), w)
+answer_read s w h call r made = ap (λ m. (answer_of m, world_of w m)) made ∙ ap (λ n. (Ok (record { reply = r; revision = n }), w)) (sym h.revision_is)
