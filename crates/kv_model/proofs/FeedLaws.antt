@@ -23,6 +23,7 @@ use Rattle.kv_model.specs.Feed.{Published, Snapshot, Untrimmed, absorb, grow, bl
 use Rattle.kv_model.specs.Changes.{untrimmed, change_between, batch_of, added}
 use Rattle.kv_model.specs.FeedLaws.{CommandIsPublished, ExpiryIsPublished, CommandIsOneChange, ExpiryIsOneChange, ReaderStoresPart}
 use Rattle.kv_model.proofs.HistoryLaws.{dress_after-append}
+use Rattle.kv_model.proofs.BatchLaws.{part-append}
 
 -- ---- one operation at most
 
@@ -175,15 +176,6 @@ expiry_published w = moved w (expire w).1 (expires w (due w.clock w.leases))
 
 -- ---- what a reader stores
 
-part-refl : {X : Type 0} (xs : List X) → IsPart xs xs
-part-refl [] = nothing
-part-refl (x ∷ xs) = keep (part-refl xs)
-
-part-append : {X : Type 0} {xs ys : List X} → IsPart xs ys → (zs : List X) → IsPart (xs ++ zs) (ys ++ zs)
-part-append nothing zs = part-refl zs
-part-append (keep p) zs = keep (part-append p zs)
-part-append (leave p) zs = leave (part-append p zs)
-
 part-filter : {X : Type 0} (t : X → Bool) {xs ys : List X} → IsPart xs ys → IsPart (filter t xs) ys
 part-filter t nothing = nothing
 part-filter {X} t (keep {x = x} {xs = xs} {ys = ys} p) = by (t x) (part-filter t p)
@@ -216,7 +208,7 @@ record StoresOf (s : Snapshot) (u : Untrimmed) : Type 0 where
   revision : s.revision ≡ u.revision
 
 stores_one : (s : Snapshot) (u : Untrimmed) (op : Published) → StoresOf s u → StoresOf (absorb s op) (grow u op)
-stores_one s u (Published.batch vs) h = record { part = part-append h.part vs; compacted = h.compacted; revision = ap (λ r. last_main_or r vs) h.revision }
+stores_one s u (Published.batch vs) h = record { part = part-append vs h.part; compacted = h.compacted; revision = ap (λ r. last_main_or r vs) h.revision }
 stores_one s u (Published.floor c) h = record { part = h.part; compacted = refl; revision = h.revision }
 stores_one s u Published.trim h = record { part = trimmed_part s.versions u.versions s.place s.compacted h.part; compacted = h.compacted; revision = h.revision }
 

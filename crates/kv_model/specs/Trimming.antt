@@ -1,6 +1,6 @@
 -- Trimming: one step looks at one version at or below the compaction, the oldest first (etcd: mvcc compaction).
-use Rattle.std.specs.Prelude.{ℕ, ◌+◌, ◌-◌, ◌^◌, List, length, filter, find, Bool, not, ◌&&◌, ◌||◌, ◌==◌, nat_lt, nat_le, if◌then◌else◌, Option, None, Some}
-use Rattle.std.specs.List.{list_any}
+use Rattle.std.specs.Prelude.{◌≡◌, ℕ, ◌+◌, ◌-◌, ◌^◌, List, length, filter, find, Bool, false, not, ◌&&◌, ◌||◌, ◌==◌, nat_lt, nat_le, if◌then◌else◌, Option, None, Some}
+use Rattle.std.specs.List.{list_any, AllByRecursion}
 use Rattle.kv_model.specs.declared.version.Rev.{Rev}
 use Rattle.kv_model.specs.declared.version.Version.{Version}
 use Rattle.kv_model.specs.declared.version.Body.{Body}
@@ -40,6 +40,10 @@ is_superseded vs r v = list_any (λ u. same_key u.key v.key && rev_lt v.rev u.re
 -- of the versions at or below the compaction c these go: a later one of the key is there, or it is a tombstone below c
 abbrev pub is_trimmed : List Version → ℕ → Version → Bool
 is_trimmed vs c v = is_superseded vs c v || (is_tombstone v.body && nat_lt v.rev.main c)
+
+-- nothing of these is left to take out
+abbrev pub IsSettled : List Version → ℕ → Type 0
+IsSettled vs c = AllByRecursion (λ v. (nat_le v.rev.main c && is_trimmed vs c v) ≡ false) vs
 
 -- ---- one step
 
