@@ -85,7 +85,7 @@ last_put_least = record { good = record { part = leave (leave (keep nothing)); a
 
 -- ---- what may be taken out
 
-latest-out : (xs : List Version) (v : Version) (ys : List Version) (p : Rev) (k : List ℕ) (b : Bool) → (same_key v.key k && rev_le v.rev p) ≡ b
+pub latest-out : (xs : List Version) (v : Version) (ys : List Version) (p : Rev) (k : List ℕ) (b : Bool) → (same_key v.key k && rev_le v.rev p) ≡ b
     → latest (xs ++ v ∷ ys) p k ≡ option_or (option_or (latest ys p k) (cond b (Some v) None)) (latest xs p k)
 latest-out xs v ys p k b e = last_that-append (λ u. same_key u.key k && rev_le u.rev p) xs (v ∷ ys) ∙ ap (λ a. option_or (option_or (latest ys p k) (cond a (Some v) None)) (latest xs p k)) e
 
@@ -137,7 +137,7 @@ not_refused : (c n r : ℕ) (x : ℕ) (k : List ℕ) → IsKept c n r → range_
 not_refused c n zero x k h = absurd (omega arith)
 not_refused c n (suc r) x k h = λ i. option_or (refuse_if (not_below (suc r) c h.kept i) (Compacted c)) (refuse_if (not_below n (suc r) h.past i) (Future n))
 
-kvs_of : Answered → List KeyValue
+unfoldable pub kvs_of : Answered → List KeyValue
 kvs_of (Answered.range (Ok r)) = r.kvs
 kvs_of (Answered.range (Err e)) = []
 kvs_of (Answered.watch es) = []
@@ -147,7 +147,7 @@ unfolding reply_from
 plain_kvs n r k (Some kv) = refl
 plain_kvs n r k None = refl
 
-plain_shows : (us : List Version) (c n r : ℕ) (x : ℕ) (k : List ℕ) → IsKept c n r
+pub plain_shows : (us : List Version) (c n r : ℕ) (x : ℕ) (k : List ℕ) → IsKept c n r
     → kvs_of (answered us c n (Question.range (plain_range (x ∷ k) r))) ≡ option_to_list (value_at us (end_of r) (x ∷ k))
 unfolding kvs_of range_reply reply_from
 plain_shows us c n r x k h =
@@ -156,7 +156,7 @@ plain_shows us c n r x k h =
     ∙ ap (λ kvs. (reply_from (plain_range (x ∷ k) r) n kvs).kvs) (live-one us (end_of r) (x ∷ k))
     ∙ plain_kvs n r (x ∷ k) (value_at us (end_of r) (x ∷ k))
 
-one_listed : {X : Type 0} (o p : Option X) → option_to_list o ≡ option_to_list p → o ≡ p
+pub one_listed : {X : Type 0} (o p : Option X) → option_to_list o ≡ option_to_list p → o ≡ p
 one_listed None None h = refl
 one_listed None (Some y) h = cc
 one_listed (Some x) None h = cc

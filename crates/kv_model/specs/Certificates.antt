@@ -1,5 +1,5 @@
 -- Certificates: a dump of the versions that are kept, a need for each, and what a check of the two finds.
-use Rattle.std.specs.Prelude.{ℕ, max, List, [], ◌∷◌, find, filter_map, count_by, Bool, false, not, ◌&&◌, ◌==◌, nat_lt, nat_le, if◌then◌else◌, Option, None, Some, option_map}
+use Rattle.std.specs.Prelude.{ℕ, max, List, [], ◌∷◌, find, filter_map, count_by, Bool, not, ◌&&◌, ◌==◌, nat_lt, nat_le, if◌then◌else◌, Option, None, Some, option_map}
 use Rattle.std.specs.Option.{option_or}
 use Rattle.kv_model.specs.declared.version.Rev.{Rev}
 use Rattle.kv_model.specs.declared.version.Version.{Version}
@@ -34,7 +34,7 @@ abbrev pub claim_of : Dump → Version → Option Claim
 claim_of d v = option_map (λ n. record { rev = v.rev; need = n }) (need_of d v v.body)
 
 -- a claim for each version that has a need, in order
-abbrev pub claims_of : Dump → List Claim
+unfoldable pub claims_of : Dump → List Claim
 claims_of d = filter_map (claim_of d) d.versions
 
 -- ---- its check
@@ -81,6 +81,6 @@ claims_fault d (v ∷ vs) (claim ∷ claims) = if is_at claim.rev v
     else Some (NeedFault.no_need v.rev)
 
 -- the first fault of a certificate, none where it passes: then each version is needed
-abbrev pub first_fault : Dump → List Claim → Option NeedFault
+unfoldable pub first_fault : Dump → List Claim → Option NeedFault
 first_fault d claims = option_or (option_map NeedFault.not_rising (first_fall d.versions))
     (option_or (option_map NeedFault.double_key (first_double d.versions)) (claims_fault d d.versions claims))

@@ -19,7 +19,8 @@ KeepsWell ids w k (e ∷ es) [] = ⊥
 KeepsWell ids w k (e ∷ es) (o ∷ os) = IsGood k.kept w.mutations w.compacted
     × ((l : Keeping) × Keeps ids w k e o l × KeepsWell ids (after_outcome (wire_step ids) w e o) l es os)
 
--- Each answer's bytes are those of the whole history, and trimming takes out what no answer needs: where it is done, the fewest versions are kept.
+-- Each answer's bytes are those of the whole history. Trimming takes out what no answer needs: where it is done, the fewest
+-- versions are kept.
 pub record IsRun (ids : Ids) (es : List WireEvent) (os : List WireOutcome) : Type 0 where
   pub follows : Follows ids es os
   pub keeps : KeepsWell ids opening nothing_kept es os

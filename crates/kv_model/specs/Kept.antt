@@ -1,5 +1,5 @@
 -- What a run keeps: each change adds, and trimming takes out what no least list needs.
-use Rattle.std.specs.Prelude.{◌≡◌, ℕ, List, [], ◌∷◌, ◌++◌, length, drop, filter, Bool, nat_lt, nat_le, if◌then◌else◌, MatchBool, MatchOption, Option, None, Some, ⊤}
+use Rattle.std.specs.Prelude.{◌≡◌, ℕ, List, [], ◌∷◌, ◌++◌, length, filter, Bool, nat_lt, nat_le, if◌then◌else◌, MatchBool, MatchOption, Option, None, Some, ⊤}
 use Rattle.kv_model.specs.declared.version.Version.{Version}
 use Rattle.kv_model.specs.declared.ids.Ids.{Ids}
 use Rattle.kv_model.specs.Lists.{IsIn}
@@ -9,6 +9,7 @@ use Rattle.kv_model.specs.Needs.{HasNeed}
 use Rattle.kv_model.specs.Certificates.{Dump, Claim, claims_of, first_fault}
 use Rattle.kv_model.specs.Follows.{Outcome}
 use Rattle.kv_model.specs.Wire.{WireEvent, WireTold, WireOutcome, wire_step, is_physical}
+use Rattle.kv_model.specs.Changes.{added}
 pub use Rattle.kv_model.specs.Trimming.{is_at, without_rev}
 
 -- the versions that are kept, and those of them that trimming has still to visit, the next one first
@@ -17,10 +18,6 @@ pub record Keeping : Type 0 where
   pub ahead : List Version
 
 -- ---- changes
-
--- the versions that the second world has behind those of the first
-abbrev pub added : World → World → List Version
-added w u = drop (length (versions w)) (versions u)
 
 -- what a change adds is kept; where it is an accepted Compact, all that is kept at or below it is to be visited
 abbrev pub kept_after : World → World → Keeping → Keeping

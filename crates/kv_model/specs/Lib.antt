@@ -19,6 +19,8 @@ pub mod Questions
 pub mod Needs
 pub mod Certificates
 pub mod Feed
+pub mod Changes
+pub mod FeedLaws
 pub mod Stands
 pub mod Stores
 pub mod Requests
@@ -29,4 +31,9 @@ pub mod Headline
 pub mod Laws
 pub mod Growth
 pub mod Samples
+pub mod SampleReads
+pub mod SampleTxns
+pub mod SampleLeases
+pub mod SampleWatches
+pub mod SampleTrims
 pub mod Texts

@@ -1,6 +1,6 @@
 -- Trimming: one step looks at one version at or below the compaction, the oldest first (etcd: mvcc compaction).
-use Rattle.std.specs.Prelude.{ℕ, ◌+◌, ◌-◌, ◌^◌, List, length, filter, find, Bool, not, ◌&&◌, ◌||◌, ◌==◌, nat_lt, nat_le, if◌then◌else◌, Option, None, Some}
-use Rattle.std.specs.List.{list_any}
+use Rattle.std.specs.Prelude.{◌≡◌, ℕ, ◌+◌, ◌-◌, ◌^◌, List, length, filter, find, Bool, false, not, ◌&&◌, ◌||◌, ◌==◌, nat_lt, nat_le, if◌then◌else◌, Option, None, Some}
+use Rattle.std.specs.List.{list_any, AllByRecursion}
 use Rattle.kv_model.specs.declared.version.Rev.{Rev}
 use Rattle.kv_model.specs.declared.version.Version.{Version}
 use Rattle.kv_model.specs.declared.version.Body.{Body}
@@ -34,12 +34,16 @@ is_tombstone (Put create version lease value) = Bool.false
 is_tombstone Gone = Bool.true
 
 -- a later version of its key stands at or below the revision
-abbrev pub is_superseded : List Version → ℕ → Version → Bool
+unfoldable pub is_superseded : List Version → ℕ → Version → Bool
 is_superseded vs r v = list_any (λ u. same_key u.key v.key && rev_lt v.rev u.rev && nat_le u.rev.main r) vs
 
 -- of the versions at or below the compaction c these go: a later one of the key is there, or it is a tombstone below c
 abbrev pub is_trimmed : List Version → ℕ → Version → Bool
 is_trimmed vs c v = is_superseded vs c v || (is_tombstone v.body && nat_lt v.rev.main c)
+
+-- nothing of these is left to take out
+abbrev pub IsSettled : List Version → ℕ → Type 0
+IsSettled vs c = AllByRecursion (λ v. (nat_le v.rev.main c && is_trimmed vs c v) ≡ false) vs
 
 -- ---- one step
 
@@ -64,5 +68,5 @@ trimmed_next vs p c None = finished vs p
 trimmed_next vs p c (Some v) = if nat_le v.rev.main c then visited vs c v else finished vs p
 
 -- one step over versions that rise, from a place on: it looks at the first version that is not before the place, if that is at or below c
-abbrev pub trimmed : List Version → Rev → ℕ → TrimStep
+unfoldable pub trimmed : List Version → Rev → ℕ → TrimStep
 trimmed vs p c = trimmed_next vs p c (find (λ v. not (rev_lt v.rev p)) vs)

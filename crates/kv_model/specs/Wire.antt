@@ -1,7 +1,6 @@
 -- From bytes to bytes: the events of a run, and what they are answered.
 use Rattle.std.specs.Prelude.{◌≡◌, ℕ, ℤ, pos, List, Bool, true, false, IsTrue, ◌||◌, ◌&&◌, nat_lt, if◌then◌else◌, is_some, is_none, Option, None, Some, Result, Ok, Err}
 use Rattle.kv_model.specs.declared.version.Rev.{Rev}
-use Rattle.kv_model.specs.declared.version.Version.{Version}
 use Rattle.kv_model.specs.Calls.{Call}
 use Rattle.kv_model.specs.World.{World, Watch, revision, watch_at, without_watch, at_moment}
 use Rattle.kv_model.specs.Leases.{lease_at}

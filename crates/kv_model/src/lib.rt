@@ -3,6 +3,7 @@
 
 pub mod call;
 pub mod feed;
+pub mod feed_laws;
 pub mod ids;
 pub mod laws;
 pub mod refusal;
