@@ -136,9 +136,10 @@ module _ (p : Rev) (vs : List Version) (n : ℕ) (r : IsRising vs) (at : n ≡ p
   without = filter (λ v. not (is_at p v)) vs
 
   held_is : (o : Option Version) → slice_get vs n ≡ o → (find (is_at p) vs ≡ held p o) × (without ≡ left p vs n o)
-  held_is o e =
-      (find-place p vs r ∙ ap (λ k. held p (slice_get vs k)) (sym at) ∙ ap (held p) e,
-      without-place p vs r ∙ ap (λ k. left p vs k (slice_get vs k)) (sym at) ∙ ap (left p vs n) e)
+  held_is o e = (
+    find-place p vs r ∙ ap (λ k. held p (slice_get vs k)) (sym at) ∙ ap (held p) e,
+    without-place p vs r ∙ ap (λ k. left p vs k (slice_get vs k)) (sym at) ∙ ap (left p vs n) e,
+  )
 
   -- the version before which no other stands is at the place
   pub found : (v : Version) → slice_get vs n ≡ Some v → is_at p v ≡ true → (find (is_at p) vs ≡ slice_get vs n) × (without ≡ remove vs n)

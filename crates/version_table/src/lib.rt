@@ -2,5 +2,7 @@
 #![tactic(auto)]
 
 pub mod table;
+#[cfg(test)]
+mod tests;
 
 pub use table::VersionTable;

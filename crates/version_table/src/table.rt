@@ -59,6 +59,16 @@ impl VersionTable {
         self.versions.as_slice()
     }
 
+    /// Whether `push` takes a version at this revision: it is above each one in the table. Constant time.
+    pub fn takes(&self, rev: Rev) -> bool
+        ensures { IsTrue result ↔ IsBehind rev self.now }
+    {
+        match newest(self.as_slice()) {
+            Some(newest) => is_before(newest.rev, rev),
+            None => true,
+        }
+    }
+
     /// Adds a version at the end. Its revision is above each one in the table.
     ///
     /// The error is want of memory, and the table is then as it was. Constant time, but for the growth of the list.
