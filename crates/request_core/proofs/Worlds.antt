@@ -21,7 +21,7 @@ use Rattle.kv_model.specs.World.{World, revision, changed}
 use Rattle.kv_model.specs.Step.{last_main, made_in, perform}
 use Rattle.kv_model.specs.Stands.{Store, StandsFor, grown}
 use Rattle.kv_model.specs.Stores.{refusal_of_put, reply_of_put, changes_of_put, refusal_of_range, reply_of_range}
-use Rattle.kv_model.specs.Wire.{raised}
+use Rattle.kv_model.specs.Wire.{raised, number_made}
 use Rattle.kv_model.proofs.StandsLaws.{grown_revision}
 use Rattle.kv_model.proofs.StandsCommands.{put_made, put_refused, put_spent, put_has_key, put_stands, answer_made, answer_refused, answer_read, range_made, range_refused}
 use Rattle.request_core.specs.declared.answer.Receipt.{Receipt}
@@ -67,9 +67,9 @@ answer_kept s p =
     ∙ ap (λ o. record { reply = Reply.put (previous_value p.prev_kv o); revision = s.store.revision + 1 }) (value_at-behind s.store.versions (added_by_put s.store p ∷ []) (end_of s.store.revision) p.key behind)
 
 pub put_accepted : (s : CoreState) (w : World) (p : PutRequest) (r : Receipt) → StandsFor s.store w → s.store.watches ≡ [] → fault_of_put s.store p ≡ None
-    → r.raised ≡ Some (s.store.revision + 1) → answer_of r (after_put s p) ≡ answer_after_put (after_put s p).store p
+    → r.raised ≡ Some (s.store.revision + 1) → r.watch ≡ None → answer_of r (after_put s p) ≡ answer_after_put (after_put s p).store p
     → Accepts (after_put s p) r w (perform w (Call.put p)).0 (perform w (Call.put p)).1
-put_accepted s w p r h quiet none up told =
+put_accepted s w p r h quiet none up unwatched told =
     let clear : refusal_of_put s.store p ≡ None = or-none-first _ _ none in
     let room : s.store.revision < last_main = not-spent s.store.revision (or-none-second _ _ none) in
     let made : made_in w (Call.put p) ≡ Ok (reply_of_put s.store p, changed w (changes_of_put s.store p)) = put_made s.store w h p clear room in
@@ -80,6 +80,7 @@ put_accepted s w p r h quiet none up told =
       answers = ap (λ x. x.0) all ∙ ap (λ a. Ok a) (sym (told ∙ answer_kept s p));
       stands = subst (λ u. StandsFor (after_put s p).store u) (sym (ap (λ x. x.1) all)) (put_stands s.store w h quiet p (put_has_key s.store p clear));
       raised = up ∙ ap (λ n. Some (n + 1)) h.revision_is ∙ sym (raised-by (revision w) (revision (changed w (changes_of_put s.store p))) grew) ∙ ap (λ u. raised w u) (sym (ap (λ x. x.1) all));
+      watch = unwatched ∙ sym (raised-not w.made (Some w.made)) ∙ ap (λ u. number_made w u) (sym (ap (λ x. x.1) all));
     }
 
 put_not_accepted : (s : Store) (w : World) (p : PutRequest) (e : Refusal) → StandsFor s w → (o : Option Refusal) → refusal_of_put s p ≡ o
@@ -114,15 +115,16 @@ range_fault s q e = ap (λ z. option_or (first_fault_of_range q) (revision_refus
     or-none (Some x) = refl
 
 pub range_accepted : (s : CoreState) (w : World) (q : RangeQuery) (r : Receipt) → StandsFor s.store w → q ≡ plain_range q.range.key 0 → first_fault_of_range q ≡ None
-    → r.raised ≡ None → answer_of r s ≡ record { reply = reply_of_range s.store q; revision = s.store.revision }
+    → r.raised ≡ None → r.watch ≡ None → answer_of r s ≡ record { reply = reply_of_range s.store q; revision = s.store.revision }
     → Accepts s r w (perform w (Call.range q)).0 (perform w (Call.range q)).1
-range_accepted s w q r h plain none up told =
+range_accepted s w q r h plain none up unwatched told =
     let all : perform w (Call.range q) ≡ (Ok (record { reply = reply_of_range s.store q; revision = s.store.revision }), w)
     = answer_read s.store w h (Call.range q) (reply_of_range s.store q) (range_made s.store w h q (range_fault s.store q plain ∙ none)) in
     record {
       answers = ap (λ x. x.0) all ∙ ap (λ a. Ok a) (sym told);
       stands = subst (λ u. StandsFor s.store u) (sym (ap (λ x. x.1) all)) h;
       raised = up ∙ sym (raised-not (revision w) (Some (revision w))) ∙ ap (λ u. raised w u) (sym (ap (λ x. x.1) all));
+      watch = unwatched ∙ sym (raised-not w.made (Some w.made)) ∙ ap (λ u. number_made w u) (sym (ap (λ x. x.1) all));
     }
 
 pub range_is_refused : (s : Store) (w : World) (q : RangeQuery) (e : Refusal) → StandsFor s w → q ≡ plain_range q.range.key 0 → first_fault_of_range q ≡ Some e
@@ -138,11 +140,11 @@ range_is_refused s w q e h plain one =
 -- ---- in the form that the functions cite
 
 pub put_accepted_at : (s new : CoreState) (w : World) (p : PutRequest) (r : Receipt) → StandsFor s.store w → s.store.watches ≡ [] → fault_of_put s.store p ≡ None
-    → new ≡ after_put s p → r.raised ≡ Some new.store.revision → answer_of r new ≡ answer_after_put new.store p
+    → new ≡ after_put s p → r.raised ≡ Some new.store.revision → r.watch ≡ None → answer_of r new ≡ answer_after_put new.store p
     → Accepts new r w (perform w (Call.put p)).0 (perform w (Call.put p)).1
-put_accepted_at s new w p r h quiet none e up told =
-    subst (λ (n : CoreState). r.raised ≡ Some n.store.revision → answer_of r n ≡ answer_after_put n.store p → Accepts n r w (perform w (Call.put p)).0 (perform w (Call.put p)).1)
-    (sym e) (put_accepted s w p r h quiet none) up told
+put_accepted_at s new w p r h quiet none e up unwatched told =
+    subst (λ (n : CoreState). r.raised ≡ Some n.store.revision → r.watch ≡ None → answer_of r n ≡ answer_after_put n.store p → Accepts n r w (perform w (Call.put p)).0 (perform w (Call.put p)).1)
+    (sym e) (put_accepted s w p r h quiet none) up unwatched told
 
 pub empty-length : (k : List ℕ) → nat_eq (length k) 0 ≡ is_empty k
 empty-length [] = refl

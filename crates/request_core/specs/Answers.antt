@@ -8,7 +8,7 @@ use Rattle.kv_model.specs.Txns.{previous_value}
 use Rattle.kv_model.specs.Told.{Reply, Answer as ModelAnswer}
 use Rattle.kv_model.specs.World.{World}
 use Rattle.kv_model.specs.Stands.{Store, StandsFor}
-use Rattle.kv_model.specs.Wire.{raised}
+use Rattle.kv_model.specs.Wire.{raised, number_made}
 use Rattle.range_view.specs.Replies.{kv_view, reply_view}
 use Rattle.request_core.specs.declared.answer.Receipt.{Receipt}
 use Rattle.request_core.specs.declared.answer.Todo.{Todo}
@@ -36,6 +36,7 @@ pub record Accepts (new : CoreState) (r : Receipt) (w : World) (told : Result Mo
   pub answers : told ≡ Ok (answer_of r new)
   pub stands : StandsFor new.store after
   pub raised : r.raised ≡ raised w after
+  pub watch : r.watch ≡ number_made w after
 
 -- a Range asks for nothing but its key
 abbrev pub IsPlain : Todo → Type 0

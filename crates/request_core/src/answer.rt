@@ -12,6 +12,8 @@ pub struct Receipt<'c> {
     pub revision: u64,
     /// The new revision, where the command raised it.
     pub raised: Option<u64>,
+    /// The number of a watch that the command made.
+    pub watch: Option<u64>,
     pub todo: Todo<'c>,
 }
 

@@ -141,13 +141,14 @@ impl Core {
     fn receipt_of_range<'c>(&self, query: &'c RangeQuery) -> Receipt<'c>
         requires { IsBuilt (Call.range query.now) }
         ensures answers { answer_of result self.now ≡ record { reply = reply_of_range self.now.store query.now; revision = self.now.store.revision } }
-        ensures unraised { result.raised ≡ None }
+        ensures unraised { (result.raised ≡ None) × (result.watch ≡ None) }
         ensures readable { IsReadable result self.now }
     {
         Receipt {
             stamp: self.stamp,
             revision: self.revision,
             raised: None,
+            watch: None,
             todo: Todo::Range(query),
         }
     }
@@ -175,13 +176,14 @@ impl Core {
 
     fn receipt_of_put<'c>(&self, request: &'c PutRequest) -> Receipt<'c>
         ensures answers { answer_of result self.now ≡ answer_after_put self.now.store request.now }
-        ensures raised { result.raised ≡ Some self.now.store.revision }
+        ensures raised { (result.raised ≡ Some self.now.store.revision) × (result.watch ≡ None) }
         ensures readable { IsReadable result self.now }
     {
         Receipt {
             stamp: self.stamp,
             revision: self.revision,
             raised: Some(self.revision),
+            watch: None,
             todo: Todo::Put {
                 key: &request.key,
                 previous: request.prev_kv,

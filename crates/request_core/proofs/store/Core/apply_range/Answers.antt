@@ -11,4 +11,4 @@ returns-then-is_empty-clause-refused c = λ w h. range_is_refused c.args.self.no
 pub returns-clause-accepted : goal.returns-clause-accepted
 returns-clause-accepted c = λ w h. range_accepted c.args.self.now w c.args.query.now c.receipt_of_range.result h c.requires.built
     (ap (λ b. refuse_if b NoKey) (sym (empty-length c.args.query.now.range.key) ∙ sym c.is_empty.ensures ∙ c.if-is_empty.false))
-    c.receipt_of_range.ensures.unraised c.receipt_of_range.ensures.answers
+    c.receipt_of_range.ensures.unraised.0 c.receipt_of_range.ensures.unraised.1 c.receipt_of_range.ensures.answers
