@@ -1,21 +1,26 @@
 //! Runs of events, from bytes to bytes.
 use crate::outcome::Outcome;
-use crate::perform::post;
+use crate::commands::post;
 use kv_model::ids::Ids;
-use request_core::core::Core;
+use request_core::store::Core;
 use std::alloc::{AllocError, Global};
+
+ghost use Rattle.std.specs.Prelude.{◌≡◌, map, IfOk};
+ghost use Rattle.kv_model.specs.Stands.{StandsFor};
+ghost use Rattle.kv_model.specs.Wire.{Follows, post as model_post};
+ghost use Rattle.kv_model.specs.World.{World};
 
 /// What happens to a store.
 #[derive(Clone, Copy, Debug)]
 pub enum WireEvent<'a> {
-    /// A request comes.
+    /// A request comes: a POST of this body to this path.
     Post { path: &'a [u8], body: &'a [u8] },
 }
 
 /// What an event was answered.
 #[derive(Debug, Drop)]
 pub enum WireOutcome {
-    /// To a request.
+    /// What a request was.
     Posted(Outcome),
 }
 
@@ -25,8 +30,12 @@ pub struct WireRun {
     pub outcomes: Vec<WireOutcome>,
 }
 
-/// Runs events on a fresh store. Each outcome's bytes are those of the model of the whole history.
+ghost use Rattle.json_gateway.specs.Runs.{Steps, event_view, outcome_view};
+
+/// Runs events on a fresh store. **Each outcome's bytes are those of the model of the whole history**, whatever the
+/// events are: `Follows` of the model says so.
 ///
+/// An event that found no memory counts as not made, and an answer may be lost only where its change stands.
 /// `AllocError` comes before the first event, where there is no room for the outcomes.
 pub fn run_wire(
     alloc: Global,
@@ -45,8 +54,17 @@ pub fn run_wire(
 }
 
 /// One event on a core.
-fn step(alloc: Global, core: &mut Core, event: &WireEvent<'_>, ids: &Ids) -> WireOutcome {
+fn step(alloc: Global, core: &mut Core, event: &WireEvent<'_>, ids: &Ids) -> WireOutcome
+    ensures { (w : World) → StandsFor core.old.store w → Steps ids.now w (event_view event.now) (outcome_view result) core.new }
+{
     match event {
-        WireEvent::Post { path, body } => WireOutcome::Posted(post(alloc, core, path, body, ids)),
+        WireEvent::Post { path, body } => step_post(alloc, core, path, body, ids),
     }
+}
+
+/// A request on a core, as an event of a run.
+fn step_post(alloc: Global, core: &mut Core, path: &[u8], body: &[u8], ids: &Ids) -> WireOutcome
+    ensures { (w : World) → StandsFor core.old.store w → Steps ids.now w (model_post path.now body.now) (outcome_view result) core.new }
+{
+    WireOutcome::Posted(post(alloc, core, path, body, ids))
 }
