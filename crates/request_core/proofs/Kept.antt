@@ -39,7 +39,7 @@ sound-push vs r v h room at counted = record {
   opened = omega (arith, h.opened);
   fits = omega arith;
   kept = each-append (IsUpTo (r + 1)) vs (v ∷ []) (each-map (IsUpTo r) (IsUpTo (r + 1)) (upto-more r) vs h.kept)
-    (record { main = let e : v.rev.main ≡ r + 1 = ap (λ (p : Rev). p.main) at in omega arith; counted = counted }, tt);
+      (record { main = let e : v.rev.main ≡ r + 1 = ap (λ (p : Rev). p.main) at in omega arith; counted = counted }, tt);
 }
 
 -- it is taken back by its main revision

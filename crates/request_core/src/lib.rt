@@ -2,6 +2,8 @@
 #![tactic(auto)]
 
 pub mod answer;
-pub mod store;
 mod reading;
+pub mod store;
+#[cfg(test)]
+mod tests;
 mod writing;

@@ -1,12 +1,12 @@
 //! Reads of the kept list, from its newest version back.
-use kv_model::version::{Body, Rev, Version};
-use range_view::reply::KvRef;
-
 ghost use Rattle.std.specs.Prelude.{◌≡◌, ◌&&◌, option_map, option_copied, find, reverse};
 ghost use Rattle.kv_model.specs.History.{rev_le, latest, key_value, value_at, end_of};
 ghost use Rattle.kv_model.specs.Lists.{last_that};
 ghost use Rattle.kv_model.specs.Keys.{same_key};
 ghost use Rattle.range_view.specs.Replies.{kv_view};
+
+use kv_model::version::{Body, Rev, Version};
+use range_view::reply::KvRef;
 
 /// The place behind every change of a revision.
 pub fn place_behind(main: u64) -> Rev

@@ -1,17 +1,4 @@
 //! The core: one step of the store.
-use crate::answer::{Answer, Receipt, Status, Todo};
-use crate::reading::{place_behind, value_of};
-use crate::writing::{put_fault, put_refusal, put_version};
-use bytes::Bytes;
-use kv_model::call::{Command, PutRequest, RangeQuery};
-use kv_model::feed::{NoSink, Op, Sink};
-use kv_model::refusal::Refusal;
-use kv_model::version::{Rev, Version};
-use range_view::reply::{KvRef, RangeReply};
-use std::alloc::{AllocError, Global};
-use std::marker::Model;
-use version_table::VersionTable;
-
 ghost use Rattle.kv_model.specs.Feed.{Published, published};
 ghost use Rattle.kv_model.specs.History.{end_of, value_at};
 ghost use Rattle.kv_model.specs.Ranges.{range_reply, plain_range};
@@ -19,6 +6,21 @@ ghost use Rattle.kv_model.specs.Step.{last_main};
 ghost use Rattle.range_view.specs.Replies.{kv_view, reply_view};
 ghost use Rattle.request_core.specs.Writing.{next_rev, IsCountedTo, reply_to_one};
 ghost use Rattle.std.specs.Prelude.{◌≡◌, option_map, ◌+◌, ◌-◌, ◌<◌, ◌≤◌, [], ◌∷◌, ◌++◌, length, IfOk, IfErr, OnOk, OnErr, Ok, Err, Some, None};
+
+use crate::answer::{Answer, Receipt, Status, Todo};
+use crate::reading::{place_behind, value_of};
+use crate::writing::{put_fault, put_refusal, put_version};
+use bytes::Bytes;
+use kv_model::call::{Command, PutRequest, RangeQuery};
+use kv_model::feed::{NoSink, Op, Sink};
+use kv_model::refusal::Refusal;
+#[cfg(test)]
+use kv_model::version::Body;
+use kv_model::version::{Rev, Version};
+use range_view::reply::{KvRef, RangeReply};
+use std::alloc::{AllocError, Global};
+use std::marker::Model;
+use version_table::VersionTable;
 
 /// The greatest revision.
 pub const LAST_MAIN: u64 = 9_223_372_036_854_775_807;
@@ -103,7 +105,7 @@ impl Core {
         self.apply_over(command, &mut NoSink)
     }
 
-    fn apply_over<'c, S: Sink>(
+    pub(crate) fn apply_over<'c, S: Sink>(
         &mut self,
         command: &'c Command,
         sink: &mut S,
@@ -331,4 +333,32 @@ fn one_found(
         more: false,
         revision,
     })
+}
+
+#[cfg(test)]
+impl Core {
+    /// A core that keeps one version, at the last revision but one.
+    pub fn at_last_but_one(alloc: Global) -> Result<Self, AllocError> {
+        let mut table = VersionTable::new(alloc);
+        let revision = LAST_MAIN - 1;
+        table.push(Version {
+            rev: Rev {
+                main: revision,
+                sub: 0,
+            },
+            key: Bytes::from_static(b"a"),
+            body: Body::Put {
+                create: revision,
+                version: 1,
+                lease: 0,
+                value: Bytes::new(),
+            },
+        })?;
+        Ok(Core {
+            alloc,
+            table,
+            revision,
+            stamp: 0,
+        })
+    }
 }

@@ -1,16 +1,16 @@
 //! What a put makes of a key.
+ghost use Rattle.std.specs.Prelude.{◌≡◌, [], IfOk, is_some, option_and_then, option_copied};
+ghost use Rattle.kv_model.specs.History.{key_value, value_now};
+ghost use Rattle.kv_model.specs.Leases.{is_granted};
+ghost use Rattle.kv_model.specs.Txns as txns;
+ghost use Rattle.request_core.specs.Writing.{next_version, CanCount, CanCountOn};
+
 use crate::reading::{newest_of, shown};
 use bytes::Bytes;
 use kv_model::call::PutRequest;
 use kv_model::refusal::Refusal;
 use kv_model::version::{Body, Rev, Version};
 use std::alloc::AllocError;
-
-ghost use Rattle.std.specs.Prelude.{◌≡◌, [], IfOk, is_some, option_and_then, option_copied};
-ghost use Rattle.kv_model.specs.History.{key_value, value_now};
-ghost use Rattle.kv_model.specs.Leases.{is_granted};
-ghost use Rattle.kv_model.specs.Txns as txns;
-ghost use Rattle.request_core.specs.Writing.{next_version, CanCount, CanCountOn};
 
 /// Why a put is refused whatever is kept.
 pub fn put_fault(request: &PutRequest) -> Option<Refusal>
@@ -61,7 +61,11 @@ pub fn put_version(
     requires { CanCount versions.now }
     ensures { IfOk result (λ v. v ≡ next_version versions.now rev request.now) }
 {
-    let body = next_body(rev.main, request, newest_of(versions, request.key.as_slice()))?;
+    let body = next_body(
+        rev.main,
+        request,
+        newest_of(versions, request.key.as_slice()),
+    )?;
     Ok(Version {
         rev,
         key: request.key.clone()?,
@@ -70,11 +74,7 @@ pub fn put_version(
 }
 
 /// What a put makes of a key whose newest version is this.
-fn next_body(
-    main: u64,
-    request: &PutRequest,
-    newest: Option<&Version>,
-) -> Result<Body, AllocError>
+fn next_body(main: u64, request: &PutRequest, newest: Option<&Version>) -> Result<Body, AllocError>
     requires { CanCountOn (option_copied newest) }
     ensures { IfOk result (λ b. b ≡ (let held = option_and_then key_value (option_copied newest.entry) in
         txns.next_body main (txns.put_action request.now held) held)) }
@@ -90,15 +90,31 @@ fn next_body(
             return Ok(Body::Put {
                 create: *create,
                 version: *number + 1,
-                lease: if request.ignore_lease { *lease } else { request.lease },
-                value: if request.ignore_value { value.clone()? } else { request.value.clone()? },
+                lease: if request.ignore_lease {
+                    *lease
+                } else {
+                    request.lease
+                },
+                value: if request.ignore_value {
+                    value.clone()?
+                } else {
+                    request.value.clone()?
+                },
             });
         }
     }
     Ok(Body::Put {
         create: main,
         version: 1,
-        lease: if request.ignore_lease { 0 } else { request.lease },
-        value: if request.ignore_value { Bytes::new() } else { request.value.clone()? },
+        lease: if request.ignore_lease {
+            0
+        } else {
+            request.lease
+        },
+        value: if request.ignore_value {
+            Bytes::new()
+        } else {
+            request.value.clone()?
+        },
     })
 }
