@@ -6,6 +6,7 @@ pub mod Ranges
 pub mod Events
 pub mod Calls
 pub mod Txns
+pub mod Plans
 pub mod Leases
 pub mod World
 pub mod Watches
