@@ -21,7 +21,7 @@ use Rattle.kv_model.proofs.PlaceLaws.{rev_lt-subs}
 
 -- ---- the key that a value is shown under
 
-last_that-passes : {X : Type 0} (p : X → Bool) (xs : List X) (x : X) → last_that p xs ≡ Some x → p x ≡ true
+pub last_that-passes : {X : Type 0} (p : X → Bool) (xs : List X) (x : X) → last_that p xs ≡ Some x → p x ≡ true
 last_that-passes p [] x e = cc
 last_that-passes {X} p (y ∷ ys) x e = by (last_that p ys) refl (p y) refl e (last_that-passes p ys x)
   where
@@ -30,7 +30,7 @@ last_that-passes {X} p (y ∷ ys) x e = by (last_that p ys) refl (p y) refl e (l
     by None is true f g rest = let same : y ≡ x = cc in subst (λ z. p z ≡ true) same f
     by None is false f g rest = cc
 
-shown-key : (main : ℕ) (k : List ℕ) (b : Body) (kv : KeyValue) → shown main k b ≡ Some kv → kv.key ≡ k
+pub shown-key : (main : ℕ) (k : List ℕ) (b : Body) (kv : KeyValue) → shown main k b ≡ Some kv → kv.key ≡ k
 shown-key main k (Put create version lease value) kv e = let same : _ ≡ kv = some-same _ kv e in ap (λ (x : KeyValue). x.key) (sym same)
   where
     some-same : {X : Type 0} (x y : X) → Some x ≡ Some y → x ≡ y
@@ -59,7 +59,7 @@ within-key vs p r k kv e = by (in_range r k) e
 
 -- ---- the keys that are live
 
-mapped-keys : (g : List ℕ → Option KeyValue) → ((k : List ℕ) (kv : KeyValue) → g k ≡ Some kv → kv.key ≡ k) → (ks : List (List ℕ)) → keys_of (filter_map g ks) ≡ filter (λ k. is_some (g k)) ks
+pub mapped-keys : (g : List ℕ → Option KeyValue) → ((k : List ℕ) (kv : KeyValue) → g k ≡ Some kv → kv.key ≡ k) → (ks : List (List ℕ)) → keys_of (filter_map g ks) ≡ filter (λ k. is_some (g k)) ks
 mapped-keys g h [] = refl
 mapped-keys g h (k ∷ ks) = by (g k) refl (mapped-keys g h ks)
   where
@@ -87,11 +87,11 @@ given-insert k (l ∷ ls) h a = by (key_cmp k l) (given-insert k ls h a.1)
     by Equal rest = a
     by Greater rest = (a.0, rest)
 
-given-keys : (vs : List Version) → AllByRecursion (λ v. v.key ≢ []) vs → AreGiven (keys vs)
+pub given-keys : (vs : List Version) → AllByRecursion (λ v. v.key ≢ []) vs → AreGiven (keys vs)
 given-keys [] h = tt
 given-keys (v ∷ vs) h = given-insert v.key (keys vs) h.0 (given-keys vs h.1)
 
-each-filter : {X : Type 0} (P : X → Type 0) (t : X → Bool) (xs : List X) → AllByRecursion P xs → AllByRecursion P (filter t xs)
+pub each-filter : {X : Type 0} (P : X → Type 0) (t : X → Bool) (xs : List X) → AllByRecursion P xs → AllByRecursion P (filter t xs)
 each-filter P t [] h = tt
 each-filter P t (x ∷ xs) h = by (t x) (each-filter P t xs h.1)
   where

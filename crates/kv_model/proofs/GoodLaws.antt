@@ -22,7 +22,7 @@ use Rattle.kv_model.proofs.PlaceLaws.{AreBy, each-map, each-part, each-dressed, 
 
 -- ---- small steps
 
-each-both : {X : Type 0} (P Q : X → Type 0) (xs : List X) → AllByRecursion P xs → AllByRecursion Q xs → AllByRecursion (λ x. P x × Q x) xs
+pub each-both : {X : Type 0} (P Q : X → Type 0) (xs : List X) → AllByRecursion P xs → AllByRecursion Q xs → AllByRecursion (λ x. P x × Q x) xs
 each-both P Q [] g h = tt
 each-both P Q (x ∷ xs) g h = ((g.0, h.0), each-both P Q xs g.1 h.1)
 

@@ -7,6 +7,7 @@ pub mod Events
 pub mod Calls
 pub mod Built
 pub mod Txns
+pub mod Plans
 pub mod Leases
 pub mod World
 pub mod Watches
