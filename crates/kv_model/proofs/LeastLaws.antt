@@ -118,11 +118,11 @@ put-in ms us v r h part i put e = by (latest us (end_of r) v.key) refl (e ∙ va
 
 -- ---- a version that a watch is told of stands in the list
 
-told_versions : (vs : List Version) (c : ℕ) (w : Watched) (us : List Version) → map (λ e. e.version) (map (event_of vs c w) us) ≡ us
+pub told_versions : (vs : List Version) (c : ℕ) (w : Watched) (us : List Version) → map (λ e. e.version) (map (event_of vs c w) us) ≡ us
 told_versions vs c w [] = refl
 told_versions vs c w (u ∷ us) = ap (λ xs. u ∷ xs) (told_versions vs c w us)
 
-pub versions_told : Answered → List Version
+unfoldable pub versions_told : Answered → List Version
 versions_told (Answered.range r) = []
 versions_told (Answered.watch es) = map (λ e. e.version) es
 
@@ -193,7 +193,7 @@ tombstone-left vs c v gone left = by (ranked c v.rev.main)
 
 -- the revisions that a version is needed for
 module _ (ms : List Mutation) (c : ℕ) (h : IsHistory ms) (f : c ≤ now ms) (vs : List Version) (g : IsGood vs ms c) (v : Version) (i : IsIn v vs) (left : IsLeft vs c v) where
-  sits : Sits (now ms) v.rev v.key
+  pub sits : Sits (now ms) v.rev v.key
   sits = each-in (λ u. Sits (now ms) u.rev u.key) vs v (sit-part vs ms g.part h) i
 
   pub put-kept : IsKept c (now ms) (max v.rev.main c)

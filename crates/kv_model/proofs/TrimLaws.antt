@@ -31,7 +31,7 @@ use Rattle.kv_model.proofs.PlaceLaws.{each-map, each-part, each-append, each-dre
 pub same-refl : (k : List ℕ) → same_key k k ≡ true
 same-refl k = (bytes_decides k k).1 refl
 
-both-true : (a b : Bool) → (a && b) ≡ true → (a ≡ true) × (b ≡ true)
+pub both-true : (a b : Bool) → (a && b) ≡ true → (a ≡ true) × (b ≡ true)
 both-true true true e = (refl, refl)
 both-true true false e = cc
 both-true false b e = cc
@@ -46,7 +46,7 @@ ranked a b = by (nat_cmp a b) (ranks a b)
     by Greater h = inr h
 
 -- one place is below another by its main, or within one main
-below-cases : (p q : Rev) → rev_lt p q ≡ true → (p.main < q.main) ⊎ ((p.main ≡ q.main) × (p.sub < q.sub))
+pub below-cases : (p q : Rev) → rev_lt p q ≡ true → (p.main < q.main) ⊎ ((p.main ≡ q.main) × (p.sub < q.sub))
 below-cases p q h = by (nat_cmp p.main q.main) (ranks p.main q.main) (nat_cmp p.sub q.sub) (ranks p.sub q.sub) h
   where
     by : (o : Ordering) → MatchOrdering o (p.main < q.main) (p.main ≡ q.main) (q.main < p.main)
@@ -138,7 +138,7 @@ pub record Replaces (r : ℕ) (v u : Version) : Type 0 where
   pub later : rev_lt v.rev u.rev ≡ true
   pub by : u.rev.main ≤ r
 
-replaces-of : (r : ℕ) (v u : Version) → replaces r v u ≡ true → Replaces r v u
+pub replaces-of : (r : ℕ) (v u : Version) → replaces r v u ≡ true → Replaces r v u
 replaces-of r v u e = by (same_key u.key v.key) refl (rev_lt v.rev u.rev) refl (nat_le u.rev.main r) refl e
   where
     by : (a : Bool) → same_key u.key v.key ≡ a → (b : Bool) → rev_lt v.rev u.rev ≡ b → (c : Bool) → nat_le u.rev.main r ≡ c → (a && b && c) ≡ true → Replaces r v u
@@ -147,10 +147,10 @@ replaces-of r v u e = by (same_key u.key v.key) refl (rev_lt v.rev u.rev) refl (
     by true d false f c g e = cc
     by false d b f c g e = cc
 
-replaces-as : (r : ℕ) (v u : Version) → Replaces r v u → replaces r v u ≡ true
+pub replaces-as : (r : ℕ) (v u : Version) → Replaces r v u → replaces r v u ≡ true
 replaces-as r v u h = λ i. (ap (λ k. same_key k v.key) h.key ∙ same-refl v.key) i && h.later i && le-leb u.rev.main r h.by i
 
-replaces-not : (r : ℕ) (v u : Version) → (Replaces r v u → ⊥) → replaces r v u ≡ false
+pub replaces-not : (r : ℕ) (v u : Version) → (Replaces r v u → ⊥) → replaces r v u ≡ false
 replaces-not r v u h = by (replaces r v u) refl
   where
     by : (b : Bool) → replaces r v u ≡ b → b ≡ false

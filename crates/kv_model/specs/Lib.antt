@@ -27,6 +27,7 @@ pub mod Answers
 pub mod Wire
 pub mod Kept
 pub mod Headline
+pub mod TrimmingLaws
 pub mod Laws
 pub mod Samples
 pub mod SampleReads
