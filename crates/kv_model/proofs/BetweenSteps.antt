@@ -15,7 +15,7 @@ use Rattle.kv_model.specs.History.{Mutation, IsHistory, now, dress, latest, valu
 use Rattle.kv_model.specs.Events.{event_of, events_of, matches}
 use Rattle.kv_model.specs.Questions.{Question, IsQuestion, IsKept, Answered, answered, IsGood}
 use Rattle.kv_model.specs.Trimming.{is_superseded, is_trimmed, is_tombstone, IsTrimmedTo, oldest_place}
-use Rattle.kv_model.specs.TrimmingLaws.{OldestIsTrimmedTo, TrimmingGoesOn, GoodStaysGood}
+use Rattle.kv_model.specs.TrimmingLaws.{TrimmingStartsOver, TrimmingGoesOn, GoodStaysGood}
 use Rattle.kv_model.proofs.Compacting.{same_ranges}
 use Rattle.kv_model.proofs.PlaceLaws.{each-map, each-part, each-append, last_that-none, rev_le-after, value_at-by}
 use Rattle.kv_model.proofs.GoodLaws.{dressed-before, good-value_at, good-value_now}
@@ -37,12 +37,15 @@ first_of_all p = by (rev_lt p oldest_place) refl
     by true e = absurd (no (below-cases p oldest_place e))
     by false e = refl
 
-pub oldest : OldestIsTrimmedTo
-oldest vs c = go vs
-  where
-    go : (us : List Version) → AllByRecursion (λ u. (rev_lt u.rev oldest_place && (nat_le u.rev.main c && is_trimmed vs c u)) ≡ false) us
-    go [] = tt
-    go (u ∷ us) = (ap (λ b. b && (nat_le u.rev.main c && is_trimmed vs c u)) (first_of_all u.rev), go us)
+none_behind : (vs : List Version) (c : ℕ) (us : List Version) → AllByRecursion (λ u. (rev_lt u.rev oldest_place && (nat_le u.rev.main c && is_trimmed vs c u)) ≡ false) us
+none_behind vs c [] = tt
+none_behind vs c (u ∷ us) = (ap (λ b. b && (nat_le u.rev.main c && is_trimmed vs c u)) (first_of_all u.rev), none_behind vs c us)
+
+pub starts_over : TrimmingStartsOver
+starts_over vs c = record {
+  up_to = none_behind vs c vs;
+  ahead = ap (λ (test : Version → Bool). filter test vs) (λ i u. not (first_of_all u.rev i) && nat_le u.rev.main c);
+}
 
 -- ---- later versions
 

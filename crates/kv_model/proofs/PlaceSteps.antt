@@ -9,7 +9,6 @@ use Rattle.kv_model.specs.declared.version.Rev.{Rev}
 use Rattle.kv_model.specs.declared.version.Version.{Version}
 use Rattle.kv_model.specs.History.{rev_lt}
 use Rattle.kv_model.specs.Trimming.{is_at, without_rev, place_after, oldest_place, is_superseded, is_tombstone, is_trimmed, IsTrimmedTo}
-use Rattle.kv_model.specs.TrimmingLaws.{OldestIsTrimmedTo, TrimmingGoesOn, GoesOn}
 use Rattle.kv_model.proofs.PlaceLaws.{each-map, each-append, rev_lt-main, rev_lt-mains, rev_lt-subs}
 use Rattle.kv_model.proofs.TrimLaws.{below-cases, ranked, rev_lt-turn, rev_lt-self, Precedes, AreRising, rising-mid, replaces, Replaces, replaces-not}
 

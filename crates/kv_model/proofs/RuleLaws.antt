@@ -14,8 +14,8 @@ use Rattle.kv_model.specs.Questions.{IsGood, IsLeast}
 use Rattle.kv_model.specs.Trimming.{TrimStep, trimmed, trimmed_next, visited, finished, without_rev, place_after, is_trimmed, IsSettled, IsTrimmedTo}
 use Rattle.kv_model.specs.Certificates.{Claim, claims_of}
 use Rattle.kv_model.specs.Wire.{WireTold}
-use Rattle.kv_model.specs.Kept.{Keeping, IsInLeast, IsDone, IsCertificate, Trims, dump_of}
-use Rattle.kv_model.specs.TrimmingLaws.{keeping, trim_told, IsOwn, StepsWell, TrimmedStepsWell}
+use Rattle.kv_model.specs.Kept.{Keeping, IsInLeast, IsTrimmed, IsCertificate, Trims}
+use Rattle.kv_model.specs.TrimmingLaws.{keeping, trim_told, IsOwn, StepsWell, TrimmedStepsWell, DoneIsTrimmed}
 use Rattle.kv_model.proofs.PartLaws.{in_whole}
 use Rattle.kv_model.proofs.HistoryLaws.{AllByRecursion-split}
 use Rattle.kv_model.proofs.PlaceLaws.{each-map, each-append, rev_lt-main}
@@ -226,3 +226,14 @@ steps-well w vs p certificate sound small g to own = by (find (λ u. not (rev_lt
     by : (o : Option Version) → find (λ u. not (rev_lt u.rev p)) vs ≡ o → StepsWell w vs p certificate (trimmed_next vs p w.compacted o)
     by None e = finishes w vs p certificate sound g to own (ahead-none p w.compacted vs (none-from p vs e))
     by (Some v) e = looked v (first-from p v vs e) (nat_le v.rev.main w.compacted) refl
+
+pub done-trimmed : DoneIsTrimmed
+done-trimmed w vs p n sound small g to e = by (keeping vs p w.compacted).ahead refl
+    (subst (λ t. Trims w (keeping vs p w.compacted) (keeping vs p w.compacted).ahead (trim_told t None) after) e (steps-well w vs p None sound small g to tt).trims)
+  where
+    after : Keeping
+    after = keeping (trimmed vs p w.compacted).versions (trimmed vs p w.compacted).place w.compacted
+
+    by : (a : List Version) → (keeping vs p w.compacted).ahead ≡ a → Trims w (keeping vs p w.compacted) a (WireTold.done n None) after → IsTrimmed w (keeping vs p w.compacted)
+    by [] d h = record { least = h.0.least; visited = d }
+    by (u ∷ us) d h = absurd h

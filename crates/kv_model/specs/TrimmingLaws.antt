@@ -11,7 +11,7 @@ use Rattle.kv_model.specs.Questions.{IsGood, IsLeast}
 use Rattle.kv_model.specs.Trimming.{TrimStep, trimmed, IsSettled, IsTrimmedTo, oldest_place}
 use Rattle.kv_model.specs.Certificates.{Claim, claims_of}
 use Rattle.kv_model.specs.Wire.{WireTold}
-use Rattle.kv_model.specs.Kept.{Keeping, Trims, IsCertificate, dump_of}
+use Rattle.kv_model.specs.Kept.{Keeping, Trims, IsTrimmed, IsCertificate, dump_of}
 
 -- ---- the least list
 
@@ -54,11 +54,20 @@ abbrev pub TrimmedStepsWell : Type 0
 TrimmedStepsWell = (w : World) (vs : List Version) (p : Rev) (certificate : Option (List Claim)) → IsSound w → w.compacted < 2 ^ 63
     → IsGood vs w.mutations w.compacted → IsTrimmedTo vs p w.compacted → IsOwn w vs certificate → StepsWell w vs p certificate (trimmed vs p w.compacted)
 
+-- where a step by the rule says that it is done, a least list is kept and nothing is left to visit
+abbrev pub DoneIsTrimmed : Type 0
+DoneIsTrimmed = (w : World) (vs : List Version) (p : Rev) (n : ℕ) → IsSound w → w.compacted < 2 ^ 63 → IsGood vs w.mutations w.compacted → IsTrimmedTo vs p w.compacted
+    → (trimmed vs p w.compacted).told ≡ Trimmed.done n → IsTrimmed w (keeping vs p w.compacted)
+
 -- ---- what comes between steps
 
--- before the first place nothing stands
-abbrev pub OldestIsTrimmedTo : Type 0
-OldestIsTrimmedTo = (vs : List Version) (c : ℕ) → IsTrimmedTo vs oldest_place c
+-- a Compact starts over: nothing stands before the first place, and all that is kept at or below c is to be visited
+pub record StartsOver (vs : List Version) (c : ℕ) : Type 0 where
+  pub up_to : IsTrimmedTo vs oldest_place c
+  pub ahead : (keeping vs oldest_place c).ahead ≡ filter (λ v. nat_le v.rev.main c) vs
+
+abbrev pub TrimmingStartsOver : Type 0
+TrimmingStartsOver = (vs : List Version) (c : ℕ) → StartsOver vs c
 
 -- later versions, which stand above the compaction, change nothing of what is behind the place and of what is to be visited
 pub record GoesOn (vs us : List Version) (p : Rev) (c : ℕ) : Type 0 where

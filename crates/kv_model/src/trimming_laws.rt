@@ -1,5 +1,5 @@
 //! Laws of trimming, each the contract of a function that does nothing.
-ghost use Rattle.kv_model.specs.TrimmingLaws.{SettledIsLeast, LeastIsOne, SettledIsCertified, TrimmedStepsWell, OldestIsTrimmedTo, TrimmingGoesOn, GoodStaysGood};
+ghost use Rattle.kv_model.specs.TrimmingLaws.{SettledIsLeast, LeastIsOne, SettledIsCertified, TrimmedStepsWell, DoneIsTrimmed, TrimmingStartsOver, TrimmingGoesOn, GoodStaysGood};
 
 /// What answers as the whole history does, and has nothing left to take out, is a least list.
 pub fn settled_is_least()
@@ -21,9 +21,14 @@ pub fn trimmed_steps_well()
     ensures { TrimmedStepsWell }
 {}
 
-/// Before the first place nothing stands.
-pub fn oldest_is_trimmed_to()
-    ensures { OldestIsTrimmedTo }
+/// Where a step by the rule says that it is done, a least list is kept and nothing is left to visit.
+pub fn done_is_trimmed()
+    ensures { DoneIsTrimmed }
+{}
+
+/// A Compact starts trimming over: all that is kept at or below it is to be visited.
+pub fn trimming_starts_over()
+    ensures { TrimmingStartsOver }
 {}
 
 /// Versions above the compaction change nothing of what trimming has still to visit.
