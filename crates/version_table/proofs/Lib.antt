@@ -1,0 +1,2 @@
+pub mod RevOrder
+pub mod Rising
