@@ -14,10 +14,11 @@ use Rattle.kv_model.specs.declared.call.Watched.{Watched}
 use Rattle.kv_model.specs.Lists.{IsPart, nothing, keep, leave}
 use Rattle.kv_model.specs.Keys.{same_key}
 use Rattle.kv_model.specs.History.{Mutation, IsChange, IsBefore, IsHistory, IsBatch, now, now_after, dress, value_at, value_now, end_of, rev_le, rev_lt, KeyValue}
-use Rattle.kv_model.specs.Ranges.{range_answer}
+use Rattle.kv_model.specs.Ranges.{live, range_answer}
 use Rattle.kv_model.specs.Events.{WatchEvent, matches, event_of, events_of, before_is_kept}
 use Rattle.kv_model.specs.Txns.{extend, extend_all, next_body, next_version, added_by}
 use Rattle.kv_model.specs.Questions.{Question, IsQuestion, IsRangeAt, IsKept, Answered, answered, IsGood}
+use Rattle.kv_model.proofs.KeyLaws.{live-same}
 use Rattle.kv_model.proofs.GrowthLaws.{dress-extend_all}
 use Rattle.kv_model.proofs.Compacting.{same_ranges}
 use Rattle.kv_model.proofs.PlaceLaws.{AreBy, AreBehind, each-map, each-append, each-part, each-dressed, each-change, mains-by, now-above, rev_le-end, rev_le-after, rev_lt-mains, value_at-by, value_at-behind, value_at-grows, value_now-grows}
@@ -85,6 +86,19 @@ now_after-at n r u (v ∷ us) h = now_after-at u.rev.main r v us h.1
 pub now-grows : (ms : List Mutation) (u : Mutation) (us : List Mutation) (r : ℕ) → AllByRecursion (λ m. m.rev.main ≡ r) (u ∷ us) → now (ms ++ u ∷ us) ≡ r
 now-grows ms u us r h = fold-append (λ _ (m : Mutation). m.rev.main) 1 ms (u ∷ us) ∙ now_after-at (now ms) r u us h
 
+-- ---- what was held before
+
+added-behind : (vs : List Version) (us : List Mutation) (r : ℕ) → AllByRecursion (λ u. u.rev.main ≡ r + 1) us → AreBehind (end_of r) (added_by vs us)
+added-behind vs us r h = each-added (λ p k. rev_le p (end_of r) ≡ false) vs us
+    (each-map (λ u. u.rev.main ≡ r + 1) (λ u. rev_le u.rev (end_of r) ≡ false) (λ u e. rev_le-after u.rev (end_of r) (omega arith)) us h)
+
+-- the changes of the next revision leave what each key held before them
+pub value-before : (vs : List Version) (us : List Mutation) (r : ℕ) (k : List ℕ) → AllByRecursion (λ u. u.rev.main ≡ r + 1) us → value_at (extend_all vs us) (end_of r) k ≡ value_at vs (end_of r) k
+value-before vs us r k h = ap (λ xs. value_at xs (end_of r) k) (extend_all-added vs us) ∙ value_at-behind vs (added_by vs us) (end_of r) k (added-behind vs us r h)
+
+pub live-before : (vs : List Version) (us : List Mutation) (r : ℕ) (range : KeyRange) → AllByRecursion (λ u. u.rev.main ≡ r + 1) us → live (extend_all vs us) (end_of r) range ≡ live vs (end_of r) range
+live-before vs us r range h = live-same (extend_all vs us) vs (end_of r) range (λ k. value-before vs us r k h)
+
 -- ---- a good part that grows
 
 -- at a kept revision, or the next, a good part holds what the whole holds, both grown by the same versions
@@ -133,7 +147,7 @@ event-same : (vs ws : List Version) (c : ℕ) (w : Watched) (v : Version) → va
 event-same vs ws c w v e = ap (λ (o : Option KeyValue). record { version = v; before = cond (before_is_kept c v.rev.main && w.prev_kv) o None }) e
 
 -- versions of other revisions are not told of
-events-append : (vs t : List Version) (c r n : ℕ) (w : Watched) → AllByRecursion (λ v. v.rev.main ≡ n) t → r < n → events_of (vs ++ t) c r w ≡ events_of vs c r w
+pub events-append : (vs t : List Version) (c r n : ℕ) (w : Watched) → AllByRecursion (λ v. v.rev.main ≡ n) t → r < n → events_of (vs ++ t) c r w ≡ events_of vs c r w
 events-append vs t c r n w at l =
     let ne : n ≢ r = omega arith in
     ap (map (event_of (vs ++ t) c w)) (filter-append (is_told r w) vs t

@@ -10,8 +10,8 @@ use Rattle.kv_model.specs.declared.refusal.Refusal.{Refusal}
 use Rattle.kv_model.specs.declared.refusal.Refusal.TheVariants.{NoKey, RevisionsSpent}
 use Rattle.kv_model.specs.Lists.{is_empty}
 use Rattle.kv_model.specs.History.{Mutation, IsChange, IsBatch, now, value_at, end_of, KeyValue}
-use Rattle.kv_model.specs.Ranges.{live, range_reply, range_answer, range_refusal, refuse_if, unless_refused}
-use Rattle.kv_model.specs.Txns.{put_fault, put_change, previous_value, if_asked}
+use Rattle.kv_model.specs.Ranges.{live, keys_of, range_reply, range_answer, range_refusal, refuse_if, unless_refused}
+use Rattle.kv_model.specs.Txns.{put_fault, put_change, deletes_of, delete_changes, previous_value, if_asked}
 use Rattle.kv_model.specs.Calls.{Call}
 use Rattle.kv_model.specs.Told.{Reply, Answer}
 use Rattle.kv_model.specs.World.{World, revision, versions, changed}
@@ -19,7 +19,9 @@ use Rattle.kv_model.specs.Step.{Made, last_main, refused_or, commit_at, range_in
 use Rattle.kv_model.specs.Stands.{Store, StandsFor, grown}
 use Rattle.kv_model.specs.Stores.{refusal_of_range, reply_of_range, refusal_of_put, reply_of_put, changes_of_put, refusal_of_delete, reply_of_delete, changes_of_delete}
 use Rattle.kv_model.proofs.PlaceLaws.{now-above}
-use Rattle.kv_model.proofs.StandsLaws.{grown_revision, value_stands, live_stands, range_answer_stands, range_refusal_stands, put_refusal_stands, put_change_stands, delete_changes_stands, grown_stands}
+use Rattle.std.proofs.lemmas.List.{length-map}
+use Rattle.kv_model.proofs.DeleteLaws.{live-ascends, live-given, deletes-batch}
+use Rattle.kv_model.proofs.StandsLaws.{store-given, grown_revision, value_stands, live_stands, live_now_is, range_answer_stands, range_refusal_stands, put_refusal_stands, put_change_stands, delete_changes_stands, grown_stands}
 
 -- ---- Range
 
@@ -74,7 +76,7 @@ put_has_key s p e none =
     let empty : refuse_if (is_empty p.key) NoKey ≡ None = or-first (refuse_if (is_empty p.key) NoKey) _ fault in
     let bad : Some NoKey ≡ None = ap (λ k. refuse_if (is_empty k) NoKey) (sym none) ∙ empty in cc
 
-store-one : (s : Store) (w : World) → StandsFor s w → 1 ≤ s.revision
+pub store-one : (s : Store) (w : World) → StandsFor s w → 1 ≤ s.revision
 store-one s w h = omega (arith, now-above w.mutations h.sound.history, h.revision_is)
 
 pub put_batch : (s : Store) (w : World) → StandsFor s w → (p : PutRequest) → p.key ≢ [] → IsBatch (s.revision + 1) (changes_of_put s p)
@@ -85,6 +87,63 @@ put_batch s w h p k =
 -- the store goes on standing for the world after a put
 pub put_stands : (s : Store) (w : World) → StandsFor s w → s.watches ≡ [] → (p : PutRequest) → p.key ≢ [] → StandsFor (grown s (changes_of_put s p)) (changed w (changes_of_put s p))
 put_stands s w h none p k = grown_stands s w h none (changes_of_put s p) (put_batch s w h p k)
+
+-- ---- DeleteRange
+
+delete_changes_is : (s : Store) (w : World) → StandsFor s w → (d : DeleteRequest) → changes_of_delete s d ≡ delete_changes (versions w) (revision w + 1) 0 d
+delete_changes_is s w h d = ap (λ kvs. deletes_of (s.revision + 1) 0 (keys_of kvs)) (sym (live_now_is s w h d.range)) ∙ delete_changes_stands s w h 0 d
+
+-- a delete, whatever comes of it
+pub delete_told : (s : Store) (w : World) → StandsFor s w → (d : DeleteRequest)
+    → made_in w (Call.delete d) ≡ refused_or (refusal_of_delete d) (commit_at s.revision (reply_of_delete s d) w (changes_of_delete s d))
+unfolding delete_in
+delete_told s w h d = sym (λ i. refused_or (refusal_of_delete d)
+    (commit_at (h.revision_is i) (Reply.delete (length (live_stands s w h d.range i)) (if_asked d.prev_kv (live_stands s w h d.range i))) w (delete_changes_is s w h d i)))
+
+pub delete_refused : (s : Store) (w : World) → StandsFor s w → (d : DeleteRequest) (e : Refusal) → refusal_of_delete d ≡ Some e → made_in w (Call.delete d) ≡ Err e
+delete_refused s w h d e is = delete_told s w h d ∙ ap (λ o. refused_or o (commit_at s.revision (reply_of_delete s d) w (changes_of_delete s d))) is
+
+deletes-some : (main sub : ℕ) (kvs : List KeyValue) → kvs ≢ [] → deletes_of main sub (keys_of kvs) ≢ []
+deletes-some main sub [] h = absurd (h refl)
+deletes-some main sub (kv ∷ kvs) h = λ e. cc
+
+commit-some : (n : ℕ) (r : Reply) (w : World) (us : List Mutation) → us ≢ [] → n < last_main → commit_at n r w us ≡ Ok (r, changed w us)
+commit-some n r w [] h l = absurd (h refl)
+commit-some n r w (u ∷ us) h l = ap (λ b. cond b (Ok (r, changed w (u ∷ us))) (Err RevisionsSpent)) (lt-ltb n last_main l)
+
+commit-spent : (n : ℕ) (r : Reply) (w : World) (us : List Mutation) → us ≢ [] → last_main ≤ n → commit_at n r w us ≡ Err RevisionsSpent
+commit-spent n r w [] h l = absurd (h refl)
+commit-spent n r w (u ∷ us) h l = ap (λ b. cond b (Ok (r, changed w (u ∷ us))) (Err RevisionsSpent)) (le-ltb n last_main l)
+
+-- no key of the range is live
+pub delete_nothing : (s : Store) (w : World) → StandsFor s w → (d : DeleteRequest) → refusal_of_delete d ≡ None → live s.versions (end_of s.revision) d.range ≡ []
+    → made_in w (Call.delete d) ≡ Ok (reply_of_delete s d, w)
+delete_nothing s w h d none e = delete_told s w h d ∙ ap (λ o. refused_or o (commit_at s.revision (reply_of_delete s d) w (changes_of_delete s d))) none
+    ∙ ap (λ kvs. commit_at s.revision (reply_of_delete s d) w (deletes_of (s.revision + 1) 0 (keys_of kvs))) e
+
+pub delete_made : (s : Store) (w : World) → StandsFor s w → (d : DeleteRequest) → refusal_of_delete d ≡ None → live s.versions (end_of s.revision) d.range ≢ [] → s.revision < last_main
+    → made_in w (Call.delete d) ≡ Ok (reply_of_delete s d, changed w (changes_of_delete s d))
+delete_made s w h d none some l = delete_told s w h d ∙ ap (λ o. refused_or o (commit_at s.revision (reply_of_delete s d) w (changes_of_delete s d))) none
+    ∙ commit-some s.revision (reply_of_delete s d) w (changes_of_delete s d) (deletes-some (s.revision + 1) 0 (live s.versions (end_of s.revision) d.range) some) l
+
+pub delete_spent : (s : Store) (w : World) → StandsFor s w → (d : DeleteRequest) → refusal_of_delete d ≡ None → live s.versions (end_of s.revision) d.range ≢ [] → last_main ≤ s.revision
+    → made_in w (Call.delete d) ≡ Err RevisionsSpent
+delete_spent s w h d none some l = delete_told s w h d ∙ ap (λ o. refused_or o (commit_at s.revision (reply_of_delete s d) w (changes_of_delete s d))) none
+    ∙ commit-spent s.revision (reply_of_delete s d) w (changes_of_delete s d) (deletes-some (s.revision + 1) 0 (live s.versions (end_of s.revision) d.range) some) l
+
+pub delete_batch : (s : Store) (w : World) → StandsFor s w → (d : DeleteRequest) → length (live s.versions (end_of s.revision) d.range) ≤ 2 ^ 64 → IsBatch (s.revision + 1) (changes_of_delete s d)
+delete_batch s w h d l =
+    let one : 1 ≤ s.revision = store-one s w h in
+    let kvs : List KeyValue = live s.versions (end_of s.revision) d.range in
+    deletes-batch (s.revision + 1) 0 (keys_of kvs) (live-ascends s.versions (end_of s.revision) d.range) (live-given s.versions (end_of s.revision) d.range (store-given s w h)) (omega arith)
+    (omega (arith, length-map kvs (λ (kv : KeyValue). kv.key)))
+
+-- the store goes on standing for the world after a delete
+pub delete_stands : (s : Store) (w : World) → StandsFor s w → s.watches ≡ [] → (d : DeleteRequest) → length (live s.versions (end_of s.revision) d.range) ≤ 2 ^ 64
+    → StandsFor (grown s (changes_of_delete s d)) (changed w (changes_of_delete s d))
+delete_stands s w h none d l = grown_stands s w h none (changes_of_delete s d) (delete_batch s w h d l)
+
+-- ---- what is answered
 
 -- what is answered to a command that is made, and to one that is refused
 pub answer_made : (s : Store) (w : World) → StandsFor s w → (call : Call) (r : Reply) (us : List Mutation) → made_in w call ≡ Ok (r, changed w us)

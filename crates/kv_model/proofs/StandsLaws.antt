@@ -3,6 +3,7 @@ use Rattle.std.proofs.Common.{◌≡◌, ◌≤◌, ◌<◌, ◌≢◌, ℕ, zer
 use Rattle.std.specs.Prelude.{nat_lt, pos, is_none, ⊤}
 use Rattle.std.specs.Option.{option_or}
 use Rattle.std.specs.Ordering.{int_eq}
+use Rattle.std.specs.List.{AllByRecursion}
 use Rattle.std.proofs.lemmas.List.Sums.{fold-append}
 use Rattle.std.proofs.lemmas.Bool.{lt-ltb, le-ltb}
 use Rattle.kv_model.specs.declared.version.Version.{Version}
@@ -19,7 +20,7 @@ use Rattle.kv_model.specs.Leases.{is_granted}
 use Rattle.kv_model.specs.World.{World, Watch, IsSound, revision, versions, changed}
 use Rattle.kv_model.specs.Questions.{IsKept, IsGood}
 use Rattle.kv_model.specs.Stands.{Store, Tracked, TracksAll, StandsFor, grown}
-use Rattle.kv_model.proofs.PlaceLaws.{AreBy, value_at-by}
+use Rattle.kv_model.proofs.PlaceLaws.{AreBy, each-map, each-part, each-dressed, each-change, value_at-by}
 use Rattle.kv_model.proofs.GoodLaws.{dressed-by, part-by, now-kept, good-value_at, good-value_now, good-live, good-range_answer, live_now-by}
 use Rattle.kv_model.proofs.BatchLaws.{good-grows, good-added, history-more, now-least, now-grows}
 
@@ -28,6 +29,11 @@ use Rattle.kv_model.proofs.BatchLaws.{good-grows, good-added, history-more, now-
 -- no version is behind the store's revision
 pub store-by : (s : Store) (w : World) → StandsFor s w → AreBy (end_of s.revision) s.versions
 store-by s w h = subst (λ r. AreBy (end_of r) s.versions) (sym h.revision_is) (part-by s.versions w.mutations h.good.part h.sound.history)
+
+-- no version has an empty key
+pub store-given : (s : Store) (w : World) → StandsFor s w → AllByRecursion (λ v. v.key ≢ []) s.versions
+store-given s w h = each-part (λ v. v.key ≢ []) h.good.part
+    (each-dressed (λ p k. k ≢ []) w.mutations (each-map IsChange (λ m. m.key ≢ []) (λ m c. c.has_key) w.mutations (each-change w.mutations h.sound.history)))
 
 -- what each key holds
 pub value_stands : (s : Store) (w : World) → StandsFor s w → (k : List ℕ) → value_at s.versions (end_of s.revision) k ≡ value_at (versions w) (end_of (revision w)) k

@@ -35,6 +35,9 @@ value_within vs p r k = if in_range r k then value_at vs p k else None
 unfoldable pub live : List Version → Rev → KeyRange → List KeyValue
 live vs p r = filter_map (value_within vs p r) (keys vs)
 
+abbrev pub keys_of : List KeyValue → List (List ℕ)
+keys_of kvs = map (λ kv. kv.key) kvs
+
 abbrev pub value_now_within : List Version → KeyRange → List ℕ → Option KeyValue
 value_now_within vs r k = if in_range r k then value_now vs k else None
 

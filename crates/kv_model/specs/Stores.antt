@@ -1,16 +1,16 @@
 -- What commands are answered, and what they change, told over a store that stands for a world.
-use Rattle.std.specs.Prelude.{ℕ, ◌+◌, List, [], ◌∷◌, length, Option}
+use Rattle.std.specs.Prelude.{ℕ, ◌+◌, ◌^◌, ℤ, pos, negsuc, min, max, List, [], ◌∷◌, length, map, Bool, not, nat_lt, nat_le, Option, None, Some}
 use Rattle.std.specs.Option.{option_or}
 use Rattle.kv_model.specs.declared.call.RangeQuery.{RangeQuery}
 use Rattle.kv_model.specs.declared.call.PutRequest.{PutRequest}
 use Rattle.kv_model.specs.declared.call.DeleteRequest.{DeleteRequest}
 use Rattle.kv_model.specs.declared.refusal.Refusal.{Refusal}
-use Rattle.kv_model.specs.declared.refusal.Refusal.TheVariants.{NoKey}
+use Rattle.kv_model.specs.declared.refusal.Refusal.TheVariants.{NoKey, TtlTooLarge, LeaseExists, TooManyLeases, LeaseMissing}
 use Rattle.kv_model.specs.Lists.{is_empty}
 use Rattle.kv_model.specs.History.{Mutation, value_at, end_of}
-use Rattle.kv_model.specs.Ranges.{range_refusal, range_reply, live, refuse_if}
-use Rattle.kv_model.specs.Txns.{put_fault, put_refusal, put_change, delete_changes, previous_value, if_asked}
-use Rattle.kv_model.specs.Leases.{is_granted}
+use Rattle.kv_model.specs.Ranges.{range_refusal, range_reply, live, keys_of, refuse_if}
+use Rattle.kv_model.specs.Txns.{put_fault, put_refusal, put_change, deletes_of, previous_value, if_asked}
+use Rattle.kv_model.specs.Leases.{Lease, is_granted, id_asked, ttl_asked, deadline_of, longest_ttl, most_leases, keys_of_lease, renewed, seconds_left}
 use Rattle.kv_model.specs.Told.{Reply}
 use Rattle.kv_model.specs.Stands.{Store}
 
@@ -44,4 +44,39 @@ reply_of_delete s d =
     Reply.delete (length kvs) (if_asked d.prev_kv kvs)
 
 abbrev pub changes_of_delete : Store → DeleteRequest → List Mutation
-changes_of_delete s d = delete_changes s.versions (s.revision + 1) 0 d
+changes_of_delete s d = deletes_of (s.revision + 1) 0 (keys_of (live s.versions (end_of s.revision) d.range))
+
+-- ---- leases
+
+abbrev pub with_leases : Store → List Lease → Store
+with_leases s ls = record s { leases = ls }
+
+abbrev pub refusal_of_grant : Store → ℤ → ℤ → Option Refusal
+refusal_of_grant s ttl id = option_or (refuse_if (nat_lt longest_ttl (ttl_asked ttl)) TtlTooLarge)
+    (option_or (refuse_if (is_granted s.leases id) LeaseExists)
+    (refuse_if (nat_le most_leases (length s.leases)) TooManyLeases))
+
+-- the lease that is granted
+abbrev pub granted_lease : Store → ℤ → ℤ → Lease
+granted_lease s ttl id = record { id = id_asked s.leases id; ttl = ttl_asked ttl; deadline = deadline_of s.clock (ttl_asked ttl) }
+
+abbrev pub refusal_of_revoke : Store → ℤ → Option Refusal
+refusal_of_revoke s id = refuse_if (not (is_granted s.leases id)) LeaseMissing
+
+-- the keys of the lease are deleted
+abbrev pub changes_of_revoke : Store → ℤ → List Mutation
+changes_of_revoke s id = deletes_of (s.revision + 1) 0 (keys_of_lease s.versions s.revision id)
+
+abbrev pub renewed_leases : Store → ℤ → List Lease
+renewed_leases s id = map (renewed s.clock id) s.leases
+
+-- the reply to a time to live, by the lease where it is granted
+abbrev pub reply_of_time_to_live : Store → ℤ → Bool → Option Lease → Reply
+reply_of_time_to_live s id asked None = Reply.time_to_live id (negsuc 0) 0 []
+reply_of_time_to_live s id asked (Some l) = Reply.time_to_live id (pos (seconds_left s.clock l)) l.ttl (if_asked asked (keys_of_lease s.versions s.revision id))
+
+abbrev pub reply_of_leases : Store → Reply
+reply_of_leases s = Reply.leases (map (λ l. l.id) s.leases)
+
+abbrev pub at_store_moment : Store → ℕ → Store
+at_store_moment s m = record s { clock = max s.clock (min m (2 ^ 62)) }

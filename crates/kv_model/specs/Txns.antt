@@ -209,9 +209,12 @@ effect vs main sub (Path.txn b inner rest) =
 
 -- ---- what is refused in the running
 
+-- the lease that a put names has to be granted
+abbrev pub put_lease_refusal : (ℤ → Bool) → PutRequest → Option Refusal
+put_lease_refusal granted p = refuse_if (not (int_eq p.lease (pos 0)) && not (granted p.lease)) LeaseMissing
+
 abbrev pub put_refusal : (ℤ → Bool) → List Version → PutRequest → Option Refusal
-put_refusal granted vs p = option_or (refuse_if ((p.ignore_value || p.ignore_lease) && is_none (value_now vs p.key)) KeyMissing)
-    (refuse_if (not (int_eq p.lease (pos 0)) && not (granted p.lease)) LeaseMissing)
+put_refusal granted vs p = option_or (refuse_if ((p.ignore_value || p.ignore_lease) && is_none (value_now vs p.key)) KeyMissing) (put_lease_refusal granted p)
 
 -- the first refusal of the operations that run, in order; a Range's own revision is held against the state before
 unfoldable pub run_refusal : (ℤ → Bool) → ℕ → ℕ → List Version → ℕ → Path → Option Refusal
