@@ -1,5 +1,5 @@
 -- What comes between trimming steps: later versions, and a later compaction.
-use Rattle.std.proofs.Common.{◌≡◌, ◌≤◌, ◌<◌, ◌⊎◌, ℕ, zero, suc, List, [], ◌∷◌, ◌++◌, map, filter, Bool, true, false, not, ◌&&◌, ◌||◌, Option, None, option_and_then, refl, sym, ◌∙◌, ap, inl, inr, arith}
+use Rattle.std.proofs.Common.{◌≡◌, ◌≤◌, ◌<◌, ◌⊎◌, ℕ, zero, suc, List, [], ◌∷◌, ◌++◌, map, filter, Bool, true, false, not, ◌&&◌, ◌||◌, None, option_and_then, refl, sym, ◌∙◌, ap, inl, inr, arith}
 use Rattle.std.specs.Prelude.{nat_lt, nat_le, ◌==◌}
 use Rattle.std.proofs.lemmas.Bool.{lt-leb}
 use Rattle.std.proofs.lemmas.List.{append-nil}
@@ -9,17 +9,16 @@ use Rattle.std.specs.List.{AllByRecursion, list_any}
 use Rattle.kv_model.specs.declared.version.Rev.{Rev}
 use Rattle.kv_model.specs.declared.version.Version.{Version}
 use Rattle.kv_model.specs.declared.call.Watched.{Watched}
-use Rattle.kv_model.specs.Lists.{IsPart}
 use Rattle.kv_model.specs.Keys.{same_key}
-use Rattle.kv_model.specs.History.{Mutation, IsHistory, now, dress, latest, value_at, value_now, key_value, rev_le, rev_lt, end_of}
-use Rattle.kv_model.specs.Events.{event_of, events_of, matches}
+use Rattle.kv_model.specs.History.{Mutation, IsHistory, now, dress, value_at, key_value, rev_le, rev_lt, end_of}
+use Rattle.kv_model.specs.Events.{event_of, matches}
 use Rattle.kv_model.specs.Questions.{Question, IsQuestion, IsKept, Answered, answered, IsGood}
-use Rattle.kv_model.specs.Trimming.{is_superseded, is_trimmed, is_tombstone, IsTrimmedTo, oldest_place}
+use Rattle.kv_model.specs.Trimming.{is_superseded, is_trimmed, is_tombstone, oldest_place}
 use Rattle.kv_model.specs.TrimmingLaws.{TrimmingStartsOver, TrimmingGoesOn, GoodStaysGood}
 use Rattle.kv_model.proofs.Compacting.{same_ranges}
 use Rattle.kv_model.proofs.PlaceLaws.{each-map, each-part, each-append, last_that-none, rev_le-after, value_at-by}
 use Rattle.kv_model.proofs.GoodLaws.{dressed-before, good-value_at, good-value_now}
-use Rattle.kv_model.proofs.TrimLaws.{ranked, below-cases, Sits, AllSit, sit-part, Replaces, replaces, replaces-not}
+use Rattle.kv_model.proofs.TrimLaws.{ranked, below-cases, AllSit, sit-part, replaces, replaces-not}
 use Rattle.kv_model.proofs.StepLaws.{part-self, same_event}
 use Rattle.kv_model.proofs.LeastLaws.{told_versions, versions_told}
 use Rattle.kv_model.proofs.PlaceSteps.{is_ahead, ahead-above}

@@ -1,31 +1,29 @@
 -- Where nothing is left to take out, each version has its need, and the certificate passes its check.
-use Rattle.std.proofs.Common.{◌≡◌, ◌≤◌, ◌<◌, ◌≢◌, ◌⊎◌, ℕ, ℤ, pos, max, length, filter, List, [], ◌∷◌, ◌++◌, find, filter_map, Bool, true, false, not, ◌&&◌, cond, Option, None, Some, refl, sym, ◌∙◌, ap, subst, inl, inr, arith}
-use Rattle.std.specs.Prelude.{option_map, count_by, nat_lt, nat_le, ◌==◌}
+use Rattle.std.proofs.Common.{◌≡◌, ◌≤◌, ◌≢◌, ℕ, ℤ, max, length, filter, List, [], ◌∷◌, find, filter_map, Bool, true, false, not, ◌&&◌, cond, Option, None, Some, refl, sym, ◌∙◌, ap, subst, inl, inr, arith}
+use Rattle.std.specs.Prelude.{option_map, nat_lt, ◌==◌}
 use Rattle.std.proofs.lemmas.Bool.{le-leb, le-ltb, eq-eqb, eqb-true}
 use Rattle.std.specs.Option.{option_or}
 use Rattle.std.specs.List.{AllByRecursion, cons_option}
 use Rattle.std.proofs.lemmas.List.Sums.{length-filter}
-use Rattle.kv_model.specs.declared.version.Rev.{Rev}
 use Rattle.kv_model.specs.declared.version.Version.{Version}
 use Rattle.kv_model.specs.declared.version.Body.{Body}
 use Rattle.kv_model.specs.declared.version.Body.TheVariants.{Put, Gone}
 use Rattle.kv_model.specs.Lists.{IsPart, IsIn, is_empty}
 use Rattle.kv_model.specs.Keys.{same_key}
-use Rattle.kv_model.specs.History.{Mutation, IsHistory, now, dress, value_at, key_value, end_of, rev_lt}
+use Rattle.kv_model.specs.History.{value_at, end_of}
 use Rattle.kv_model.specs.Ranges.{plain_range}
-use Rattle.kv_model.specs.Events.{plain_watch}
 use Rattle.kv_model.specs.World.{World, IsSound, revision, versions}
 use Rattle.kv_model.specs.Questions.{Question, IsKept, answered, IsGood}
 use Rattle.kv_model.specs.Needs.{Need, HasNeed}
-use Rattle.kv_model.specs.Trimming.{is_at, is_tombstone, is_superseded, is_trimmed, IsSettled}
-use Rattle.kv_model.specs.Certificates.{Dump, Claim, need_of, claim_of, claims_of, is_met, is_asked, NeedFault, fall_after, first_fall, is_double, first_double, claims_fault, first_fault}
-use Rattle.kv_model.specs.Kept.{dump_of, AreNeeds, IsCertificate}
+use Rattle.kv_model.specs.Trimming.{is_tombstone, is_superseded}
+use Rattle.kv_model.specs.Certificates.{Claim, need_of, claim_of, claims_of, is_met, is_asked, NeedFault, fall_after, first_fall, is_double, claims_fault, first_fault}
+use Rattle.kv_model.specs.Kept.{dump_of, AreNeeds}
 use Rattle.kv_model.specs.TrimmingLaws.{SettledIsCertified}
 use Rattle.kv_model.proofs.PartLaws.{in_whole}
 use Rattle.kv_model.proofs.Compacting.{kvs_of, plain_shows, one_listed}
 use Rattle.kv_model.proofs.HistoryLaws.{same_key-eq}
-use Rattle.kv_model.proofs.TrimLaws.{same-refl, Precedes, AreRising, rising-dress, rising-part, Sits}
-use Rattle.kv_model.proofs.LeastLaws.{Stand, stand, each-in, IsLeft, put-in, told-in, sits, put-kept, put-shown, tombstone-kept, tombstone-left, not-replaced}
+use Rattle.kv_model.proofs.TrimLaws.{Precedes, AreRising, rising-dress, rising-part}
+use Rattle.kv_model.proofs.LeastLaws.{stand, IsLeft, put-in, told-in, sits, put-kept, put-shown, tombstone-kept, not-replaced}
 
 -- what answers a plain Range alike holds the same
 same-value : (us vs : List Version) (c n r : ℕ) (k : List ℕ) → k ≢ [] → IsKept c n r
@@ -114,7 +112,7 @@ matches_claims w vs [] h = refl
 matches_claims w vs (u ∷ us) h =
     ap (λ (o : Option Claim). claims_fault (dump_of w vs) (u ∷ us) (cons_option o (filter_map (claim_of (dump_of w vs)) us))) (claimed w vs u h.0)
     ∙ (λ i. cond (eq-eqb u.rev.main u.rev.main refl i && eq-eqb u.rev.sub u.rev.sub refl i)
-        (cond (h.0.met i) (claims_fault (dump_of w vs) us (filter_map (claim_of (dump_of w vs)) us)) (Some (NeedFault.need_unmet u.rev))) (Some (NeedFault.no_need u.rev)))
+    (cond (h.0.met i) (claims_fault (dump_of w vs) us (filter_map (claim_of (dump_of w vs)) us)) (Some (NeedFault.need_unmet u.rev))) (Some (NeedFault.no_need u.rev)))
     ∙ matches_claims w vs us h.1
 
 -- ---- a list that rises has no fault of its own

@@ -1,17 +1,17 @@
 -- Where nothing is left to take out, each version is needed, and so the list is the one least.
-use Rattle.std.proofs.Common.{◌≡◌, ◌≤◌, ◌<◌, ◌≢◌, ◌⊎◌, ℕ, ℤ, max, List, [], ◌∷◌, ◌++◌, length, map, filter, Bool, true, false, ◌&&◌, ◌||◌, cond, Option, None, Some, option_and_then, refl, sym, ◌∙◌, ap, subst, inl, inr, arith}
-use Rattle.std.specs.Prelude.{⊤, nat_lt, nat_le, nat_eq, ◌==◌}
+use Rattle.std.proofs.Common.{◌≡◌, ◌≤◌, ◌<◌, ◌⊎◌, ℕ, max, List, [], ◌∷◌, ◌++◌, map, filter, Bool, true, false, ◌&&◌, ◌||◌, cond, Option, None, Some, option_and_then, refl, sym, ◌∙◌, ap, subst, inl, inr, arith}
+use Rattle.std.specs.Prelude.{nat_lt, nat_le, ◌==◌}
 use Rattle.std.proofs.lemmas.Bool.{le-leb, lt-ltb, eq-eqb}
 use Rattle.std.specs.Option.{option_or}
-use Rattle.std.specs.List.{AllByRecursion, list_any}
+use Rattle.std.specs.List.{AllByRecursion}
 use Rattle.kv_model.specs.declared.version.Version.{Version}
 use Rattle.kv_model.specs.declared.version.Body.{Body}
 use Rattle.kv_model.specs.declared.version.Body.TheVariants.{Put, Gone}
 use Rattle.kv_model.specs.declared.call.Watched.{Watched}
 use Rattle.kv_model.specs.Lists.{IsPart, IsIn, IsOnce, last_that}
-use Rattle.kv_model.specs.Keys.{same_key, in_range, one_key}
-use Rattle.kv_model.specs.History.{Mutation, IsHistory, KeyValue, now, dress, latest, value_at, key_value, shown, rev_le, rev_lt, end_of}
-use Rattle.kv_model.specs.Events.{WatchEvent, event_of, events_of, matches, wants, plain_watch}
+use Rattle.kv_model.specs.Keys.{same_key}
+use Rattle.kv_model.specs.History.{Mutation, IsHistory, KeyValue, now, dress, latest, value_at, key_value, shown, rev_le, end_of}
+use Rattle.kv_model.specs.Events.{event_of, matches, wants, plain_watch}
 use Rattle.kv_model.specs.Questions.{Question, IsKept, Answered, answered, IsGood, IsLeast}
 use Rattle.kv_model.specs.Trimming.{is_superseded, is_tombstone, is_trimmed, IsSettled}
 use Rattle.kv_model.proofs.PartLaws.{in_whole, part_length, part_same}
@@ -19,8 +19,8 @@ use Rattle.kv_model.proofs.Compacting.{latest-out}
 use Rattle.kv_model.proofs.HistoryLaws.{same_key-eq}
 use Rattle.kv_model.proofs.PlaceLaws.{rev_le-end}
 use Rattle.kv_model.proofs.GoodLaws.{good-value_at}
-use Rattle.kv_model.proofs.TrimLaws.{same-refl, ranked, rev_lt-self, Precedes, AreRising, rising-dress, rising-part, rising-mid, Sits, AllSit, sit-part, superseded-mid, low, last_seen}
-use Rattle.kv_model.proofs.StepLaws.{Settles, settles}
+use Rattle.kv_model.proofs.TrimLaws.{same-refl, ranked, rev_lt-self, Precedes, AreRising, rising-dress, rising-part, rising-mid, Sits, sit-part, superseded-mid, low, last_seen}
+use Rattle.kv_model.proofs.StepLaws.{settles}
 
 -- ---- elements
 

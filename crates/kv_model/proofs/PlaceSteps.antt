@@ -1,16 +1,15 @@
 -- A trimming step from a place on, over versions that rise.
-use Rattle.std.proofs.Common.{◌≡◌, ◌≤◌, ◌<◌, ◌⊎◌, ℕ, zero, ◌+◌, ◌-◌, ◌^◌, List, [], ◌∷◌, ◌++◌, find, filter, Bool, true, false, not, ◌&&◌, ◌||◌, cond, Option, None, Some, refl, sym, ◌∙◌, ap, subst, inl, inr, arith}
-use Rattle.std.specs.Prelude.{⊤, nat_lt, nat_le, nat_eq, ◌==◌}
-use Rattle.std.proofs.lemmas.Bool.{leb-true, lt-leb, lt-ltb, le-ltb, eqb-true, eq-eqb}
+use Rattle.std.proofs.Common.{◌≡◌, ◌≤◌, ◌<◌, ◌⊎◌, ℕ, ◌+◌, ◌-◌, ◌^◌, List, [], ◌∷◌, ◌++◌, find, filter, Bool, true, false, not, ◌&&◌, cond, None, Some, refl, sym, ◌∙◌, ap, inl, inr, arith}
+use Rattle.std.specs.Prelude.{nat_le, ◌==◌}
+use Rattle.std.proofs.lemmas.Bool.{lt-leb, lt-ltb, le-ltb, eqb-true, eq-eqb}
 use Rattle.std.proofs.lemmas.List.Elements.{filter-append}
-use Rattle.std.proofs.lemmas.List.Folds.{list_any-append}
-use Rattle.std.specs.List.{AllByRecursion, list_any}
+use Rattle.std.specs.List.{AllByRecursion}
 use Rattle.kv_model.specs.declared.version.Rev.{Rev}
 use Rattle.kv_model.specs.declared.version.Version.{Version}
 use Rattle.kv_model.specs.History.{rev_lt}
-use Rattle.kv_model.specs.Trimming.{is_at, without_rev, place_after, oldest_place, is_superseded, is_tombstone, is_trimmed, IsTrimmedTo}
-use Rattle.kv_model.proofs.PlaceLaws.{each-map, each-append, rev_lt-main, rev_lt-mains, rev_lt-subs}
-use Rattle.kv_model.proofs.TrimLaws.{below-cases, ranked, rev_lt-turn, rev_lt-self, Precedes, AreRising, rising-mid, replaces, Replaces, replaces-not}
+use Rattle.kv_model.specs.Trimming.{is_at, without_rev, place_after}
+use Rattle.kv_model.proofs.PlaceLaws.{each-map, rev_lt-mains, rev_lt-subs}
+use Rattle.kv_model.proofs.TrimLaws.{below-cases, ranked, Precedes, AreRising, rising-mid}
 
 -- ---- places
 

@@ -1,18 +1,18 @@
 -- A trimming step by the rule is one that a run may make.
-use Rattle.std.proofs.Common.{◌≡◌, ◌≤◌, ◌<◌, ◌⊎◌, ℕ, ◌-◌, ◌^◌, List, [], ◌∷◌, ◌++◌, length, find, filter, Bool, true, false, not, ◌&&◌, ◌||◌, cond, Option, None, Some, refl, sym, ◌∙◌, ap, subst, inl, inr, arith}
-use Rattle.std.specs.Prelude.{⊤, nat_lt, nat_le, MatchOption}
-use Rattle.std.proofs.lemmas.Bool.{leb-true, le-leb, leb-false, lt-leb}
+use Rattle.std.proofs.Common.{◌≡◌, ◌≤◌, ◌<◌, ◌⊎◌, ℕ, ◌^◌, List, [], ◌∷◌, ◌++◌, length, find, filter, Bool, true, false, not, ◌&&◌, cond, Option, None, Some, refl, sym, ◌∙◌, ap, subst, inl, inr, arith}
+use Rattle.std.specs.Prelude.{⊤, nat_le, MatchOption}
+use Rattle.std.proofs.lemmas.Bool.{leb-true, le-leb, leb-false}
 use Rattle.std.proofs.lemmas.List.Elements.{filter-append}
-use Rattle.std.specs.List.{AllByRecursion, list_any}
+use Rattle.std.specs.List.{AllByRecursion}
 use Rattle.kv_model.specs.declared.version.Rev.{Rev}
 use Rattle.kv_model.specs.declared.version.Version.{Version}
-use Rattle.kv_model.specs.Lists.{IsPart, IsIn}
-use Rattle.kv_model.specs.History.{Mutation, now, rev_lt}
+use Rattle.kv_model.specs.Lists.{IsIn}
+use Rattle.kv_model.specs.History.{now, rev_lt}
 use Rattle.kv_model.specs.World.{World, IsSound}
 use Rattle.kv_model.specs.Told.{Trimmed}
-use Rattle.kv_model.specs.Questions.{IsGood, IsLeast}
+use Rattle.kv_model.specs.Questions.{IsGood}
 use Rattle.kv_model.specs.Trimming.{TrimStep, trimmed, trimmed_next, visited, finished, without_rev, place_after, is_trimmed, IsSettled, IsTrimmedTo}
-use Rattle.kv_model.specs.Certificates.{Claim, claims_of}
+use Rattle.kv_model.specs.Certificates.{Claim}
 use Rattle.kv_model.specs.Wire.{WireTold}
 use Rattle.kv_model.specs.Kept.{Keeping, IsInLeast, IsTrimmed, IsCertificate, Trims}
 use Rattle.kv_model.specs.TrimmingLaws.{keeping, trim_told, IsOwn, StepsWell, TrimmedStepsWell, DoneIsTrimmed}
@@ -20,7 +20,7 @@ use Rattle.kv_model.proofs.PartLaws.{in_whole}
 use Rattle.kv_model.proofs.HistoryLaws.{AllByRecursion-split}
 use Rattle.kv_model.proofs.PlaceLaws.{each-map, each-append, rev_lt-main}
 use Rattle.kv_model.proofs.TrimLaws.{Precedes, AreRising, rising-dress, rising-part, rising-mid, Sits, AllSit, sit-part, AreLeft, rev_lt-self}
-use Rattle.kv_model.proofs.StepLaws.{Settles, settles, fewer, step-good}
+use Rattle.kv_model.proofs.StepLaws.{settles, fewer, step-good}
 use Rattle.kv_model.proofs.LeastLaws.{each-in, IsLeft, stays-in, settled-least, least-settled}
 use Rattle.kv_model.proofs.PlaceSteps.{rev_lt-trans, not-before, after-self, after-next, First, first-from, none-from, is_ahead, ahead-none, ahead-above, ahead-same, without-mid}
 use Rattle.kv_model.proofs.CertificateLaws.{settled-certified}
@@ -64,8 +64,9 @@ in-append (z ∷ xs) ys x (inr i) = elim (in-append xs ys x i) [ inl j ↦ inl (
 -- a version stands once
 mid-once : (xs : List Version) (v : Version) (ys : List Version) → AreRising (xs ++ v ∷ ys) → IsIn v (xs ++ ys) → ⊥
 mid-once xs v ys h i = elim (in-append xs ys v i) [
-  inl j ↦ (let e : true ≡ false = sym (each-in (λ u. Precedes u v) xs v (rising-mid xs v ys h).0 j).0 ∙ rev_lt-self v.rev in cc)
-  | inr j ↦ (let e : true ≡ false = sym (each-in (Precedes v) ys v (rising-mid xs v ys h).1 j).0 ∙ rev_lt-self v.rev in cc) ]
+  | inl j ↦ (let e : true ≡ false = sym (each-in (λ u. Precedes u v) xs v (rising-mid xs v ys h).0 j).0 ∙ rev_lt-self v.rev in cc)
+  | inr j ↦ (let e : true ≡ false = sym (each-in (Precedes v) ys v (rising-mid xs v ys h).1 j).0 ∙ rev_lt-self v.rev in cc)
+]
 
 in-mid : {X : Type 0} (xs : List X) (v : X) (ys : List X) → IsIn v (xs ++ v ∷ ys)
 in-mid [] v ys = inl refl
@@ -184,15 +185,19 @@ module _ (w : World) (xs : List Version) (v : Version) (ys : List Version) (p : 
 
       up_to : IsTrimmedTo (xs ++ v ∷ ys) next w.compacted
       up_to = each-append (λ u. (rev_lt u.rev next && (nat_le u.rev.main w.compacted && is_trimmed (xs ++ v ∷ ys) w.compacted u)) ≡ false) xs (v ∷ ys)
-          (each-map (IsLeft (xs ++ v ∷ ys) w.compacted) (λ u. (rev_lt u.rev next && (nat_le u.rev.main w.compacted && is_trimmed (xs ++ v ∷ ys) w.compacted u)) ≡ false) drop_first xs left)
-          (drop_first v here, each-map (λ u. rev_lt u.rev next ≡ false) (λ u. (rev_lt u.rev next && (nat_le u.rev.main w.compacted && is_trimmed (xs ++ v ∷ ys) w.compacted u)) ≡ false)
-          (λ u l. ap (λ b. b && (nat_le u.rev.main w.compacted && is_trimmed (xs ++ v ∷ ys) w.compacted u)) l) ys ys-behind)
+          (each-map (IsLeft (xs ++ v ∷ ys) w.compacted) (λ u. (rev_lt u.rev next && (nat_le u.rev.main w.compacted && is_trimmed (xs ++ v ∷ ys) w.compacted u)) ≡ false) drop_first xs left) (
+            drop_first v here,
+            each-map (λ u. rev_lt u.rev next ≡ false) (λ u. (rev_lt u.rev next && (nat_le u.rev.main w.compacted && is_trimmed (xs ++ v ∷ ys) w.compacted u)) ≡ false)
+                (λ u l. ap (λ b. b && (nat_le u.rev.main w.compacted && is_trimmed (xs ++ v ∷ ys) w.compacted u)) l) ys ys-behind,
+          )
 
       some : IsInLeast w v
       some =
-          let s = settles w.mutations w.compacted (xs ++ v ∷ ys) sound.history g in
-          (s.settled, settled-least w.mutations w.compacted s.settled sound.history sound.floor s.good s.is_settled,
-          stays-in w.mutations w.compacted sound.history sound.floor (xs ++ v ∷ ys) g v (in-mid xs v ys) here s.settled s.good)
+          let s = settles w.mutations w.compacted (xs ++ v ∷ ys) sound.history g in (
+            s.settled,
+            settled-least w.mutations w.compacted s.settled sound.history sound.floor s.good s.is_settled,
+            stays-in w.mutations w.compacted sound.history sound.floor (xs ++ v ∷ ys) g v (in-mid xs v ys) here s.settled s.good,
+          )
 
       trims : Trims w (keeping (xs ++ v ∷ ys) p w.compacted) (keeping (xs ++ v ∷ ys) p w.compacted).ahead (WireTold.kept v.rev) (keeping (xs ++ v ∷ ys) next w.compacted)
       trims = subst (λ (a : List Version). Trims w (record { kept = xs ++ v ∷ ys; ahead = a }) a (WireTold.kept v.rev) (keeping (xs ++ v ∷ ys) next w.compacted)) (sym ahead-is)

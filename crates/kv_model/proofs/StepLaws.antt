@@ -1,16 +1,16 @@
 -- What a trimming step leaves is good, and steps come to an end where nothing is left to take out.
-use Rattle.std.proofs.Common.{append_assoc, ◌≡◌, ◌≤◌, ◌<◌, ◌⊎◌, ℕ, ◌-◌, List, [], ◌∷◌, ◌++◌, map, filter, Bool, true, false, ◌&&◌, ◌||◌, cond, Option, None, refl, sym, ◌∙◌, ap, subst, arith}
-use Rattle.std.specs.Prelude.{nat_eq, nat_lt, nat_le, ◌==◌}
+use Rattle.std.proofs.Common.{append_assoc, ◌≡◌, ◌≤◌, ◌<◌, ℕ, ◌-◌, List, [], ◌∷◌, ◌++◌, map, filter, Bool, true, false, ◌&&◌, ◌||◌, cond, None, refl, sym, ◌∙◌, ap, subst, arith}
+use Rattle.std.specs.Prelude.{nat_lt, nat_le, ◌==◌}
 use Rattle.std.proofs.lemmas.Bool.{ltb-true, eqb-true}
 use Rattle.std.proofs.lemmas.List.{append-nil}
 use Rattle.std.proofs.lemmas.List.Folds.{list_any-append}
 use Rattle.std.proofs.lemmas.List.Elements.{filter-append}
-use Rattle.std.specs.List.{AllByRecursion, list_any}
+use Rattle.std.specs.List.{list_any}
 use Rattle.kv_model.specs.declared.version.Version.{Version}
 use Rattle.kv_model.specs.declared.call.Watched.{Watched}
 use Rattle.kv_model.specs.Lists.{IsPart, nothing, keep, leave}
-use Rattle.kv_model.specs.History.{Mutation, IsHistory, KeyValue, now, dress, value_at, end_of}
-use Rattle.kv_model.specs.Events.{WatchEvent, event_of, events_of, before_is_kept, matches}
+use Rattle.kv_model.specs.History.{Mutation, IsHistory, now, dress, value_at, end_of}
+use Rattle.kv_model.specs.Events.{WatchEvent, event_of, events_of, matches}
 use Rattle.kv_model.specs.Questions.{Question, IsQuestion, Answered, answered, IsGood}
 use Rattle.kv_model.specs.Trimming.{is_superseded, is_tombstone, is_trimmed, IsSettled}
 use Rattle.kv_model.proofs.Compacting.{same_ranges}

@@ -1,9 +1,8 @@
 -- What a trimming step takes out changes no answer.
-use Rattle.std.proofs.Common.{◌≡◌, ◌≤◌, ◌<◌, ◌≢◌, ◌⊎◌, ℕ, ◌-◌, ◌^◌, List, [], ◌∷◌, ◌++◌, map, filter, Bool, true, false, ◌&&◌, ◌||◌, cond, Option, None, Some, is_some, refl, sym, ◌∙◌, ap, subst, inl, inr, arith}
-use Rattle.std.specs.Prelude.{⊤, nat_lt, nat_le, ◌==◌}
+use Rattle.std.proofs.Common.{◌≡◌, ◌≤◌, ◌<◌, ◌≢◌, ◌⊎◌, ℕ, ◌^◌, List, [], ◌∷◌, ◌++◌, Bool, true, false, ◌&&◌, ◌||◌, cond, Option, None, Some, is_some, refl, sym, ◌∙◌, ap, inl, inr, arith}
+use Rattle.std.specs.Prelude.{⊤, nat_lt, nat_le}
 use Rattle.std.proofs.lemmas.Bool.{leb-true, le-leb, ltb-true}
 use Rattle.std.proofs.lemmas.List.Folds.{list_any-append}
-use Rattle.std.proofs.lemmas.List.Elements.{filter-append}
 use Rattle.std.specs.Option.{option_or}
 use Rattle.std.specs.List.{AllByRecursion, list_any}
 use Rattle.std.specs.declared.cmp.Ordering.{Ordering}
@@ -15,16 +14,13 @@ use Rattle.kv_model.specs.declared.version.Rev.{Rev}
 use Rattle.kv_model.specs.declared.version.Version.{Version}
 use Rattle.kv_model.specs.declared.version.Body.{Body}
 use Rattle.kv_model.specs.declared.version.Body.TheVariants.{Put, Gone}
-use Rattle.kv_model.specs.declared.call.Watched.{Watched}
-use Rattle.kv_model.specs.Lists.{IsPart, nothing, keep, leave, last_that}
+use Rattle.kv_model.specs.Lists.{IsPart, nothing, keep, leave}
 use Rattle.kv_model.specs.Keys.{same_key}
-use Rattle.kv_model.specs.History.{Mutation, IsChange, IsBefore, IsHistory, now, dress, dress_after, latest, value_at, rev_le, rev_lt, end_of}
-use Rattle.kv_model.specs.Events.{WatchEvent, event_of, events_of, matches}
-use Rattle.kv_model.specs.Questions.{Question, IsQuestion, Answered, answered, IsGood}
+use Rattle.kv_model.specs.History.{Mutation, IsChange, IsHistory, now, dress, dress_after, latest, value_at, rev_le, rev_lt, end_of}
 use Rattle.kv_model.specs.Trimming.{is_superseded, is_tombstone, is_trimmed}
 use Rattle.kv_model.proofs.HistoryLaws.{same_key-eq, AllByRecursion-split}
-use Rattle.kv_model.proofs.Compacting.{same_ranges, superseded-out, tombstone-out}
-use Rattle.kv_model.proofs.PlaceLaws.{each-map, each-part, each-append, each-dressed, each-change, mains-by, last_that-none, rev_le-end, rev_le-after, rev_lt-main}
+use Rattle.kv_model.proofs.Compacting.{superseded-out, tombstone-out}
+use Rattle.kv_model.proofs.PlaceLaws.{each-map, each-part, each-dressed, each-change, mains-by, last_that-none, rev_le-end, rev_le-after, rev_lt-main}
 
 -- ---- small steps
 

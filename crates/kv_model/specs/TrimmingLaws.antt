@@ -1,9 +1,8 @@
 -- Laws of trimming: its rule takes out what no least list needs, and ends at the one least.
-use Rattle.std.specs.Prelude.{◌≡◌, ℕ, ◌≤◌, ◌<◌, ◌^◌, List, [], ◌∷◌, ◌++◌, filter, Bool, not, ◌&&◌, nat_le, Option, MatchOption, ⊤}
+use Rattle.std.specs.Prelude.{◌≡◌, ℕ, ◌≤◌, ◌<◌, ◌^◌, List, ◌++◌, filter, not, ◌&&◌, nat_le, Option, MatchOption, ⊤}
 use Rattle.std.specs.List.{AllByRecursion}
 use Rattle.kv_model.specs.declared.version.Rev.{Rev}
 use Rattle.kv_model.specs.declared.version.Version.{Version}
-use Rattle.kv_model.specs.Lists.{IsIn}
 use Rattle.kv_model.specs.History.{Mutation, IsHistory, now, rev_lt}
 use Rattle.kv_model.specs.World.{World, IsSound}
 use Rattle.kv_model.specs.Told.{Trimmed}
