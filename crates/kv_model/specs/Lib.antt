@@ -5,6 +5,7 @@ pub mod History
 pub mod Ranges
 pub mod Events
 pub mod Calls
+pub mod Built
 pub mod Txns
 pub mod Leases
 pub mod World

@@ -1,0 +1,37 @@
+-- What events and outcomes of a run say, in the definitions' terms.
+use Rattle.std.specs.Prelude.{ℕ, Option}
+use Rattle.kv_model.specs.declared.ids.Ids.{Ids}
+use Rattle.kv_model.specs.World.{World}
+use Rattle.kv_model.specs.Stands.{StandsFor}
+use Rattle.kv_model.specs.Follows as follows
+use Rattle.kv_model.specs.Wire as model
+use Rattle.kv_model.specs.Wire.{WireTold, wire_step, is_free, takes_memory, MayLose}
+use Rattle.request_core.specs.State.{CoreState}
+use Rattle.json_gateway.specs.declared.outcome.Settled.{Settled}
+use Rattle.json_gateway.specs.declared.outcome.Settled.TheVariants as settled
+use Rattle.json_gateway.specs.declared.outcome.Outcome.{Outcome}
+use Rattle.json_gateway.specs.declared.wire.WireEvent.{WireEvent}
+use Rattle.json_gateway.specs.declared.wire.WireEvent.TheVariants.{Post}
+use Rattle.json_gateway.specs.declared.wire.WireOutcome.{WireOutcome}
+use Rattle.json_gateway.specs.declared.wire.WireOutcome.TheVariants.{Posted}
+use Rattle.json_gateway.specs.Outcomes.{response_of}
+
+abbrev pub event_view : WireEvent → model.WireEvent
+event_view (Post path body) = model.WireEvent.post path.now body.now
+
+-- how a request ended, with the new revision where it rose and the number of a watch made
+abbrev pub ending_view : Settled → Option ℕ → Option ℕ → model.WireOutcome
+ending_view (settled.Reply r) up watch = follows.Outcome.said (WireTold.reply (response_of r) up watch)
+ending_view settled.Memory up watch = follows.Outcome.memory
+ending_view (settled.Lost revision) up watch = follows.Outcome.lost (record { revision = revision; raised = up; watch = watch })
+
+abbrev pub command_view : Outcome → model.WireOutcome
+command_view o = ending_view o.settled o.raised o.watch
+
+abbrev pub outcome_view : WireOutcome → model.WireOutcome
+outcome_view (Posted o) = command_view o
+
+-- the outcome is the model's for this event, and the core then stands for the world after it
+pub record Steps (ids : Ids) (w : World) (e : model.WireEvent) (o : model.WireOutcome) (new : CoreState) : Type 0 where
+  pub answers : follows.Answers (wire_step ids) is_free takes_memory MayLose w e o
+  pub stands : StandsFor new.store (follows.after_outcome (wire_step ids) w e o)

@@ -1,0 +1,163 @@
+//! One command or one request on a core, from bytes to bytes.
+use crate::outcome::{Outcome, Reply, Settled};
+use gateway_read::bad::Bad;
+use gateway_read::read;
+use gateway_text::{Wording, put_text, range_text, refusal_text, refusal_wording};
+use kv_model::call::Command;
+use kv_model::ids::Ids;
+use kv_model::refusal::Refusal;
+use request_core::answer::{Answer, Receipt};
+use request_core::store::Core;
+use std::alloc::{AllocError, Global};
+
+ghost use Rattle.std.specs.Prelude.{◌≡◌, ◌++◌, IfOk};
+ghost use Rattle.kv_model.specs.Answers.{answered, fault, response_to};
+ghost use Rattle.kv_model.specs.Built.{IsBuilt};
+ghost use Rattle.kv_model.specs.Calls.{call_of};
+ghost use Rattle.kv_model.specs.Requests.{request_of};
+ghost use Rattle.kv_model.specs.Stands.{StandsFor};
+ghost use Rattle.kv_model.specs.Step.{made_in, perform as perform_in};
+ghost use Rattle.kv_model.specs.Wire.{IsChange, IsChangeBy, reply_to};
+ghost use Rattle.kv_model.specs.World.{World};
+ghost use Rattle.gateway_text.specs.Views.{wording_view};
+ghost use Rattle.request_core.specs.Answers.{IsReadable, answer_of, answer_view};
+ghost use Rattle.json_gateway.specs.Outcomes.{Declines, Dismisses, Ends, Settles, fault_of_reading};
+
+/// Does one command on a core, and gives its outcome.
+///
+/// The answer is written after the command is done: where no memory is found for it and the command changed the
+/// store, the outcome is `Lost`, and where it changed nothing, `Memory`.
+pub fn perform(alloc: Global, core: &mut Core, command: &Command, ids: &Ids) -> Outcome
+    requires { IsBuilt (call_of command.now) }
+    ensures { (w : World) → StandsFor core.old.store w → Ends result core.old core.new w
+        (response_to ids.now (perform_in w (call_of command.now)).0) (perform_in w (call_of command.now)).1
+        (λ l. IsChange w (call_of command.now) l (made_in w (call_of command.now))) }
+{
+    match core.apply(command) {
+        Ok(receipt) => Outcome {
+            settled: settled(alloc, core, &receipt, ids),
+            raised: receipt.raised,
+            watch: receipt.watch,
+        },
+        Err(refusal) => Outcome {
+            settled: declined(alloc, refusal),
+            raised: None,
+            watch: None,
+        },
+    }
+}
+
+/// Does what a request asks on a core, and gives its outcome.
+pub fn post(alloc: Global, core: &mut Core, path: &[u8], body: &[u8], ids: &Ids) -> Outcome
+    ensures { (w : World) → StandsFor core.old.store w → Ends result core.old core.new w
+        (reply_to ids.now w path.now body.now).0 (reply_to ids.now w path.now body.now).1
+        (λ l. IsChangeBy w l (request_of path.now body.now)) }
+{
+    match read(alloc, path, body) {
+        Ok(command) => perform(alloc, core, &command, ids),
+        Err(bad) => Outcome {
+            settled: dismissed(alloc, bad),
+            raised: None,
+            watch: None,
+        },
+    }
+}
+
+/// How an accepted command ends.
+fn settled(alloc: Global, core: &Core, receipt: &Receipt<'_>, ids: &Ids) -> Settled
+    requires { IsReadable receipt.now core.now }
+    ensures { Settles result (answered ids.now (answer_of receipt.now core.now)) receipt.now.raised }
+{
+    match answer_text(alloc, core, receipt, ids) {
+        Ok(body) => Settled::Reply(Reply { status: 200, body }),
+        Err(_) => match receipt.raised {
+            Some(revision) => Settled::Lost(revision),
+            None => Settled::Memory,
+        },
+    }
+}
+
+/// The body of the answer to an accepted command.
+fn answer_text(
+    alloc: Global,
+    core: &Core,
+    receipt: &Receipt<'_>,
+    ids: &Ids,
+) -> Result<Vec<u8>, AllocError>
+    requires { IsReadable receipt.now core.now }
+    ensures { IfOk result (λ v. v.items ≡ (answered ids.now (answer_of receipt.now core.now)).body) }
+{
+    let answer = core.answer(receipt)?;
+    text(alloc, &answer, ids)
+}
+
+/// The JSON text of an answer (the etcd documentation, "gRPC gateway"), written once into one buffer.
+///
+/// `AllocError` comes where that buffer finds no memory.
+pub fn text(alloc: Global, answer: &Answer<'_>, ids: &Ids) -> Result<Vec<u8>, AllocError>
+    ensures { IfOk result (λ v. v.items ≡ (answered ids.now (answer_view answer.now)).body) }
+{
+    match answer {
+        Answer::Range(reply) => range_text(alloc, reply, ids),
+        Answer::Put { revision, previous } => put_text(alloc, *revision, *previous, ids),
+    }
+}
+
+/// How a refused command ends.
+fn declined(alloc: Global, refusal: Refusal) -> Settled
+    ensures { Declines result refusal }
+{
+    if refusal == Refusal::Memory {
+        return Settled::Memory;
+    }
+    let wording = refusal_wording(refusal);
+    match refusal_text(alloc, &wording) {
+        Ok(body) => Settled::Reply(Reply {
+            status: wording.status,
+            body,
+        }),
+        Err(_) => Settled::Memory,
+    }
+}
+
+/// How a request that is not read ends.
+fn dismissed(alloc: Global, bad: Bad) -> Settled
+    ensures { Dismisses result bad }
+{
+    if bad == Bad::Memory {
+        return Settled::Memory;
+    }
+    let wording = bad_wording(bad);
+    match refusal_text(alloc, &wording) {
+        Ok(body) => Settled::Reply(Reply {
+            status: wording.status,
+            body,
+        }),
+        Err(_) => Settled::Memory,
+    }
+}
+
+/// What a request that is not read is told. Takes no memory.
+fn bad_wording(bad: Bad) -> Wording<'static>
+    ensures { wording_view result ≡ fault_of_reading bad }
+{
+    match bad {
+        Bad::NotJson => worded(400, 3, "gateway: body is not a JSON object", ""),
+        Bad::BadField(field) => worded(400, 3, "gateway: bad field ", field.snake()),
+        Bad::BadBase64(field) => worded(400, 3, "gateway: bad base64 in ", field.snake()),
+        Bad::NoPath => worded(404, 5, "gateway: no such path", ""),
+        Bad::TooLong => worded(400, 3, "gateway: body too long", ""),
+        Bad::Memory => worded(500, 13, "etcdserver: out of memory", ""),
+    }
+}
+
+fn worded(status: u16, code: u16, text: &'static str, name: &'static str) -> Wording<'static>
+    ensures { wording_view result ≡ fault status code (text.now ++ name.now) }
+{
+    Wording {
+        status,
+        code,
+        text,
+        name,
+    }
+}

@@ -1,0 +1,47 @@
+//! What a command or a request was answered.
+use gateway_text::{lost_text, memory_text};
+
+/// A reply: an HTTP status, and the bytes of a JSON body.
+#[derive(Debug, Drop)]
+pub struct Reply {
+    pub status: u16,
+    pub body: Vec<u8>,
+}
+
+/// How a request ended.
+#[derive(Debug, Drop)]
+pub enum Settled {
+    /// It was answered, be it by a refusal.
+    Reply(Reply),
+    /// It found no memory and changed nothing.
+    Memory,
+    /// It changed the store, which is at this revision since, and found no memory for its answer.
+    Lost(u64),
+}
+
+/// The outcome of a command.
+#[derive(Debug, Drop)]
+pub struct Outcome {
+    pub settled: Settled,
+    /// The new revision, where it rose.
+    pub raised: Option<u64>,
+    /// The number of a watch that was made.
+    pub watch: Option<u64>,
+}
+
+impl Settled {
+    ghost use Rattle.std.specs.Prelude.{◌≡◌};
+    ghost use Rattle.json_gateway.specs.Outcomes.{shown};
+
+    /// The HTTP status and the body. The two texts of status 500 are fixed. Takes no memory.
+    pub fn wire(&self) -> (u16, &[u8])
+        ensures status { result.0 ≡ (shown self.now).status }
+        ensures body { result.1.now ≡ (shown self.now).body }
+    {
+        match self {
+            Settled::Reply(reply) => (reply.status, reply.body.as_slice()),
+            Settled::Memory => (500, memory_text()),
+            Settled::Lost(_) => (500, lost_text()),
+        }
+    }
+}

@@ -1,0 +1,70 @@
+//! Runs of events, from bytes to bytes.
+use crate::outcome::Outcome;
+use crate::commands::post;
+use kv_model::ids::Ids;
+use request_core::store::Core;
+use std::alloc::{AllocError, Global};
+
+ghost use Rattle.std.specs.Prelude.{◌≡◌, map, IfOk};
+ghost use Rattle.kv_model.specs.Stands.{StandsFor};
+ghost use Rattle.kv_model.specs.Wire.{Follows, post as model_post};
+ghost use Rattle.kv_model.specs.World.{World};
+
+/// What happens to a store.
+#[derive(Clone, Copy, Debug)]
+pub enum WireEvent<'a> {
+    /// A request comes: a POST of this body to this path.
+    Post { path: &'a [u8], body: &'a [u8] },
+}
+
+/// What an event was answered.
+#[derive(Debug, Drop)]
+pub enum WireOutcome {
+    /// What a request was.
+    Posted(Outcome),
+}
+
+/// The outcomes of a run, one for each event, in order.
+#[derive(Debug, Drop)]
+pub struct WireRun {
+    pub outcomes: Vec<WireOutcome>,
+}
+
+ghost use Rattle.json_gateway.specs.Runs.{Steps, event_view, outcome_view};
+
+/// Runs events on a fresh store. **Each outcome's bytes are those of the model of the whole history**, whatever the
+/// events are: `Follows` of the model says so.
+///
+/// An event that found no memory counts as not made, and an answer may be lost only where its change stands.
+/// `AllocError` comes before the first event, where there is no room for the outcomes.
+pub fn run_wire(
+    alloc: Global,
+    events: &[WireEvent<'_>],
+    ids: &Ids,
+) -> Result<WireRun, AllocError>
+    ensures { IfOk result (λ run. Follows ids.now (map event_view events.now) (map outcome_view run.outcomes.items)) }
+{
+    let mut outcomes = Vec::with_capacity(alloc, events.len())?;
+    let mut core = Core::new(alloc);
+    for event in events {
+        let outcome = step(alloc, &mut core, event, ids);
+        outcomes.push(outcome).unwrap();
+    }
+    Ok(WireRun { outcomes })
+}
+
+/// One event on a core.
+fn step(alloc: Global, core: &mut Core, event: &WireEvent<'_>, ids: &Ids) -> WireOutcome
+    ensures { (w : World) → StandsFor core.old.store w → Steps ids.now w (event_view event.now) (outcome_view result) core.new }
+{
+    match event {
+        WireEvent::Post { path, body } => step_post(alloc, core, path, body, ids),
+    }
+}
+
+/// A request on a core, as an event of a run.
+fn step_post(alloc: Global, core: &mut Core, path: &[u8], body: &[u8], ids: &Ids) -> WireOutcome
+    ensures { (w : World) → StandsFor core.old.store w → Steps ids.now w (model_post path.now body.now) (outcome_view result) core.new }
+{
+    WireOutcome::Posted(post(alloc, core, path, body, ids))
+}

@@ -1,0 +1,7 @@
+// One step of the store: a command, its answer, and what is kept.
+#![tactic(auto)]
+
+pub mod answer;
+pub mod store;
+mod reading;
+mod writing;
