@@ -1,17 +1,17 @@
 -- Where nothing is left to take out, each version is needed, and so the list is the one least.
-use Rattle.std.proofs.Common.{◌≡◌, ◌≤◌, ◌<◌, ◌≢◌, ◌⊎◌, ℕ, ℤ, max, List, [], ◌∷◌, ◌++◌, length, map, filter, Bool, true, false, ◌&&◌, ◌||◌, cond, Option, None, Some, option_and_then, refl, sym, ◌∙◌, ap, subst, inl, inr, arith}
-use Rattle.std.specs.Prelude.{⊤, nat_lt, nat_le, nat_eq, ◌==◌}
+use Rattle.std.proofs.Common.{◌≡◌, ◌≤◌, ◌<◌, ◌⊎◌, ℕ, max, List, [], ◌∷◌, ◌++◌, map, filter, Bool, true, false, ◌&&◌, ◌||◌, cond, Option, None, Some, option_and_then, refl, sym, ◌∙◌, ap, subst, inl, inr, arith}
+use Rattle.std.specs.Prelude.{nat_lt, nat_le, ◌==◌}
 use Rattle.std.proofs.lemmas.Bool.{le-leb, lt-ltb, eq-eqb}
 use Rattle.std.specs.Option.{option_or}
-use Rattle.std.specs.List.{AllByRecursion, list_any}
+use Rattle.std.specs.List.{AllByRecursion}
 use Rattle.kv_model.specs.declared.version.Version.{Version}
 use Rattle.kv_model.specs.declared.version.Body.{Body}
 use Rattle.kv_model.specs.declared.version.Body.TheVariants.{Put, Gone}
 use Rattle.kv_model.specs.declared.call.Watched.{Watched}
 use Rattle.kv_model.specs.Lists.{IsPart, IsIn, IsOnce, last_that}
-use Rattle.kv_model.specs.Keys.{same_key, in_range, one_key}
-use Rattle.kv_model.specs.History.{Mutation, IsHistory, KeyValue, now, dress, latest, value_at, key_value, shown, rev_le, rev_lt, end_of}
-use Rattle.kv_model.specs.Events.{WatchEvent, event_of, events_of, matches, wants, plain_watch}
+use Rattle.kv_model.specs.Keys.{same_key}
+use Rattle.kv_model.specs.History.{Mutation, IsHistory, KeyValue, now, dress, latest, value_at, key_value, shown, rev_le, end_of}
+use Rattle.kv_model.specs.Events.{event_of, matches, wants, plain_watch}
 use Rattle.kv_model.specs.Questions.{Question, IsKept, Answered, answered, IsGood, IsLeast}
 use Rattle.kv_model.specs.Trimming.{is_superseded, is_tombstone, is_trimmed, IsSettled}
 use Rattle.kv_model.proofs.PartLaws.{in_whole, part_length, part_same}
@@ -19,8 +19,8 @@ use Rattle.kv_model.proofs.Compacting.{latest-out}
 use Rattle.kv_model.proofs.HistoryLaws.{same_key-eq}
 use Rattle.kv_model.proofs.PlaceLaws.{rev_le-end}
 use Rattle.kv_model.proofs.GoodLaws.{good-value_at}
-use Rattle.kv_model.proofs.TrimLaws.{same-refl, ranked, rev_lt-self, Precedes, AreRising, rising-dress, rising-part, rising-mid, Sits, AllSit, sit-part, superseded-mid, low, last_seen}
-use Rattle.kv_model.proofs.StepLaws.{Settles, settles}
+use Rattle.kv_model.proofs.TrimLaws.{same-refl, ranked, rev_lt-self, Precedes, AreRising, rising-dress, rising-part, rising-mid, Sits, sit-part, superseded-mid, low, last_seen}
+use Rattle.kv_model.proofs.StepLaws.{settles}
 
 -- ---- elements
 
@@ -118,11 +118,11 @@ put-in ms us v r h part i put e = by (latest us (end_of r) v.key) refl (e ∙ va
 
 -- ---- a version that a watch is told of stands in the list
 
-told_versions : (vs : List Version) (c : ℕ) (w : Watched) (us : List Version) → map (λ e. e.version) (map (event_of vs c w) us) ≡ us
+pub told_versions : (vs : List Version) (c : ℕ) (w : Watched) (us : List Version) → map (λ e. e.version) (map (event_of vs c w) us) ≡ us
 told_versions vs c w [] = refl
 told_versions vs c w (u ∷ us) = ap (λ xs. u ∷ xs) (told_versions vs c w us)
 
-pub versions_told : Answered → List Version
+unfoldable pub versions_told : Answered → List Version
 versions_told (Answered.range r) = []
 versions_told (Answered.watch es) = map (λ e. e.version) es
 
@@ -193,7 +193,7 @@ tombstone-left vs c v gone left = by (ranked c v.rev.main)
 
 -- the revisions that a version is needed for
 module _ (ms : List Mutation) (c : ℕ) (h : IsHistory ms) (f : c ≤ now ms) (vs : List Version) (g : IsGood vs ms c) (v : Version) (i : IsIn v vs) (left : IsLeft vs c v) where
-  sits : Sits (now ms) v.rev v.key
+  pub sits : Sits (now ms) v.rev v.key
   sits = each-in (λ u. Sits (now ms) u.rev u.key) vs v (sit-part vs ms g.part h) i
 
   pub put-kept : IsKept c (now ms) (max v.rev.main c)

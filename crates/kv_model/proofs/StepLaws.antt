@@ -1,16 +1,16 @@
 -- What a trimming step leaves is good, and steps come to an end where nothing is left to take out.
-use Rattle.std.proofs.Common.{append_assoc, ◌≡◌, ◌≤◌, ◌<◌, ◌⊎◌, ℕ, ◌-◌, List, [], ◌∷◌, ◌++◌, map, filter, Bool, true, false, ◌&&◌, ◌||◌, cond, Option, None, refl, sym, ◌∙◌, ap, subst, arith}
-use Rattle.std.specs.Prelude.{nat_eq, nat_lt, nat_le, ◌==◌}
+use Rattle.std.proofs.Common.{append_assoc, ◌≡◌, ◌≤◌, ◌<◌, ℕ, ◌-◌, List, [], ◌∷◌, ◌++◌, map, filter, Bool, true, false, ◌&&◌, ◌||◌, cond, None, refl, sym, ◌∙◌, ap, subst, arith}
+use Rattle.std.specs.Prelude.{nat_lt, nat_le, ◌==◌}
 use Rattle.std.proofs.lemmas.Bool.{ltb-true, eqb-true}
 use Rattle.std.proofs.lemmas.List.{append-nil}
 use Rattle.std.proofs.lemmas.List.Folds.{list_any-append}
 use Rattle.std.proofs.lemmas.List.Elements.{filter-append}
-use Rattle.std.specs.List.{AllByRecursion, list_any}
+use Rattle.std.specs.List.{list_any}
 use Rattle.kv_model.specs.declared.version.Version.{Version}
 use Rattle.kv_model.specs.declared.call.Watched.{Watched}
 use Rattle.kv_model.specs.Lists.{IsPart, nothing, keep, leave}
-use Rattle.kv_model.specs.History.{Mutation, IsHistory, KeyValue, now, dress, value_at, end_of}
-use Rattle.kv_model.specs.Events.{WatchEvent, event_of, events_of, before_is_kept, matches}
+use Rattle.kv_model.specs.History.{Mutation, IsHistory, now, dress, value_at, end_of}
+use Rattle.kv_model.specs.Events.{WatchEvent, event_of, events_of, matches}
 use Rattle.kv_model.specs.Questions.{Question, IsQuestion, Answered, answered, IsGood}
 use Rattle.kv_model.specs.Trimming.{is_superseded, is_tombstone, is_trimmed, IsSettled}
 use Rattle.kv_model.proofs.Compacting.{same_ranges}
@@ -34,7 +34,7 @@ part-without (x ∷ xs) v ys = keep (part-without xs v ys)
 -- ---- the events of a revision
 
 -- lists that hold the same from the compaction on tell of a version alike
-same_event : (us vs : List Version) (c : ℕ) (w : Watched) → ((r : ℕ) (k : List ℕ) → c ≤ r → value_at us (end_of r) k ≡ value_at vs (end_of r) k) → (u : Version) → event_of us c w u ≡ event_of vs c w u
+pub same_event : (us vs : List Version) (c : ℕ) (w : Watched) → ((r : ℕ) (k : List ℕ) → c ≤ r → value_at us (end_of r) k ≡ value_at vs (end_of r) k) → (u : Version) → event_of us c w u ≡ event_of vs c w u
 same_event us vs c w same u = by (nat_lt c u.rev.main) refl
   where
     by : (b : Bool) → nat_lt c u.rev.main ≡ b
@@ -43,7 +43,7 @@ same_event us vs c w same u = by (nat_lt c u.rev.main) refl
         λ i. record { version = u; before = cond w.prev_kv (same (u.rev.main - 1) u.key (omega arith) i) None }
     by false e = refl
 
-differs : (a b : ℕ) → a < b → (a == b) ≡ false
+pub differs : (a b : ℕ) → a < b → (a == b) ≡ false
 differs a b l = by (a == b) refl
   where
     by : (t : Bool) → (a == b) ≡ t → t ≡ false
@@ -89,7 +89,7 @@ step-good ms c xs v ys h g left e = record { part = part-trans (part-without xs 
 -- ---- steps to the end
 
 -- what is left stays left where less is kept
-fewer : (xs : List Version) (v : Version) (ys : List Version) (c : ℕ) (u : Version) → (nat_le u.rev.main c && is_trimmed (xs ++ v ∷ ys) c u) ≡ false → (nat_le u.rev.main c && is_trimmed (xs ++ ys) c u) ≡ false
+pub fewer : (xs : List Version) (v : Version) (ys : List Version) (c : ℕ) (u : Version) → (nat_le u.rev.main c && is_trimmed (xs ++ v ∷ ys) c u) ≡ false → (nat_le u.rev.main c && is_trimmed (xs ++ ys) c u) ≡ false
 unfolding is_superseded
 fewer xs v ys c u e =
     let test : Version → Bool = replaces c u in

@@ -1,9 +1,8 @@
 -- What a trimming step takes out changes no answer.
-use Rattle.std.proofs.Common.{◌≡◌, ◌≤◌, ◌<◌, ◌≢◌, ◌⊎◌, ℕ, ◌-◌, ◌^◌, List, [], ◌∷◌, ◌++◌, map, filter, Bool, true, false, ◌&&◌, ◌||◌, cond, Option, None, Some, is_some, refl, sym, ◌∙◌, ap, subst, inl, inr, arith}
-use Rattle.std.specs.Prelude.{⊤, nat_lt, nat_le, ◌==◌}
+use Rattle.std.proofs.Common.{◌≡◌, ◌≤◌, ◌<◌, ◌≢◌, ◌⊎◌, ℕ, ◌^◌, List, [], ◌∷◌, ◌++◌, Bool, true, false, ◌&&◌, ◌||◌, cond, Option, None, Some, is_some, refl, sym, ◌∙◌, ap, inl, inr, arith}
+use Rattle.std.specs.Prelude.{⊤, nat_lt, nat_le}
 use Rattle.std.proofs.lemmas.Bool.{leb-true, le-leb, ltb-true}
 use Rattle.std.proofs.lemmas.List.Folds.{list_any-append}
-use Rattle.std.proofs.lemmas.List.Elements.{filter-append}
 use Rattle.std.specs.Option.{option_or}
 use Rattle.std.specs.List.{AllByRecursion, list_any}
 use Rattle.std.specs.declared.cmp.Ordering.{Ordering}
@@ -15,23 +14,20 @@ use Rattle.kv_model.specs.declared.version.Rev.{Rev}
 use Rattle.kv_model.specs.declared.version.Version.{Version}
 use Rattle.kv_model.specs.declared.version.Body.{Body}
 use Rattle.kv_model.specs.declared.version.Body.TheVariants.{Put, Gone}
-use Rattle.kv_model.specs.declared.call.Watched.{Watched}
-use Rattle.kv_model.specs.Lists.{IsPart, nothing, keep, leave, last_that}
+use Rattle.kv_model.specs.Lists.{IsPart, nothing, keep, leave}
 use Rattle.kv_model.specs.Keys.{same_key}
-use Rattle.kv_model.specs.History.{Mutation, IsChange, IsBefore, IsHistory, now, dress, dress_after, latest, value_at, rev_le, rev_lt, end_of}
-use Rattle.kv_model.specs.Events.{WatchEvent, event_of, events_of, matches}
-use Rattle.kv_model.specs.Questions.{Question, IsQuestion, Answered, answered, IsGood}
+use Rattle.kv_model.specs.History.{Mutation, IsChange, IsHistory, now, dress, dress_after, latest, value_at, rev_le, rev_lt, end_of}
 use Rattle.kv_model.specs.Trimming.{is_superseded, is_tombstone, is_trimmed}
 use Rattle.kv_model.proofs.HistoryLaws.{same_key-eq, AllByRecursion-split}
-use Rattle.kv_model.proofs.Compacting.{same_ranges, superseded-out, tombstone-out}
-use Rattle.kv_model.proofs.PlaceLaws.{each-map, each-part, each-append, each-dressed, each-change, mains-by, last_that-none, rev_le-end, rev_le-after, rev_lt-main}
+use Rattle.kv_model.proofs.Compacting.{superseded-out, tombstone-out}
+use Rattle.kv_model.proofs.PlaceLaws.{each-map, each-part, each-dressed, each-change, mains-by, last_that-none, rev_le-end, rev_le-after, rev_lt-main}
 
 -- ---- small steps
 
 pub same-refl : (k : List ℕ) → same_key k k ≡ true
 same-refl k = (bytes_decides k k).1 refl
 
-both-true : (a b : Bool) → (a && b) ≡ true → (a ≡ true) × (b ≡ true)
+pub both-true : (a b : Bool) → (a && b) ≡ true → (a ≡ true) × (b ≡ true)
 both-true true true e = (refl, refl)
 both-true true false e = cc
 both-true false b e = cc
@@ -46,7 +42,7 @@ ranked a b = by (nat_cmp a b) (ranks a b)
     by Greater h = inr h
 
 -- one place is below another by its main, or within one main
-below-cases : (p q : Rev) → rev_lt p q ≡ true → (p.main < q.main) ⊎ ((p.main ≡ q.main) × (p.sub < q.sub))
+pub below-cases : (p q : Rev) → rev_lt p q ≡ true → (p.main < q.main) ⊎ ((p.main ≡ q.main) × (p.sub < q.sub))
 below-cases p q h = by (nat_cmp p.main q.main) (ranks p.main q.main) (nat_cmp p.sub q.sub) (ranks p.sub q.sub) h
   where
     by : (o : Ordering) → MatchOrdering o (p.main < q.main) (p.main ≡ q.main) (q.main < p.main)
@@ -138,7 +134,7 @@ pub record Replaces (r : ℕ) (v u : Version) : Type 0 where
   pub later : rev_lt v.rev u.rev ≡ true
   pub by : u.rev.main ≤ r
 
-replaces-of : (r : ℕ) (v u : Version) → replaces r v u ≡ true → Replaces r v u
+pub replaces-of : (r : ℕ) (v u : Version) → replaces r v u ≡ true → Replaces r v u
 replaces-of r v u e = by (same_key u.key v.key) refl (rev_lt v.rev u.rev) refl (nat_le u.rev.main r) refl e
   where
     by : (a : Bool) → same_key u.key v.key ≡ a → (b : Bool) → rev_lt v.rev u.rev ≡ b → (c : Bool) → nat_le u.rev.main r ≡ c → (a && b && c) ≡ true → Replaces r v u
@@ -147,10 +143,10 @@ replaces-of r v u e = by (same_key u.key v.key) refl (rev_lt v.rev u.rev) refl (
     by true d false f c g e = cc
     by false d b f c g e = cc
 
-replaces-as : (r : ℕ) (v u : Version) → Replaces r v u → replaces r v u ≡ true
+pub replaces-as : (r : ℕ) (v u : Version) → Replaces r v u → replaces r v u ≡ true
 replaces-as r v u h = λ i. (ap (λ k. same_key k v.key) h.key ∙ same-refl v.key) i && h.later i && le-leb u.rev.main r h.by i
 
-replaces-not : (r : ℕ) (v u : Version) → (Replaces r v u → ⊥) → replaces r v u ≡ false
+pub replaces-not : (r : ℕ) (v u : Version) → (Replaces r v u → ⊥) → replaces r v u ≡ false
 replaces-not r v u h = by (replaces r v u) refl
   where
     by : (b : Bool) → replaces r v u ≡ b → b ≡ false

@@ -29,6 +29,7 @@ pub mod Answers
 pub mod Wire
 pub mod Kept
 pub mod Headline
+pub mod TrimmingLaws
 pub mod Laws
 pub mod Growth
 pub mod Samples

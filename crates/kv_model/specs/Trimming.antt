@@ -45,6 +45,10 @@ is_trimmed vs c v = is_superseded vs c v || (is_tombstone v.body && nat_lt v.rev
 abbrev pub IsSettled : List Version → ℕ → Type 0
 IsSettled vs c = AllByRecursion (λ v. (nat_le v.rev.main c && is_trimmed vs c v) ≡ false) vs
 
+-- up to the place nothing of these is left to take out
+abbrev pub IsTrimmedTo : List Version → Rev → ℕ → Type 0
+IsTrimmedTo vs p c = AllByRecursion (λ v. (rev_lt v.rev p && (nat_le v.rev.main c && is_trimmed vs c v)) ≡ false) vs
+
 -- ---- one step
 
 -- what a step told, and the versions and the place that it left

@@ -7,4 +7,5 @@ pub mod feed_laws;
 pub mod ids;
 pub mod laws;
 pub mod refusal;
+pub mod trimming_laws;
 pub mod version;

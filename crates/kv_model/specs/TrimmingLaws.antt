@@ -1,0 +1,81 @@
+-- Laws of trimming: its rule takes out what no least list needs, and ends at the one least.
+use Rattle.std.specs.Prelude.{◌≡◌, ℕ, ◌≤◌, ◌<◌, ◌^◌, List, ◌++◌, filter, not, ◌&&◌, nat_le, Option, MatchOption, ⊤}
+use Rattle.std.specs.List.{AllByRecursion}
+use Rattle.kv_model.specs.declared.version.Rev.{Rev}
+use Rattle.kv_model.specs.declared.version.Version.{Version}
+use Rattle.kv_model.specs.History.{Mutation, IsHistory, now, rev_lt}
+use Rattle.kv_model.specs.World.{World, IsSound}
+use Rattle.kv_model.specs.Told.{Trimmed}
+use Rattle.kv_model.specs.Questions.{IsGood, IsLeast}
+use Rattle.kv_model.specs.Trimming.{TrimStep, trimmed, IsSettled, IsTrimmedTo, oldest_place}
+use Rattle.kv_model.specs.Certificates.{Claim, claims_of}
+use Rattle.kv_model.specs.Wire.{WireTold}
+use Rattle.kv_model.specs.Kept.{Keeping, Trims, IsTrimmed, IsCertificate, dump_of}
+
+-- ---- the least list
+
+-- what answers, and has nothing left to take out, is a least list
+abbrev pub SettledIsLeast : Type 0
+SettledIsLeast = (ms : List Mutation) (c : ℕ) (vs : List Version) → IsHistory ms → c ≤ now ms → IsGood vs ms c → IsSettled vs c → IsLeast vs ms c
+
+-- there is one least list
+abbrev pub LeastIsOne : Type 0
+LeastIsOne = (ms : List Mutation) (c : ℕ) (us vs : List Version) → IsHistory ms → c ≤ now ms → IsLeast us ms c → IsLeast vs ms c → us ≡ vs
+
+-- where nothing is left to take out, the certificate passes its check and each of its needs is one
+abbrev pub SettledIsCertified : Type 0
+SettledIsCertified = (w : World) (vs : List Version) → IsSound w → IsGood vs w.mutations w.compacted → IsSettled vs w.compacted → IsCertificate w vs (claims_of (dump_of w vs))
+
+-- ---- a step by the rule
+
+-- what is kept, where trimming has come to a place: those at or below c from there on are to be visited
+abbrev pub keeping : List Version → Rev → ℕ → Keeping
+keeping vs p c = record { kept = vs; ahead = filter (λ v. not (rev_lt v.rev p) && nat_le v.rev.main c) vs }
+
+-- a step, as it is told in a run
+abbrev pub trim_told : Trimmed → Option (List Claim) → WireTold
+trim_told (Trimmed.removed p) certificate = WireTold.removed p
+trim_told (Trimmed.kept p) certificate = WireTold.kept p
+trim_told (Trimmed.done n) certificate = WireTold.done n certificate
+
+-- the certificate is that of what is kept, or there is none
+abbrev pub IsOwn : World → List Version → Option (List Claim) → Type 0
+IsOwn w vs certificate = MatchOption certificate ⊤ (λ claims. claims ≡ claims_of (dump_of w vs))
+
+-- a step keeps what answers, leaves nothing behind it, and is one that a run may make
+pub record StepsWell (w : World) (vs : List Version) (p : Rev) (certificate : Option (List Claim)) (t : TrimStep) : Type 0 where
+  pub good : IsGood t.versions w.mutations w.compacted
+  pub up_to : IsTrimmedTo t.versions t.place w.compacted
+  pub trims : Trims w (keeping vs p w.compacted) (keeping vs p w.compacted).ahead (trim_told t.told certificate) (keeping t.versions t.place w.compacted)
+
+-- so does each step by the rule
+abbrev pub TrimmedStepsWell : Type 0
+TrimmedStepsWell = (w : World) (vs : List Version) (p : Rev) (certificate : Option (List Claim)) → IsSound w → w.compacted < 2 ^ 63
+    → IsGood vs w.mutations w.compacted → IsTrimmedTo vs p w.compacted → IsOwn w vs certificate → StepsWell w vs p certificate (trimmed vs p w.compacted)
+
+-- where a step by the rule says that it is done, a least list is kept and nothing is left to visit
+abbrev pub DoneIsTrimmed : Type 0
+DoneIsTrimmed = (w : World) (vs : List Version) (p : Rev) (n : ℕ) → IsSound w → w.compacted < 2 ^ 63 → IsGood vs w.mutations w.compacted → IsTrimmedTo vs p w.compacted
+    → (trimmed vs p w.compacted).told ≡ Trimmed.done n → IsTrimmed w (keeping vs p w.compacted)
+
+-- ---- what comes between steps
+
+-- a Compact starts over: nothing stands before the first place, and all that is kept at or below c is to be visited
+pub record StartsOver (vs : List Version) (c : ℕ) : Type 0 where
+  pub up_to : IsTrimmedTo vs oldest_place c
+  pub ahead : (keeping vs oldest_place c).ahead ≡ filter (λ v. nat_le v.rev.main c) vs
+
+abbrev pub TrimmingStartsOver : Type 0
+TrimmingStartsOver = (vs : List Version) (c : ℕ) → StartsOver vs c
+
+-- later versions, which stand above the compaction, change nothing of what is behind the place and of what is to be visited
+pub record GoesOn (vs us : List Version) (p : Rev) (c : ℕ) : Type 0 where
+  pub up_to : IsTrimmedTo (vs ++ us) p c
+  pub ahead : (keeping (vs ++ us) p c).ahead ≡ (keeping vs p c).ahead
+
+abbrev pub TrimmingGoesOn : Type 0
+TrimmingGoesOn = (vs us : List Version) (p : Rev) (c : ℕ) → AllByRecursion (λ u. c < u.rev.main) us → IsTrimmedTo vs p c → GoesOn vs us p c
+
+-- what answers from a compaction on answers from a later one on
+abbrev pub GoodStaysGood : Type 0
+GoodStaysGood = (ms : List Mutation) (c d : ℕ) (vs : List Version) → IsHistory ms → c ≤ d → d ≤ now ms → IsGood vs ms c → IsGood vs ms d
