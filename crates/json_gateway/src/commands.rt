@@ -1,15 +1,4 @@
 //! One command or one request on a core, from bytes to bytes.
-use crate::outcome::{Outcome, Reply, Settled};
-use gateway_read::bad::Bad;
-use gateway_read::read;
-use gateway_text::{Wording, put_text, range_text, refusal_text, refusal_wording};
-use kv_model::call::Command;
-use kv_model::ids::Ids;
-use kv_model::refusal::Refusal;
-use request_core::answer::{Answer, Receipt};
-use request_core::store::Core;
-use std::alloc::{AllocError, Global};
-
 ghost use Rattle.std.specs.Prelude.{◌≡◌, ◌++◌, IfOk};
 ghost use Rattle.kv_model.specs.Answers.{answered, fault, response_to};
 ghost use Rattle.kv_model.specs.Built.{IsBuilt};
@@ -22,6 +11,17 @@ ghost use Rattle.kv_model.specs.World.{World};
 ghost use Rattle.gateway_text.specs.Views.{wording_view};
 ghost use Rattle.request_core.specs.Answers.{IsReadable, answer_of, answer_view};
 ghost use Rattle.json_gateway.specs.Outcomes.{Declines, Dismisses, Ends, Settles, fault_of_reading};
+
+use crate::outcome::{Outcome, Reply, Settled};
+use gateway_read::bad::Bad;
+use gateway_read::read;
+use gateway_text::{Wording, put_text, range_text, refusal_text, refusal_wording};
+use kv_model::call::Command;
+use kv_model::ids::Ids;
+use kv_model::refusal::Refusal;
+use request_core::answer::{Answer, Receipt};
+use request_core::store::Core;
+use std::alloc::{AllocError, Global};
 
 /// Does one command on a core, and gives its outcome.
 ///

@@ -10,3 +10,6 @@ pub use gateway_read::read;
 pub use kv_model::ids::Ids;
 pub use outcome::{Outcome, Reply, Settled};
 pub use wire::{WireEvent, WireOutcome, WireRun, run_wire};
+
+#[cfg(test)]
+mod tests;

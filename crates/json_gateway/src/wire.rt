@@ -1,14 +1,14 @@
 //! Runs of events, from bytes to bytes.
-use crate::outcome::Outcome;
-use crate::commands::post;
-use kv_model::ids::Ids;
-use request_core::store::Core;
-use std::alloc::{AllocError, Global};
-
 ghost use Rattle.std.specs.Prelude.{◌≡◌, map, IfOk};
 ghost use Rattle.kv_model.specs.Stands.{StandsFor};
 ghost use Rattle.kv_model.specs.Wire.{Follows, post as model_post};
 ghost use Rattle.kv_model.specs.World.{World};
+
+use crate::commands::post;
+use crate::outcome::Outcome;
+use kv_model::ids::Ids;
+use request_core::store::Core;
+use std::alloc::{AllocError, Global};
 
 /// What happens to a store.
 #[derive(Clone, Copy, Debug)]
@@ -37,11 +37,7 @@ ghost use Rattle.json_gateway.specs.Runs.{Steps, event_view, outcome_view};
 ///
 /// An event that found no memory counts as not made, and an answer may be lost only where its change stands.
 /// `AllocError` comes before the first event, where there is no room for the outcomes.
-pub fn run_wire(
-    alloc: Global,
-    events: &[WireEvent<'_>],
-    ids: &Ids,
-) -> Result<WireRun, AllocError>
+pub fn run_wire(alloc: Global, events: &[WireEvent<'_>], ids: &Ids) -> Result<WireRun, AllocError>
     ensures { IfOk result (λ run. Follows ids.now (map event_view events.now) (map outcome_view run.outcomes.items)) }
 {
     let mut outcomes = Vec::with_capacity(alloc, events.len())?;

@@ -12,8 +12,8 @@ loop-event-preserved c =
       room = omega (arith, c.push.ensures.capacity, c.loop-event.invariant.room);
       count = let long : vec_len c.push.new.self ≡ vec_len c.loop-event.outcomes + 1 = rw pushed at c.push.ensures.len in omega (arith, long, c.loop-event.invariant.count);
       run = subst (λ (os : List WireOutcome). RunsOn c.args.ids.now (map event_view c.args.events.now) (map outcome_view os) (map event_view (drop (c.loop-event.event-index + 1) c.args.events.now)) c.step-outcome.new.core)
-        (sym items) (run_more c.args.ids.now (map event_view c.args.events.now) c.args.events.now c.loop-event.outcomes.items c.loop-event.event-index _ c.step-outcome.result
-        c.loop-event.core c.step-outcome.new.core c.loop-event-test.true c.loop-event.invariant.run c.step-outcome.ensures);
+          (sym items) (run_more c.args.ids.now (map event_view c.args.events.now) c.args.events.now c.loop-event.outcomes.items c.loop-event.event-index _ c.step-outcome.result
+          c.loop-event.core c.step-outcome.new.core c.loop-event-test.true c.loop-event.invariant.run c.step-outcome.ensures);
     }
 
 pub returns : goal.returns

@@ -1,0 +1,104 @@
+//! What no clause says: that calls succeed with ample memory, on the worked rows.
+use crate::commands::{perform, post, text};
+use crate::outcome::Settled;
+use crate::wire::{WireEvent, WireOutcome, run_wire};
+use gateway_read::read;
+use kv_model::ids::Ids;
+use request_core::answer::Answer;
+use request_core::store::Core;
+use std::test::Fail;
+
+const ONES: Ids = Ids {
+    cluster: 1,
+    member: 1,
+};
+
+const PUT: &[u8] = b"{\"key\":\"Zm9v\",\"value\":\"YmFy\"}";
+
+const PUT_REPLY: &[u8] =
+    b"{\"header\":{\"cluster_id\":\"1\",\"member_id\":\"1\",\"raft_term\":\"1\",\"revision\":\"2\"}}";
+
+const RANGE_REPLY: &[u8] =
+    b"{\"count\":\"1\",\"header\":{\"cluster_id\":\"1\",\"member_id\":\"1\",\"raft_term\":\"1\",\"revision\":\"2\"},\"kvs\":[{\"create_revision\":\"2\",\"key\":\"Zm9v\",\"mod_revision\":\"2\",\"value\":\"YmFy\",\"version\":\"1\"}]}";
+
+#[test]
+fn a_put_and_a_range_as_bytes(rt: HostRuntime) -> Result<(), Fail> {
+    let events = [
+        WireEvent::Post {
+            path: b"/v3/kv/put",
+            body: PUT,
+        },
+        WireEvent::Post {
+            path: b"/v3/kv/range",
+            body: b"{\"key\":\"Zm9v\"}",
+        },
+        WireEvent::Post {
+            path: b"/v3/nothing",
+            body: b"{}",
+        },
+    ];
+    let run = run_wire(rt.alloc(), events.as_slice(), &ONES)?;
+    assert_eq!(rt; run.outcomes.len(), 3);
+    let WireOutcome::Posted(first) = &run.outcomes[0];
+    assert_eq!(rt; first.settled.wire(), (200, PUT_REPLY));
+    assert_eq!(rt; first.raised, Some(2));
+    assert_eq!(rt; first.watch, None);
+    let WireOutcome::Posted(second) = &run.outcomes[1];
+    assert_eq!(rt; second.settled.wire(), (200, RANGE_REPLY));
+    assert_eq!(rt; second.raised, None);
+    let WireOutcome::Posted(third) = &run.outcomes[2];
+    assert_eq!(rt; third.settled.wire().0, 404);
+    Ok(())
+}
+
+#[test]
+fn one_request(rt: HostRuntime) -> Result<(), Fail> {
+    let mut core = Core::new(rt.alloc());
+    let command = read(rt.alloc(), b"/v3/kv/put", PUT)?;
+    let outcome = perform(rt.alloc(), &mut core, &command, &ONES);
+    assert_eq!(rt; outcome.settled.wire(), (200, PUT_REPLY));
+    let outcome = post(
+        rt.alloc(),
+        &mut core,
+        b"/v3/kv/put",
+        b"{\"value\":\"YmFy\"}",
+        &ONES,
+    );
+    let no_key: &[u8] =
+        b"{\"code\":3,\"error\":\"etcdserver: key is not provided\",\"message\":\"etcdserver: key is not provided\"}";
+    assert_eq!(rt; outcome.settled.wire(), (400, no_key));
+    assert_eq!(rt; outcome.raised, None);
+    let outcome = post(
+        rt.alloc(),
+        &mut core,
+        b"/v3/kv/range",
+        b"{\"key\":\"Zm9\"}",
+        &ONES,
+    );
+    let bad: &[u8] =
+        b"{\"code\":3,\"error\":\"gateway: bad base64 in key\",\"message\":\"gateway: bad base64 in key\"}";
+    assert_eq!(rt; outcome.settled.wire(), (400, bad));
+    assert_eq!(rt; core.status().revision, 2);
+    Ok(())
+}
+
+#[test]
+fn the_text_of_an_answer(rt: HostRuntime) -> Result<(), Fail> {
+    let answer = Answer::Put {
+        revision: 2,
+        previous: None,
+    };
+    let body = text(rt.alloc(), &answer, &ONES)?;
+    assert_eq!(rt; body.as_slice(), PUT_REPLY);
+    Ok(())
+}
+
+#[test]
+fn the_fixed_texts(rt: HostRuntime) {
+    let memory: &[u8] =
+        b"{\"code\":13,\"error\":\"etcdserver: out of memory\",\"message\":\"etcdserver: out of memory\"}";
+    assert_eq!(rt; Settled::Memory.wire(), (500, memory));
+    let lost: &[u8] =
+        b"{\"code\":13,\"error\":\"etcdserver: answer lost, the change stands\",\"message\":\"etcdserver: answer lost, the change stands\"}";
+    assert_eq!(rt; Settled::Lost(2).wire(), (500, lost));
+}
