@@ -1,2 +1,50 @@
-// The command that a request asks for, read from its path and its body.
+//! The command that a request asks for, read from its path and its body (etcd: the JSON gateway).
 #![tactic(auto)]
+
+ghost use Rattle.std.specs.Prelude.{IfOk};
+ghost use Rattle.kv_model.specs.Built.{IsBuilt};
+ghost use Rattle.kv_model.specs.Calls.{call_of};
+ghost use Rattle.kv_model.specs.Requests as requests;
+ghost use Rattle.gateway_read.specs.Reading.{Gives};
+
+use bad::Bad;
+use kv_model::call::Command;
+use requests::Request;
+use std::alloc::Global;
+
+pub mod bad;
+mod body;
+pub mod comparing;
+pub mod deleting;
+pub mod field;
+mod kinds;
+pub mod leasing;
+mod members;
+mod requests;
+mod sorting;
+mod symbols;
+#[cfg(test)]
+mod tests;
+mod unbuilt;
+
+const PATHS: [(&str, Request); 2] = [
+    ("/v3/kv/range", Request::Range),
+    ("/v3/kv/put", Request::Put),
+];
+
+/// The command that a POST of this body to this path asks for (the etcd documentation, "gRPC gateway").
+///
+/// The first fault counts: `NoPath`, then `TooLong` for a body above 1,572,864 bytes, `NotJson` for one that is no
+/// JSON object, and `BadField` or `BadBase64` by the fields in their order. A body of no bytes is an empty object.
+/// Names are snake or camel case, and the snake one counts where both stand; other names are ignored.
+/// `Memory` comes where a growth finds no memory. The time is linear in the body, but for the look-up of each field.
+pub fn read(alloc: Global, path: &[u8], body: &[u8]) -> Result<Command, Bad>
+    ensures exact { Gives call_of result (requests.request_of path.now body.now) }
+    ensures built { IfOk result (λ command. IsBuilt (call_of command)) }
+{
+    let Some(request) = kinds::named(&PATHS, path) else {
+        return Err(Bad::NoPath);
+    };
+    let object = body::object_of(alloc, body)?;
+    requests::command(alloc, request, &object)
+}

@@ -1,2 +1,13 @@
-// The bytes of answers, written straight into one buffer.
+//! The bodies of the JSON gateway's answers and refusals, written straight into bytes: no tree of values is built.
 #![tactic(auto)]
+
+mod answers;
+mod header;
+mod json_text;
+mod key_value;
+mod refusals;
+#[cfg(test)]
+mod tests;
+
+pub use answers::{delete_text, put_text, range_text};
+pub use refusals::{Wording, lost_text, memory_text, refusal_text, refusal_wording};

@@ -1,2 +1,12 @@
 // The revisions of each key.
 #![tactic(auto)]
+
+mod changes;
+pub mod index;
+mod interval;
+pub mod revisions;
+#[cfg(test)]
+mod tests;
+
+pub use index::{Indexed, KeyIndex};
+pub use revisions::{Mark, Revisions};

@@ -1,0 +1,10 @@
+use Rattle.std.proofs.Common.{◌≡◌, ℕ, ◌++◌, length, map, option_map}
+use Rattle.json_gateway.specs.Runs.{event_view}
+use Rattle.etcd_one.specs.Script as script
+use Rattle.etcd_one.proofs.script.line_events.Given as goal
+
+abbrev pub invariant-loop-rest : goal.invariant-loop-rest
+invariant-loop-rest l = script.line_events l.text ≡ map (option_map event_view) l.events.items ++ script.line_events l.rest
+
+abbrev pub decreases-loop-rest : goal.decreases-loop-rest
+decreases-loop-rest l = length l.rest

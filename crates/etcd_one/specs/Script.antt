@@ -1,0 +1,34 @@
+-- A script: its lines, and the event that each asks for.
+use Rattle.std.specs.Prelude.{ℕ, List, map, Bool, ◌==◌, nat_lt, nat_eq, if◌then◌else◌, length, Option, None, Some, codes}
+use Rattle.std.specs.List.{position_or_len, before_first, after_first}
+use Rattle.std.specs.Cmp.Lexicographic.{pointwise}
+use Rattle.std.specs.Str.Lines.{lines}
+use Rattle.kv_model.specs.Wire.{WireEvent}
+
+-- the most bytes of a line, without its end, that can be an event
+abbrev pub longest_line : ℕ
+longest_line = 1700000
+
+abbrev pub is : ℕ → ℕ → Bool
+is at b = b == at
+
+-- what stands after the first such byte, if there is one
+abbrev pub rest_after : ℕ → List ℕ → Option (List ℕ)
+rest_after at text = if nat_lt (position_or_len (is at) text) (length text) then Some (after_first (is at) text) else None
+
+-- a request: the path up to the first space, and the body after it, which may be missing
+abbrev pub post_of : List ℕ → WireEvent
+post_of rest = WireEvent.post (before_first (is 32) rest) (after_first (is 32) rest)
+
+-- what a line's first word asks for, with the text after the space that ends it
+abbrev pub event_by : List ℕ → Option (List ℕ) → Option WireEvent
+event_by word None = None
+event_by word (Some rest) = if pointwise nat_eq word (codes "POST") then Some (post_of rest) else None
+
+-- the event that a line asks for; a line of no form, or too long, is none
+abbrev pub event_of : List ℕ → Option WireEvent
+event_of line = if nat_lt longest_line (length line) then None else event_by (before_first (is 32) line) (rest_after 32 line)
+
+-- the event of each line, in order
+abbrev pub line_events : List ℕ → List (Option WireEvent)
+line_events script = map event_of (lines script)

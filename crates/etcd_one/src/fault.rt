@@ -1,0 +1,23 @@
+//! Why the program ends before its work is done.
+use std::io;
+use thiserror::Error;
+
+/// Each fault ends the program with status 2, and nothing more is written to standard output.
+#[derive(Debug, Drop, Error)]
+pub enum Fault {
+    /// The words after the program's name are no command.
+    #[error("etcd_one: bad arguments; usage: etcd_one replay < script")]
+    Arguments,
+    /// The script could not be read to its end.
+    #[error("etcd_one: the script could not be read: {0}")]
+    Read(io::Error),
+    /// The script did not end within 2^30 reads.
+    #[error("etcd_one: the script has no end")]
+    Endless,
+    /// The replies could not be written.
+    #[error("etcd_one: the replies could not be written: {0}")]
+    Write(io::Error),
+    /// A growth outside a request found no memory.
+    #[error("etcd_one: out of memory")]
+    Memory,
+}

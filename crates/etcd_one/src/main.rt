@@ -1,0 +1,40 @@
+//! `etcd_one`: a single-member, in-memory etcd, driven by a script.
+//!
+//! `etcd_one replay` reads a script on standard input and writes one reply for each line to standard output. It ends with
+//! status 0 after the last reply. Bad arguments, a failed read or write, and want of memory outside a request end it with
+//! status 2, one line on standard error, and nothing more on standard output.
+#![tactic(auto)]
+
+mod command_line;
+mod fault;
+mod replay;
+mod script;
+#[cfg(test)]
+mod tests;
+
+use command_line::{Args, arguments};
+use fault::Fault;
+use replay::replay;
+use std::process::ExitCode;
+use std::{env, io};
+
+fn run(rt: &HostRuntime) -> Result<(), Fault> {
+    let mut words = Vec::new(rt.alloc());
+    let given = env::args(rt).map_err(|_| Fault::Memory)?;
+    for word in given {
+        words.push(word).map_err(|_| Fault::Memory)?;
+    }
+    match arguments(rt.alloc(), words.as_slice())? {
+        Args::Replay => replay(rt.alloc(), &mut rt.reader(), &mut io::writer(rt)),
+    }
+}
+
+fn main(rt: HostRuntime) -> ExitCode {
+    match run(&rt) {
+        Ok(()) => ExitCode::SUCCESS,
+        Err(fault) => {
+            let _ = rt.eprintln(fault);
+            ExitCode::from(2)
+        }
+    }
+}

@@ -1,0 +1,3 @@
+//! The worked rows of the first path, bad lines, bad arguments, and readers and writers that fail.
+mod rows;
+mod streams;

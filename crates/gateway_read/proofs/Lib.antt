@@ -1,0 +1,4 @@
+pub mod Integers
+pub mod Base64
+pub mod Readings
+pub mod Enums

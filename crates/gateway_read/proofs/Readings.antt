@@ -1,0 +1,78 @@
+-- The model's readings, part by part.
+use Rattle.std.proofs.Common.{◌≡◌, ℕ, ℤ, List, [], ◌∷◌, map, Bool, true, false, cond, Option, None, Some, Result, Ok, Err, refl, ap, ◌∙◌}
+use Rattle.std.specs.Prelude.{not, codes, option_map}
+use Rattle.std.specs.Str.{IsUtf8, is_utf8}
+use Rattle.std.proofs.lemmas.Str.{is_utf8-from_IsUtf8, IsUtf8-from_is_utf8}
+use Rattle.serde_json.specs.Read.{read}
+use Rattle.serde_json.specs.Data.{Members}
+use Rattle.kv_model.specs.declared.call.RangeQuery.{RangeQuery}
+use Rattle.kv_model.specs.declared.call.SortOrder.{SortOrder}
+use Rattle.kv_model.specs.declared.call.SortOrder.TheVariants.{Unsorted}
+use Rattle.kv_model.specs.declared.call.SortTarget.{SortTarget}
+use Rattle.kv_model.specs.declared.call.SortTarget.TheVariants.{ByKey}
+use Rattle.kv_model.specs.Lists.{is_empty}
+use Rattle.kv_model.specs.Requests as requests
+use Rattle.kv_model.specs.Calls.{Call}
+use Rattle.kv_model.specs.Keys.{same_key}
+use Rattle.kv_model.specs.Requests.{Read, ◌>>=◌}
+use Rattle.gateway_read.specs.declared.requests.Request.{Request}
+use Rattle.gateway_read.specs.declared.requests.Request.TheVariants.{Range, Put}
+use Rattle.gateway_read.specs.Parts.{filtered, call_read}
+
+pub range_query-filtered : (ms : Members) {key end : List ℕ} {limit revision : ℤ} {order : SortOrder} {target : SortTarget}
+    → requests.bytes_field (codes "key") ms ≡ Ok key
+    → requests.unbuilt is_empty (codes "range_end") (requests.bytes_field (codes "range_end") ms) ≡ Ok end
+    → requests.unbuilt requests.is_zero (codes "limit") (requests.integer_field (codes "limit") ms) ≡ Ok limit
+    → requests.unbuilt requests.is_zero (codes "revision") (requests.integer_field (codes "revision") ms) ≡ Ok revision
+    → requests.unbuilt requests.is_unsorted (codes "sort_order") (requests.field Unsorted (requests.enum_of requests.sort_orders) (codes "sort_order") ms) ≡ Ok order
+    → requests.unbuilt requests.is_by_key (codes "sort_target") (requests.field ByKey (requests.enum_of requests.sort_targets) (codes "sort_target") ms) ≡ Ok target
+    → (serializable keys_only count_only : Bool) (min_mod max_mod min_create max_create : ℤ)
+    → requests.range_query ms ≡ filtered (record {
+      range = record { key = key; end = end };
+      limit = limit;
+      revision = revision;
+      order = order;
+      target = target;
+      serializable = serializable;
+      keys_only = keys_only;
+      count_only = count_only;
+      min_mod = min_mod;
+      max_mod = max_mod;
+      min_create = min_create;
+      max_create = max_create;
+    }) ms
+unfolding requests.range_query filtered
+range_query-filtered ms k e l r o t serializable keys_only count_only min_mod max_mod min_create max_create = rw (k, e, l, r, o, t) refl
+
+refuted : (b : Bool) → (b ≡ true → ⊥) → b ≡ false
+refuted true h = absurd (h refl)
+refuted false h = refl
+
+pub json_of-read : (text : List ℕ) → IsUtf8 text → requests.json_of text ≡ read text
+json_of-read text h = ap (λ b. cond b (read text) None) (is_utf8-from_IsUtf8 text h)
+
+pub json_of-none : (text : List ℕ) → (IsUtf8 text → ⊥) → requests.json_of text ≡ None
+json_of-none text h = ap (λ b. cond b (read text) None) (refuted (is_utf8 text) (λ e. h (IsUtf8-from_is_utf8 text e)))
+
+option_map-cond : {A B : Type 0} (f : A → B) (b : Bool) (x : A) (r : Option A) → cond b (Some (f x)) (option_map f r) ≡ option_map f (cond b (Some x) r)
+option_map-cond f true x r = refl
+option_map-cond f false x r = refl
+
+pub named_value-map : {A B : Type 0} (f : A → B) (table : List (List ℕ × A)) (name : List ℕ) → requests.named_value (map (λ e. (e.0, f e.1)) table) name ≡ option_map f (requests.named_value table name)
+named_value-map f [] name = refl
+named_value-map f (e ∷ table) name = ap (cond (same_key e.0 name) (Some (f e.1))) (named_value-map f table name) ∙ option_map-cond f (same_key e.0 name) e.1 _
+
+-- what each path asks for
+abbrev pub known_paths : List (List ℕ × Request)
+known_paths = (codes "/v3/kv/range", Range) ∷ (codes "/v3/kv/put", Put) ∷ []
+
+by_path : (path body : List ℕ) → requests.request_of path body
+    ≡ (requests.some_or requests.no_path (option_map call_read (requests.named_value known_paths path)) >>= λ reader. requests.object_of body >>= reader)
+unfolding requests.request_of
+by_path path body = ap (λ r. requests.some_or requests.no_path r >>= λ reader. requests.object_of body >>= reader) (named_value-map call_read known_paths path)
+
+pub request_of-no_path : (path body : List ℕ) → requests.named_value known_paths path ≡ None → requests.request_of path body ≡ Err requests.no_path
+request_of-no_path path body h = rw (by_path path body, h) refl
+
+pub request_of-call_read : (path body : List ℕ) (request : Request) → requests.named_value known_paths path ≡ Some request → requests.request_of path body ≡ (requests.object_of body >>= call_read request)
+request_of-call_read path body request h = rw (by_path path body, h) refl

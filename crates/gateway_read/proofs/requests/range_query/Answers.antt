@@ -1,0 +1,18 @@
+use Rattle.std.proofs.Common.{false, ℤ, pos, Ok, sym, ap, ◌∙◌, rules}
+use Rattle.std.specs.Prelude.{FitsSigned}
+use Rattle.std.specs.Int.{w64}
+use Rattle.std.proofs.lemmas.Int.{to_z-of_z}
+use Rattle.gateway_read.specs.Fields.{snake_of}
+use Rattle.gateway_read.proofs.Readings.{range_query-filtered}
+use Rattle.gateway_read.proofs.requests.range_query.Goals as goal
+
+pub returns-clause-exact : goal.returns-clause-exact
+unfolding snake_of
+returns-clause-exact c =
+    let limit : FitsSigned w64 c.in_ok-limit.limit = search rules in
+    let revision : FitsSigned w64 c.in_ok-revision.revision = search rules in
+    rw (range_query-filtered _ c.in_ok-key.ensures c.in_ok-end.ensures.exact
+    (c.in_ok-limit.ensures.exact ∙ ap Ok (sym (to_z-of_z w64 _ limit)))
+    (c.in_ok-revision.ensures.exact ∙ ap Ok (sym (to_z-of_z w64 _ revision)))
+    c.in_ok-order.ensures.exact c.in_ok-target.ensures.exact false false false (pos 0) (pos 0) (pos 0) (pos 0))
+    c.filtered.ensures.exact

@@ -1,0 +1,5 @@
+pub mod Compares
+pub mod Fields
+pub mod Leases
+pub mod Parts
+pub mod Reading

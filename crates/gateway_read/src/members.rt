@@ -1,0 +1,89 @@
+//! The fields of an object, each by its kind. An absent field is at its kind's default, and so is one that is null.
+ghost use Rattle.std.specs.Prelude.{◌≡◌, map, option_map};
+ghost use Rattle.serde_json.specs.Find as find;
+ghost use Rattle.serde_json.specs.View.{view, members_view};
+ghost use Rattle.kv_model.specs.Requests as requests;
+ghost use Rattle.gateway_read.specs.Fields.{snake_of};
+ghost use Rattle.gateway_read.specs.Reading.{Gives};
+
+use crate::bad::Bad;
+use crate::field::Field;
+use crate::{kinds, symbols};
+use bytes::Bytes;
+use serde_json::{Map, Value};
+use std::alloc::Global;
+
+fn member<'v>(object: &'v Map<String, Value>, name: &str) -> Option<&'v Value>
+    ensures { option_map (λ v. view v.now) result
+        ≡ find.get_member name.now (members_view object.now.entries) }
+{
+    object.get(name)
+}
+
+/// The value under a name of the field, the snake one first, unless it is null.
+fn given<'v>(object: &'v Map<String, Value>, field: Field) -> Option<&'v Value>
+    ensures { option_map (λ v. view v.now) result
+        ≡ requests.given (snake_of field) (members_view object.now.entries) }
+{
+    let value = match member(object, field.snake()) {
+        Some(value) => value,
+        None => member(object, field.camel())?,
+    };
+    if value.is_null() { None } else { Some(value) }
+}
+
+/// Bytes in base64. The default is no bytes.
+pub(crate) fn bytes_field(
+    alloc: Global,
+    object: &Map<String, Value>,
+    field: Field,
+) -> Result<Bytes, Bad>
+    ensures { Gives (λ bytes. bytes) result
+        (requests.bytes_field (snake_of field) (members_view object.now.entries)) }
+{
+    let Some(value) = given(object, field) else {
+        return Ok(Bytes::new());
+    };
+    let Some(text) = value.as_str() else {
+        return Err(Bad::BadField(field));
+    };
+    symbols::decoded(alloc, text)?.ok_or(Bad::BadBase64(field))
+}
+
+/// A 64-bit integer. The default is 0.
+pub(crate) fn integer_field(object: &Map<String, Value>, field: Field) -> Result<i64, Bad>
+    ensures { Gives (λ number. number) result
+        (requests.integer_field (snake_of field) (members_view object.now.entries)) }
+{
+    match given(object, field) {
+        None => Ok(0),
+        Some(value) => kinds::integer_of(value).ok_or(Bad::BadField(field)),
+    }
+}
+
+/// A truth value. The default is false.
+pub(crate) fn truth_field(object: &Map<String, Value>, field: Field) -> Result<bool, Bad>
+    ensures { Gives (λ truth. truth) result
+        (requests.truth_field (snake_of field) (members_view object.now.entries)) }
+{
+    match given(object, field) {
+        None => Ok(false),
+        Some(value) => value.as_bool().ok_or(Bad::BadField(field)),
+    }
+}
+
+/// An enum's value, by its name or by its place in the table.
+pub(crate) fn enum_field<T: Copy>(
+    object: &Map<String, Value>,
+    field: Field,
+    default: T,
+    table: &[(&str, T)],
+) -> Result<T, Bad>
+    ensures { Gives (λ meant. meant) result
+        (requests.field default (requests.enum_of (map (λ e. (e.0.now, e.1)) table.now)) (snake_of field) (members_view object.now.entries)) }
+{
+    match given(object, field) {
+        None => Ok(default),
+        Some(value) => kinds::enum_of(table, value).ok_or(Bad::BadField(field)),
+    }
+}

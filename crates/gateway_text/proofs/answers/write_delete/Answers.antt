@@ -1,0 +1,11 @@
+use Rattle.std.proofs.Common.{◌∙◌, append_assoc}
+use Rattle.kv_model.specs.Answers.{delete_text}
+use Rattle.gateway_text.proofs.Objects.{on_ok, member_tokens, map-map}
+use Rattle.gateway_text.proofs.answers.write_delete.Goals as goal
+
+pub returns : goal.returns
+unfolding delete_text
+returns c =
+    on_ok c.end_object.result _ _
+    (λ e. e ∙ simp (c.in_ok-begin_object.ensures, c.in_ok-number_member.ensures, c.in_ok-member.ensures, c.in_ok-list_member.ensures, append_assoc, member_tokens, map-map))
+    c.end_object.ensures

@@ -1,0 +1,11 @@
+use Rattle.std.proofs.Common.{◌∙◌, append_assoc}
+use Rattle.kv_model.specs.Answers.{put_text}
+use Rattle.gateway_text.proofs.Objects.{on_ok, member_tokens, option_map-option_map}
+use Rattle.gateway_text.proofs.answers.write_put.Goals as goal
+
+pub returns : goal.returns
+unfolding put_text
+returns c =
+    on_ok c.end_object.result _ _
+    (λ e. e ∙ simp (c.in_ok-begin_object.ensures, c.in_ok-member.ensures, c.in_ok-optional_member.ensures, append_assoc, member_tokens, option_map-option_map))
+    c.end_object.ensures

@@ -1,0 +1,126 @@
+//! The bodies of answers.
+//!
+//! Each function here fails for want of memory alone. A body is reserved at once; the base64 of each key and value is
+//! made in a second buffer, which grows to the longest of them, and is copied into the body. So an answer costs two
+//! allocations and a few more as the second buffer grows, and time for the bytes of its body.
+ghost use Rattle.std.specs.Prelude.{◌≡◌, ◌++◌, map, IfOk, OnOk, option_map};
+ghost use Rattle.kv_model.specs.Told as told;
+ghost use Rattle.kv_model.specs.Answers as texts;
+ghost use Rattle.kv_model.specs.Answers.{answered};
+ghost use Rattle.range_view.specs.Replies.{kv_view, reply_view};
+ghost use Rattle.gateway_text.specs.Tokens.{data_tokens};
+ghost use Rattle.gateway_text.specs.Views.{header_data};
+
+use crate::header::Header;
+use crate::json_text::JsonText;
+use crate::key_value::room_of;
+use kv_model::ids::Ids;
+use range_view::reply::{KvRef, RangeReply};
+use std::alloc::{AllocError, Global};
+
+/// The bytes of a body without its key-values, at most.
+const FRAME: usize = 256;
+
+/// The body of a Range's answer. Its header has the reply's revision.
+#[tactic(auto, using(crate::proofs::Objects::written), unfolding(kv_model::specs::Answers::reply_text))]
+pub fn range_text(alloc: Global, reply: &RangeReply<'_>, ids: &Ids) -> Result<Vec<u8>, AllocError>
+    ensures { IfOk result (λ v. v.items ≡ (answered ids.now
+        (record { reply = told.Reply.range (reply_view reply.now); revision = reply.now.revision })).body) }
+{
+    let mut out = JsonText::with_capacity(alloc, room_for(&reply.kvs))?;
+    write_range(&mut out, &Header::Whole(*ids, reply.revision), reply)?;
+    Ok(out.into_bytes())
+}
+
+/// The body of a Put's answer, with the revision after the Put and the key-value before it, where that was asked for.
+#[tactic(auto, using(crate::proofs::Objects::written), unfolding(kv_model::specs::Answers::reply_text))]
+pub fn put_text(
+    alloc: Global,
+    revision: u64,
+    previous: Option<KvRef<'_>>,
+    ids: &Ids,
+) -> Result<Vec<u8>, AllocError>
+    ensures { IfOk result (λ v. v.items ≡ (answered ids.now
+        (record { reply = told.Reply.put (option_map kv_view previous.entry); revision = revision })).body) }
+{
+    let room = match &previous {
+        Some(kv) => room_of(kv).saturating_add(FRAME),
+        None => FRAME,
+    };
+    let mut out = JsonText::with_capacity(alloc, room)?;
+    write_put(&mut out, &Header::Whole(*ids, revision), previous)?;
+    Ok(out.into_bytes())
+}
+
+/// The body of a DeleteRange's answer, with the revision after it, the number of keys that it deleted, and their
+/// key-values, where those were asked for.
+#[tactic(auto, using(crate::proofs::Objects::written), unfolding(kv_model::specs::Answers::reply_text))]
+pub fn delete_text(
+    alloc: Global,
+    revision: u64,
+    deleted: u64,
+    previous: &[KvRef<'_>],
+    ids: &Ids,
+) -> Result<Vec<u8>, AllocError>
+    ensures { IfOk result (λ v. v.items ≡ (answered ids.now
+        (record { reply = told.Reply.delete deleted (map kv_view previous.now); revision = revision })).body) }
+{
+    let mut out = JsonText::with_capacity(alloc, room_for(previous))?;
+    write_delete(&mut out, &Header::Whole(*ids, revision), deleted, previous)?;
+    Ok(out.into_bytes())
+}
+
+fn write_range(
+    out: &mut JsonText,
+    header: &Header,
+    reply: &RangeReply<'_>,
+) -> Result<(), AllocError>
+    ensures { OnOk result (out.new
+        ≡ out.old ++ data_tokens (texts.range_text (header_data header.now) (reply_view reply.now))) }
+{
+    out.begin_object()?;
+    out.number_member("count", reply.count)?;
+    out.member("header", header)?;
+    out.list_member("kvs", &reply.kvs)?;
+    out.truth_member("more", reply.more)?;
+    out.end_object()
+}
+
+fn write_put(
+    out: &mut JsonText,
+    header: &Header,
+    previous: Option<KvRef<'_>>,
+) -> Result<(), AllocError>
+    ensures { OnOk result (out.new
+        ≡ out.old ++ data_tokens (texts.put_text (header_data header.now) (option_map kv_view previous.entry))) }
+{
+    out.begin_object()?;
+    out.member("header", header)?;
+    out.optional_member("prev_kv", previous)?;
+    out.end_object()
+}
+
+fn write_delete(
+    out: &mut JsonText,
+    header: &Header,
+    deleted: u64,
+    previous: &[KvRef<'_>],
+) -> Result<(), AllocError>
+    ensures { OnOk result (out.new
+        ≡ out.old ++ data_tokens (texts.delete_text (header_data header.now) deleted (map kv_view previous.now))) }
+{
+    out.begin_object()?;
+    out.number_member("deleted", deleted)?;
+    out.member("header", header)?;
+    out.list_member("prev_kvs", previous)?;
+    out.end_object()
+}
+
+/// Room for a body with these key-values.
+fn room_for(kvs: &[KvRef<'_>]) -> usize {
+    let mut room = FRAME;
+    for kv in kvs {
+        room = room.saturating_add(room_of(kv));
+    }
+    room
+}

@@ -1,0 +1,32 @@
+//! A key-value in an answer.
+use crate::json_text::{JsonText, WriteJson};
+use range_view::reply::KvRef;
+use std::alloc::AllocError;
+
+/// The bytes of a key-value's text without its key and value, at most: six names and four numbers.
+const FRAME: usize = 192;
+
+/// Room for the text of a key-value: base64 has four symbols for three bytes.
+pub(crate) fn room_of(kv: &KvRef<'_>) -> usize {
+    let bytes = kv.key.len().saturating_add(kv.value.len());
+    (bytes / 3).saturating_mul(4).saturating_add(FRAME)
+}
+
+/// A key-value (the etcd documentation's KeyValue).
+impl<'a> WriteJson for KvRef<'a> {
+    ghost use Rattle.kv_model.specs.Answers.{key_value_text};
+    ghost use Rattle.range_view.specs.Replies.{kv_view};
+
+    ghost value = { λ kv. key_value_text (kv_view kv) };
+
+    fn write_json(&self, out: &mut JsonText) -> Result<(), AllocError> {
+        out.begin_object()?;
+        out.number_member("create_revision", self.create)?;
+        out.bytes_member("key", self.key)?;
+        out.signed_member("lease", self.lease)?;
+        out.number_member("mod_revision", self.modified)?;
+        out.bytes_member("value", self.value)?;
+        out.number_member("version", self.version)?;
+        out.end_object()
+    }
+}

@@ -1,0 +1,120 @@
+-- Keys in order, and the bounds of a range.
+use Rattle.std.proofs.Common.{◌≡◌, ℕ, List, [], ◌∷◌, length, Bool, true, false, not, ◌&&◌, nat_eq, cond, refl, sym, ◌∙◌, ap, arith}
+use Rattle.std.proofs.lemmas.Bool.Decides.{nat_tests}
+use Rattle.std.specs.declared.cmp.Ordering.{Ordering}
+use Rattle.std.specs.declared.cmp.Ordering.TheVariants.{Less, Equal, Greater}
+use Rattle.std.specs.Ordering.{ordering_reverse, is_eq, is_lt, is_le, is_gt}
+use Rattle.std.specs.Cmp.Lexicographic.{bytes_decides, nat_list_cmp_total}
+use Rattle.std.proofs.lemmas.Map.Lookups.{exact_bytes}
+use Rattle.kv_model.specs.declared.version.KeyRange.{KeyRange}
+use Rattle.kv_model.specs.Lists.{is_empty}
+use Rattle.kv_model.specs.Keys.{key_cmp, key_lt, key_le, same_key, zero_byte, in_range}
+
+pub same-refl : (k : List ℕ) → same_key k k ≡ true
+same-refl k = (bytes_decides k k).1 refl
+
+pub same-eq : (k l : List ℕ) → same_key k l ≡ true → k ≡ l
+same-eq k l h = (bytes_decides k l).0 h
+
+pub cmp-refl : (k : List ℕ) → key_cmp k k ≡ Equal
+cmp-refl k = by (key_cmp k k) (nat_list_cmp_total.antisymm k k)
+  where
+    by : (o : Ordering) → o ≡ ordering_reverse o → o ≡ Equal
+    by Less e = cc
+    by Equal e = refl
+    by Greater e = cc
+
+pub less-greater : (k l : List ℕ) → key_cmp k l ≡ Greater → key_cmp l k ≡ Less
+less-greater k l e = nat_list_cmp_total.antisymm l k ∙ ap ordering_reverse e
+
+-- the order ties just what is the same
+pub eq-same : (q k : List ℕ) → is_eq (key_cmp q k) ≡ same_key k q
+eq-same q k = by (same_key k q) refl
+  where
+    no : (o : Ordering) → key_cmp q k ≡ o → same_key k q ≡ false → is_eq o ≡ false
+    no Less e h = refl
+    no Equal e h = let f : true ≡ false = sym (same-refl q) ∙ ap (λ l. same_key l q) (exact_bytes q k e) ∙ h in cc
+    no Greater e h = refl
+
+    by : (b : Bool) → same_key k q ≡ b → is_eq (key_cmp q k) ≡ b
+    by true e = ap (λ l. is_eq (key_cmp q l)) (same-eq k q e) ∙ ap is_eq (cmp-refl q)
+    by false e = no (key_cmp q k) refl e
+
+-- ---- bounds
+
+one_key-cmp : (a k : List ℕ) → (o : Ordering) → key_cmp a k ≡ o → (is_le o && not (is_lt o)) ≡ is_eq o
+one_key-cmp a k Less e = refl
+one_key-cmp a k Equal e = refl
+one_key-cmp a k Greater e = refl
+
+same-comm : (k l : List ℕ) → same_key k l ≡ same_key l k
+same-comm k l = by (same_key k l) refl (same_key l k) refl
+  where
+    by : (b : Bool) → same_key k l ≡ b → (c : Bool) → same_key l k ≡ c → b ≡ c
+    by true e true f = refl
+    by true e false f = sym (ap (λ j. same_key l j) (same-eq k l e) ∙ same-refl l) ∙ f
+    by false e true f = sym e ∙ ap (λ j. same_key k j) (same-eq l k f) ∙ same-refl k
+    by false e false f = refl
+
+pub contains-one : (a k : List ℕ) → (is_le (key_cmp a k) && not (is_lt (key_cmp a k))) ≡ same_key k a
+contains-one a k = one_key-cmp a k (key_cmp a k) refl ∙ eq-same a k
+
+turned : (o p : Ordering) → o ≡ ordering_reverse p → not (is_le o) ≡ is_lt p
+turned o Less e = ap (λ x. not (is_le x)) e
+turned o Equal e = ap (λ x. not (is_le x)) e
+turned o Greater e = ap (λ x. not (is_le x)) e
+
+pub contains-below : (a b k : List ℕ) → (is_le (key_cmp a k) && not (is_le (key_cmp b k))) ≡ (key_le a k && key_lt k b)
+contains-below a b k = ap (λ t. is_le (key_cmp a k) && t) (turned (key_cmp b k) (key_cmp k b) (nat_list_cmp_total.antisymm b k))
+
+less : (o : Ordering) → is_lt o ≡ true → o ≡ Less
+less Less h = refl
+less Equal h = cc
+less Greater h = cc
+
+-- nothing is above the key and below an end that is below the key
+pub contains-none : (a b k : List ℕ) → is_lt (key_cmp b a) ≡ true → (is_le (key_cmp a k) && not (is_le (key_cmp a k))) ≡ (key_le a k && key_lt k b)
+contains-none a b k h = by (key_cmp a k) refl (key_cmp k b) refl
+  where
+    below : key_cmp b a ≡ Less
+    below = less (key_cmp b a) h
+
+    none : key_cmp a b ≡ Less → false ≡ true
+    none e =
+        let f : key_cmp b b ≡ Less = nat_list_cmp_total.trans b a b below e in
+        let g : Less ≡ Equal = sym f ∙ cmp-refl b in
+        cc
+
+    by : (o : Ordering) → key_cmp a k ≡ o → (p : Ordering) → key_cmp k b ≡ p → (is_le o && not (is_le o)) ≡ (is_le o && is_lt p)
+    by Less e Less f = none (nat_list_cmp_total.trans a k b e f)
+    by Less e Equal f = refl
+    by Less e Greater f = refl
+    by Equal e Less f = none (ap (λ j. key_cmp j b) (exact_bytes a k e) ∙ f)
+    by Equal e Equal f = refl
+    by Equal e Greater f = refl
+    by Greater e p f = refl
+
+pub forward-same : (a : List ℕ) → is_gt (key_cmp a a) ≡ false
+forward-same a = ap is_gt (cmp-refl a)
+
+pub forward : (a b : List ℕ) → is_lt (key_cmp b a) ≡ false → is_gt (key_cmp a b) ≡ false
+forward a b h = by (key_cmp b a) h (nat_list_cmp_total.antisymm a b)
+  where
+    by : (o : Ordering) → is_lt o ≡ false → key_cmp a b ≡ ordering_reverse o → is_gt (key_cmp a b) ≡ false
+    by Less h e = cc
+    by Equal h e = ap is_gt e
+    by Greater h e = ap is_gt e
+
+pub empty-length : (xs : List ℕ) (b : Bool) → nat_eq (length xs) 0 ≡ b → is_empty xs ≡ b
+empty-length [] b h = h
+empty-length (x ∷ xs) true h = grind (arith, nat_tests)
+empty-length (x ∷ xs) false h = refl
+
+pub in_range-one : (r : KeyRange) (k : List ℕ) → is_empty r.end ≡ true → in_range r k ≡ same_key k r.key
+in_range-one r k e =
+    ap (λ b. cond b (same_key k r.key) (cond (same_key r.end zero_byte && same_key r.key zero_byte) true (cond (same_key r.end zero_byte) (key_le r.key k) (key_le r.key k && key_lt k r.end)))) e
+
+pub in_range-between : (r : KeyRange) (k : List ℕ) → is_empty r.end ≡ false → same_key r.end zero_byte ≡ false → in_range r k ≡ (key_le r.key k && key_lt k r.end)
+in_range-between r k e z =
+    ap (λ b. cond b (same_key k r.key) (cond (same_key r.end zero_byte && same_key r.key zero_byte) true (cond (same_key r.end zero_byte) (key_le r.key k) (key_le r.key k && key_lt k r.end)))) e
+    ∙ ap (λ b. cond (b && same_key r.key zero_byte) true (cond b (key_le r.key k) (key_le r.key k && key_lt k r.end))) z

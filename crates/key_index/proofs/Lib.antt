@@ -1,0 +1,6 @@
+pub mod RevOrder
+pub mod Marks
+pub mod Keys
+pub mod Entries
+pub mod Agrees
+pub mod Walks

@@ -1,0 +1,4 @@
+pub mod Marks
+pub mod Index
+pub mod Agrees
+pub mod Lent

@@ -1,0 +1,45 @@
+-- The revisions of one key, in order.
+use Rattle.std.specs.Prelude.{◌≡◌, ℕ, zero, suc, List, [], ◌∷◌, Bool, true, false, ◌&&◌, ◌==◌, Option, None, Some, option_map, if◌then◌else◌, ⊤}
+use Rattle.std.specs.List.{AllByRecursion}
+use Rattle.kv_model.specs.declared.version.Rev.{Rev}
+use Rattle.kv_model.specs.Lists.{last_that, is_empty}
+use Rattle.kv_model.specs.History.{rev_lt, rev_le}
+use Rattle.key_index.specs.declared.revisions.Mark.{Mark}
+
+-- the place stands behind every revision
+abbrev pub IsBehind : Rev → List Mark → Type 0
+IsBehind p ms = AllByRecursion (λ m. rev_lt m.rev p ≡ true) ms
+
+-- each revision stands before those after it
+abbrev pub IsRising : List Mark → Type 0
+IsRising [] = ⊤
+IsRising (m ∷ ms) = AllByRecursion (λ n. rev_lt m.rev n.rev ≡ true) ms × IsRising ms
+
+abbrev pub rev_of : Mark → Rev
+rev_of m = m.rev
+
+-- the last revision that is not after the place, a tombstone's too
+abbrev pub at_place : Rev → List Mark → Option Rev
+at_place p ms = option_map rev_of (last_that (λ m. rev_le m.rev p) ms)
+
+-- the last one
+abbrev pub newest : List Mark → Option Mark
+newest ms = last_that (λ _. true) ms
+
+abbrev pub is_of : ℕ → Option Mark → Bool
+is_of main None = false
+is_of main (Some m) = m.rev.main == main
+
+-- the last one is of this main revision
+abbrev pub ends_in : ℕ → List Mark → Bool
+ends_in main ms = is_of main (newest ms)
+
+-- the revisions without those of a main revision at the end
+abbrev pub undone : ℕ → List Mark → List Mark
+undone main [] = []
+undone main (m ∷ ms) = if is_empty (undone main ms) && m.rev.main == main then [] else m ∷ undone main ms
+
+-- how many revisions are not after the place, where they rise
+abbrev pub count_up_to : Rev → List Mark → ℕ
+count_up_to p [] = zero
+count_up_to p (m ∷ ms) = if rev_le m.rev p then suc (count_up_to p ms) else zero

@@ -1,0 +1,55 @@
+//! Changes of the map from each key to its revisions. A key without revisions does not stay in it.
+ghost use Rattle.std.specs.Prelude.{◌≡◌, OnOk, OnErr};
+ghost use Rattle.key_index.specs.Marks.{IsBehind};
+ghost use Rattle.key_index.specs.Index.{marks, undone_at, with_mark, without_front};
+
+use crate::revisions::{Mark, Revisions};
+use bytes::Bytes;
+use std::alloc::{AllocError, Global};
+use std::collections::BTreeMap;
+
+/// Adds a revision of a key, which is above those that the key has.
+pub(crate) fn add(
+    alloc: Global,
+    keys: &mut BTreeMap<Bytes, Revisions>,
+    key: &Bytes,
+    mark: Mark,
+) -> Result<(), AllocError>
+    requires { IsBehind mark.rev (marks key.now keys.old.entries) }
+    ensures ok { OnOk result (keys.new.entries ≡ with_mark key.now mark keys.old.entries) }
+    ensures err { OnErr result (keys.new.entries ≡ keys.old.entries) }
+{
+    if let Some(revisions) = keys.get_mut(key) {
+        return revisions.push(mark);
+    }
+    let mut revisions = Revisions::new(alloc);
+    revisions.push(mark)?;
+    keys.insert(key.clone()?, revisions)?;
+    Ok(())
+}
+
+/// Drops what a key has of a main revision at the end.
+pub(crate) fn undo(keys: &mut BTreeMap<Bytes, Revisions>, main: u64, key: &Bytes)
+    ensures { keys.new.entries ≡ undone_at main key.now keys.old.entries }
+{
+    let Some(revisions) = keys.get_mut(key) else {
+        return;
+    };
+    revisions.undo(main);
+    if revisions.is_empty() {
+        keys.remove(key);
+    }
+}
+
+/// Drops the oldest revision of a key.
+pub(crate) fn drop_front(keys: &mut BTreeMap<Bytes, Revisions>, key: &Bytes)
+    ensures { keys.new.entries ≡ without_front key.now keys.old.entries }
+{
+    let Some(revisions) = keys.get_mut(key) else {
+        return;
+    };
+    revisions.drop_front();
+    if revisions.is_empty() {
+        keys.remove(key);
+    }
+}

@@ -1,0 +1,146 @@
+//! From each key to its revisions (etcd: the tree index of keys).
+ghost use Rattle.std.specs.Prelude.{◌≡◌, ◌↔◌, List, [], ◌∷◌, ◌++◌, map, OnOk, OnErr, IfOk, IsTrue, Some, None, true, false};
+ghost use Rattle.key_index.specs.Marks.{IsBehind, at_place, undone};
+ghost use Rattle.key_index.specs.Index.{IsIndex, in_interval, marks, retracted, undone_at, with_mark, without_front};
+
+use crate::changes;
+use crate::interval::bounds;
+use crate::revisions::{Mark, Revisions};
+use bytes::Bytes;
+use kv_model::version::{KeyRange, Rev, Version};
+use std::alloc::{AllocError, Global};
+use std::collections::BTreeMap;
+use std::marker::Model;
+
+/// The revisions of each key: an ordered map of the standard library.
+#[derive(Debug, Drop)]
+pub struct KeyIndex {
+    alloc: Global,
+    keys: BTreeMap<Bytes, Revisions>,
+}
+
+impl Model for KeyIndex {
+    ghost use Rattle.key_index.specs.Index.{Index, IsIndex};
+
+    ghost Value = { Index };
+
+    ghost view = { λ x. x.keys.entries };
+
+    ghost invariant = { λ x. IsIndex x.keys.entries };
+}
+
+/// A key of the index, lent with its revisions.
+#[derive(Clone, Copy, Debug)]
+pub struct Indexed<'a> {
+    pub key: &'a Bytes,
+    pub revisions: &'a Revisions,
+}
+
+impl KeyIndex {
+    ghost use Rattle.key_index.specs.Lent.{entry_of};
+
+    /// The empty index, which takes its memory from `alloc` as it grows.
+    pub fn new(alloc: Global) -> Self
+        ensures { result ≡ [] }
+    {
+        KeyIndex {
+            alloc,
+            keys: BTreeMap::new(alloc),
+        }
+    }
+
+    /// Whether `put` and `gone` take a revision of a key: it is above each one that the key has. Takes no memory, and
+    /// time logarithmic in the number of keys.
+    pub fn takes(&self, key: &Bytes, rev: Rev) -> bool
+        ensures { IsTrue result ↔ IsBehind rev (marks key.now self.now) }
+    {
+        match self.keys.get(key) {
+            Some(revisions) => revisions.takes(rev),
+            None => true,
+        }
+    }
+
+    /// Adds a put of a key. Its revision is above each one that the key has.
+    ///
+    /// The error is want of memory, and the index is then as it was. The time is logarithmic in the number of keys.
+    pub fn put(&mut self, key: &Bytes, rev: Rev) -> Result<(), AllocError>
+        requires { IsBehind rev (marks key.now self.old) }
+        ensures ok { OnOk result (self.new ≡ with_mark key.now (record { rev = rev; gone = false }) self.old) }
+        ensures err { OnErr result (self.new ≡ self.old) }
+    {
+        self.add(key, Mark { rev, gone: false })
+    }
+
+    /// Adds a tombstone of a key. Its revision is above each one that the key has.
+    ///
+    /// The error is want of memory, and the index is then as it was. The time is logarithmic in the number of keys.
+    pub fn gone(&mut self, key: &Bytes, rev: Rev) -> Result<(), AllocError>
+        requires { IsBehind rev (marks key.now self.old) }
+        ensures ok { OnOk result (self.new ≡ with_mark key.now (record { rev = rev; gone = true }) self.old) }
+        ensures err { OnErr result (self.new ≡ self.old) }
+    {
+        self.add(key, Mark { rev, gone: true })
+    }
+
+    /// Adds a revision of a key.
+    fn add(&mut self, key: &Bytes, mark: Mark) -> Result<(), AllocError>
+        requires { IsBehind mark.rev (marks key.now self.old) }
+        ensures ok { OnOk result (self.new ≡ with_mark key.now mark self.old) }
+        ensures err { OnErr result (self.new ≡ self.old) }
+    {
+        changes::add(self.alloc, &mut self.keys, key, mark)
+    }
+
+    /// Takes a main revision back: for each of the changes, drops what its key has of that revision at the end. With
+    /// the changes of the newest main revision nothing of it is left. Takes no memory.
+    ///
+    /// The time is logarithmic in the number of keys for each change.
+    pub fn retract(&mut self, main: u64, changes: &[Version])
+        ensures { self.new ≡ retracted main changes.now self.old }
+    {
+        for change in changes {
+            self.undo(main, &change.key);
+        }
+    }
+
+    /// Drops what a key has of a main revision at the end.
+    fn undo(&mut self, main: u64, key: &Bytes)
+        ensures { self.new ≡ undone_at main key.now self.old }
+    {
+        changes::undo(&mut self.keys, main, key);
+    }
+
+    /// Drops the oldest revision of a key, and nothing where it has none. Takes no memory, and time logarithmic in the
+    /// number of keys.
+    pub fn drop_front(&mut self, key: &Bytes)
+        ensures { self.new ≡ without_front key.now self.old }
+    {
+        changes::drop_front(&mut self.keys, key);
+    }
+
+    /// The last revision of a key that is not after a place, also where it is a tombstone. Takes no memory.
+    ///
+    /// The time is logarithmic in the number of keys and in that of the key's revisions.
+    pub fn at(&self, key: &Bytes, place: Rev) -> Option<Rev>
+        ensures { result ≡ at_place place (marks key.now self.now) }
+    {
+        match self.keys.get(key) {
+            Some(revisions) => revisions.at(place),
+            None => None,
+        }
+    }
+
+    /// The keys of a range, ascending, each with its revisions (etcd: key ranges of a RangeRequest).
+    ///
+    /// The error is want of memory. The time is logarithmic in the number of keys, and linear in that of the keys of
+    /// the range: no other key is walked.
+    pub fn keys_in(&self, range: &KeyRange) -> Result<Vec<Indexed<'_>>, AllocError>
+        ensures keys { IfOk result (λ v. map entry_of v.items ≡ in_interval range.now self.now) }
+        ensures sound { IsIndex self.now }
+    {
+        self.keys
+            .range(bounds(range))
+            .map(|(key, revisions)| Indexed { key, revisions })
+            .collect(self.alloc)
+    }
+}

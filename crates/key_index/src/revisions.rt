@@ -1,0 +1,157 @@
+//! The revisions of one key, in order (etcd: data model, generations of a key).
+ghost use Rattle.std.specs.Prelude.{◌≡◌, ◌↔◌, List, [], ◌∷◌, ◌++◌, ◌<◌, ◌≤◌, length, drop, option_map, OnOk, OnErr, IsTrue, Some, None};
+ghost use Rattle.std.specs.List.{slice_get};
+ghost use Rattle.kv_model.specs.Lists.{is_empty};
+ghost use Rattle.kv_model.specs.History.{rev_lt, rev_le};
+ghost use Rattle.key_index.specs.Marks.{IsBehind, IsRising, at_place, count_up_to, ends_in, newest, rev_of, undone};
+
+use kv_model::version::Rev;
+use std::alloc::{AllocError, Global};
+use std::collections::VecDeque;
+use std::marker::Model;
+
+/// A revision of a key: a put, or a tombstone. The put after a tombstone, or the first one, begins a generation of
+/// the key, which goes to the next tombstone.
+#[derive(Clone, Copy, Debug)]
+pub struct Mark {
+    pub rev: Rev,
+    /// Whether the revision is a tombstone.
+    pub gone: bool,
+}
+
+/// The revisions of a key, rising.
+#[derive(Debug, Drop)]
+pub struct Revisions {
+    marks: VecDeque<Mark>,
+}
+
+impl Model for Revisions {
+    ghost use Rattle.std.specs.Prelude.{List};
+    ghost use Rattle.key_index.specs.declared.revisions.Mark.{Mark};
+    ghost use Rattle.key_index.specs.Marks.{IsRising};
+
+    ghost Value = { List Mark };
+
+    ghost view = { λ r. r.marks.items };
+
+    ghost invariant = { λ r. IsRising r.marks.items };
+}
+
+impl Revisions {
+    /// No revisions.
+    pub(crate) fn new(alloc: Global) -> Self
+        ensures { result ≡ [] }
+    {
+        Revisions {
+            marks: VecDeque::new(alloc),
+        }
+    }
+
+    /// Whether there is no revision.
+    pub fn is_empty(&self) -> bool
+        ensures { result ≡ is_empty self.now }
+    {
+        self.marks.is_empty()
+    }
+
+    /// The last revision that is not after a place, also where it is a tombstone. Takes no memory.
+    ///
+    /// It halves: the time is logarithmic in the number of the key's revisions.
+    pub fn at(&self, place: Rev) -> Option<Rev>
+        ensures { result ≡ at_place place self.now }
+    {
+        match count_up_to(&self.marks, place).checked_sub(1) {
+            Some(last) => rev_at(&self.marks, last),
+            None => None,
+        }
+    }
+
+    /// Whether a revision is above all of these.
+    pub(crate) fn takes(&self, rev: Rev) -> bool
+        ensures { IsTrue result ↔ IsBehind rev self.now }
+    {
+        match newest(&self.marks) {
+            Some(newest) => is_before(newest.rev, rev),
+            None => true,
+        }
+    }
+
+    /// Adds a revision at the end.
+    pub(crate) fn push(&mut self, mark: Mark) -> Result<(), AllocError>
+        requires { IsBehind mark.rev self.old }
+        ensures ok { OnOk result (self.new ≡ self.old ++ mark ∷ []) }
+        ensures err { OnErr result (self.new ≡ self.old) }
+    {
+        self.marks.push_back(mark)?;
+        Ok(())
+    }
+
+    /// Drops the oldest revision.
+    pub(crate) fn drop_front(&mut self)
+        ensures { self.new ≡ drop 1 self.old }
+    {
+        let _ = self.marks.pop_front();
+    }
+
+    /// Drops the revisions of a main revision at the end.
+    pub(crate) fn undo(&mut self, main: u64)
+        ensures { self.new ≡ undone main self.old }
+    {
+        undo(&mut self.marks, main);
+    }
+}
+
+/// Drops the revisions of a main revision at the end.
+fn undo(marks: &mut VecDeque<Mark>, main: u64)
+    ensures { marks.new.items ≡ undone main marks.old.items }
+{
+    while ends_in(marks, main) {
+        let _ = marks.pop_back();
+    }
+}
+
+/// The last revision.
+fn newest(marks: &VecDeque<Mark>) -> Option<Mark>
+    ensures { result ≡ newest marks.now.items }
+{
+    marks.back().copied()
+}
+
+/// Whether the last revision is of a main revision.
+fn ends_in(marks: &VecDeque<Mark>, main: u64) -> bool
+    ensures { result ≡ ends_in main marks.now.items }
+{
+    match newest(marks) {
+        Some(newest) => newest.rev.main == main,
+        None => false,
+    }
+}
+
+/// Whether a revision stands before another, by main and then by sub.
+fn is_before(left: Rev, right: Rev) -> bool
+    ensures { result ≡ rev_lt left right }
+{
+    left.cmp(&right).is_lt()
+}
+
+/// Whether a revision is another or stands before it.
+fn is_up_to(left: Rev, right: Rev) -> bool
+    ensures { result ≡ rev_le left right }
+{
+    left.cmp(&right).is_le()
+}
+
+/// The revision at an index.
+fn rev_at(marks: &VecDeque<Mark>, place: usize) -> Option<Rev>
+    ensures { result ≡ option_map rev_of (slice_get marks.now.items place) }
+{
+    marks.get(place).map(|mark| mark.rev)
+}
+
+/// How many of the revisions, which rise, are not after a place. It halves.
+fn count_up_to(marks: &VecDeque<Mark>, place: Rev) -> usize
+    requires { IsRising marks.now.items }
+    ensures { result ≡ count_up_to place marks.now.items }
+{
+    marks.partition_point(|mark| is_up_to(mark.rev, place))
+}

@@ -1,2 +1,0 @@
-// The leases that are granted, and the clock.
-#![tactic(auto)]
