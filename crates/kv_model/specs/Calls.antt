@@ -6,7 +6,7 @@ use Rattle.kv_model.specs.declared.call.DeleteRequest.{DeleteRequest}
 use Rattle.kv_model.specs.declared.call.Compare.{Compare}
 use Rattle.kv_model.specs.declared.call.Watched.{Watched}
 use Rattle.kv_model.specs.declared.call.Command.{Command}
-use Rattle.kv_model.specs.declared.call.Command.TheVariants.{Range, Put}
+use Rattle.kv_model.specs.declared.call.Command.TheVariants.{Range, Put, Delete}
 use Rattle.kv_model.specs.declared.call.Operation.{Operation, fold-Operation}
 use Rattle.kv_model.specs.declared.call.Operation.TheOpen.{Operation-F, Txn-F}
 use Rattle.kv_model.specs.declared.call.Txn.{Txn, fold-Txn}
@@ -68,3 +68,4 @@ ops_view os = joined (map op_view os)
 abbrev pub call_of : Command → Call
 call_of (Range q) = Call.range q
 call_of (Put p) = Call.put p
+call_of (Delete d) = Call.delete d

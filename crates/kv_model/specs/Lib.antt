@@ -5,7 +5,6 @@ pub mod History
 pub mod Ranges
 pub mod Events
 pub mod Calls
-pub mod Built
 pub mod Txns
 pub mod Plans
 pub mod Leases

@@ -153,18 +153,6 @@ unbuilt is_default name (Err e) = Err e
 abbrev pub is_zero : ℤ → Bool
 is_zero n = int_eq n (pos 0)
 
-abbrev pub is_unsorted : SortOrder → Bool
-is_unsorted Unsorted = true
-is_unsorted Ascend = false
-is_unsorted Descend = false
-
-abbrev pub is_by_key : SortTarget → Bool
-is_by_key ByKey = true
-is_by_key ByVersion = false
-is_by_key ByCreate = false
-is_by_key ByMod = false
-is_by_key ByValue = false
-
 -- ---- enums
 
 abbrev pub sort_orders : List (List ℕ × SortOrder)
@@ -203,18 +191,18 @@ drops_puts Filter.no_delete = false
 unfoldable pub range_query : Members → Read RangeQuery
 range_query ms = do
   key ← bytes_field (codes "key") ms
-  end ← unbuilt is_empty (codes "range_end") (bytes_field (codes "range_end") ms)
-  limit ← unbuilt is_zero (codes "limit") (integer_field (codes "limit") ms)
-  revision ← unbuilt is_zero (codes "revision") (integer_field (codes "revision") ms)
-  order ← unbuilt is_unsorted (codes "sort_order") (field Unsorted (enum_of sort_orders) (codes "sort_order") ms)
-  target ← unbuilt is_by_key (codes "sort_target") (field ByKey (enum_of sort_targets) (codes "sort_target") ms)
-  serializable ← unbuilt not (codes "serializable") (truth_field (codes "serializable") ms)
-  keys_only ← unbuilt not (codes "keys_only") (truth_field (codes "keys_only") ms)
-  count_only ← unbuilt not (codes "count_only") (truth_field (codes "count_only") ms)
-  min_mod ← unbuilt is_zero (codes "min_mod_revision") (integer_field (codes "min_mod_revision") ms)
-  max_mod ← unbuilt is_zero (codes "max_mod_revision") (integer_field (codes "max_mod_revision") ms)
-  min_create ← unbuilt is_zero (codes "min_create_revision") (integer_field (codes "min_create_revision") ms)
-  max_create ← unbuilt is_zero (codes "max_create_revision") (integer_field (codes "max_create_revision") ms)
+  end ← bytes_field (codes "range_end") ms
+  limit ← integer_field (codes "limit") ms
+  revision ← integer_field (codes "revision") ms
+  order ← field Unsorted (enum_of sort_orders) (codes "sort_order") ms
+  target ← field ByKey (enum_of sort_targets) (codes "sort_target") ms
+  serializable ← truth_field (codes "serializable") ms
+  keys_only ← truth_field (codes "keys_only") ms
+  count_only ← truth_field (codes "count_only") ms
+  min_mod ← integer_field (codes "min_mod_revision") ms
+  max_mod ← integer_field (codes "max_mod_revision") ms
+  min_create ← integer_field (codes "min_create_revision") ms
+  max_create ← integer_field (codes "max_create_revision") ms
   Ok (record {
     range = record { key = key; end = end };
     limit = limit;
@@ -235,9 +223,9 @@ put_request ms = do
   key ← bytes_field (codes "key") ms
   value ← bytes_field (codes "value") ms
   lease ← unbuilt is_zero (codes "lease") (integer_field (codes "lease") ms)
-  prev_kv ← unbuilt not (codes "prev_kv") (truth_field (codes "prev_kv") ms)
-  ignore_value ← unbuilt not (codes "ignore_value") (truth_field (codes "ignore_value") ms)
-  ignore_lease ← unbuilt not (codes "ignore_lease") (truth_field (codes "ignore_lease") ms)
+  prev_kv ← truth_field (codes "prev_kv") ms
+  ignore_value ← truth_field (codes "ignore_value") ms
+  ignore_lease ← truth_field (codes "ignore_lease") ms
   Ok (record { key = key; value = value; lease = lease; prev_kv = prev_kv; ignore_value = ignore_value; ignore_lease = ignore_lease })
 
 unfoldable pub delete_request : Members → Read DeleteRequest
@@ -357,6 +345,7 @@ time_to_live_request ms = do
 abbrev pub paths : List (List ℕ × (Members → Read Call))
 paths = (codes "/v3/kv/range", λ ms. range_query ms >>= λ q. Ok (Call.range q))
     ∷ (codes "/v3/kv/put", λ ms. put_request ms >>= λ p. Ok (Call.put p))
+    ∷ (codes "/v3/kv/deleterange", λ ms. delete_request ms >>= λ d. Ok (Call.delete d))
     ∷ []
 
 abbrev pub longest_body : ℕ

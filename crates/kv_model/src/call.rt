@@ -109,4 +109,6 @@ pub enum Command {
     Range(RangeQuery),
     /// Puts a value under a key.
     Put(PutRequest),
+    /// Deletes the live keys of a range.
+    Delete(DeleteRequest),
 }
