@@ -111,7 +111,7 @@ grown-values vs t ms c r k g h f one kept = value_at-grows vs (dress ms) t (end_
         ∙ good-value_now vs ms c k g h f ∙ sym (value_at-by (dress ms) (end_of r) k (dressed-before ms r h (omega arith)))
     by (inr l) = good-value_at vs ms c r k g h (record { first = one; kept = kept; past = l })
 
-map-filter-same : {X Y : Type 0} (p : X → Bool) (f g : X → Y) → ((x : X) → p x ≡ true → f x ≡ g x) → (xs : List X) → map f (filter p xs) ≡ map g (filter p xs)
+pub map-filter-same : {X Y : Type 0} (p : X → Bool) (f g : X → Y) → ((x : X) → p x ≡ true → f x ≡ g x) → (xs : List X) → map f (filter p xs) ≡ map g (filter p xs)
 map-filter-same p f g h [] = refl
 map-filter-same p f g h (x ∷ xs) = by (p x) refl (map-filter-same p f g h xs)
   where
@@ -119,7 +119,7 @@ map-filter-same p f g h (x ∷ xs) = by (p x) refl (map-filter-same p f g h xs)
     by true e rest = λ i. h x e i ∷ rest i
     by false e rest = rest
 
-filter-none : {X : Type 0} (p : X → Bool) (xs : List X) → AllByRecursion (λ x. p x ≡ false) xs → filter p xs ≡ []
+pub filter-none : {X : Type 0} (p : X → Bool) (xs : List X) → AllByRecursion (λ x. p x ≡ false) xs → filter p xs ≡ []
 filter-none p [] h = refl
 filter-none p (x ∷ xs) h = ap (λ b. cond b (x ∷ filter p xs) (filter p xs)) h.0 ∙ filter-none p xs h.1
 
@@ -127,14 +127,14 @@ filter-none p (x ∷ xs) h = ap (λ b. cond b (x ∷ filter p xs) (filter p xs))
 abbrev pub is_told : ℕ → Watched → Version → Bool
 is_told r w v = v.rev.main == r && matches w v
 
-other-revision : (r n : ℕ) (w : Watched) → n ≢ r → (v : Version) → v.rev.main ≡ n → is_told r w v ≡ false
+pub other-revision : (r n : ℕ) (w : Watched) → n ≢ r → (v : Version) → v.rev.main ≡ n → is_told r w v ≡ false
 other-revision r n w ne v e = by (v.rev.main == r) refl
   where
     by : (b : Bool) → (v.rev.main == r) ≡ b → (b && matches w v) ≡ false
     by true f = absurd (ne (sym e ∙ eqb-true v.rev.main r f))
     by false f = refl
 
-told-main : (r : ℕ) (w : Watched) (v : Version) → is_told r w v ≡ true → v.rev.main ≡ r
+pub told-main : (r : ℕ) (w : Watched) (v : Version) → is_told r w v ≡ true → v.rev.main ≡ r
 told-main r w v h = by (v.rev.main == r) refl h
   where
     by : (b : Bool) → (v.rev.main == r) ≡ b → (b && matches w v) ≡ true → v.rev.main ≡ r
@@ -142,7 +142,7 @@ told-main r w v h = by (v.rev.main == r) refl h
     by false f e = cc
 
 -- what is told of a version, by what its key held before it
-event-same : (vs ws : List Version) (c : ℕ) (w : Watched) (v : Version) → value_at vs (end_of (v.rev.main - 1)) v.key ≡ value_at ws (end_of (v.rev.main - 1)) v.key
+pub event-same : (vs ws : List Version) (c : ℕ) (w : Watched) (v : Version) → value_at vs (end_of (v.rev.main - 1)) v.key ≡ value_at ws (end_of (v.rev.main - 1)) v.key
     → event_of vs c w v ≡ event_of ws c w v
 event-same vs ws c w v e = ap (λ (o : Option KeyValue). record { version = v; before = cond (before_is_kept c v.rev.main && w.prev_kv) o None }) e
 
@@ -173,7 +173,7 @@ pub good-events : (vs : List Version) (ms : List Mutation) (c r : ℕ) (w : Watc
 unfolding watch_of
 good-events vs ms c r w g k = ap watch_of (g.answers (Question.watch w r) k)
 
-dressed-mains : (ms : List Mutation) → IsHistory ms → AllByRecursion (λ v. v.rev.main ≤ now ms) (dress ms)
+pub dressed-mains : (ms : List Mutation) → IsHistory ms → AllByRecursion (λ v. v.rev.main ≤ now ms) (dress ms)
 dressed-mains ms h = each-dressed (λ p k. p.main ≤ now ms) ms (mains-by ms h)
 
 grown-events : (vs t : List Version) (ms : List Mutation) (c r : ℕ) (w : Watched) → IsGood vs ms c → IsHistory ms → c ≤ now ms → 1 ≤ r → c ≤ r → r ≤ now ms + 1

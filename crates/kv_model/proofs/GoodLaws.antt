@@ -82,15 +82,15 @@ live_now-by vs p r h =
 
 -- ---- reads
 
-or-none : {X : Type 0} (a b : Option X) → option_or a b ≡ None → b ≡ None
+pub or-none : {X : Type 0} (a b : Option X) → option_or a b ≡ None → b ≡ None
 or-none None b e = e
 or-none (Some x) b e = cc
 
-or-none-first : {X : Type 0} (a b : Option X) → option_or a b ≡ None → a ≡ None
+pub or-none-first : {X : Type 0} (a b : Option X) → option_or a b ≡ None → a ≡ None
 or-none-first None b e = refl
 or-none-first (Some x) b e = cc
 
-not-refused : (b : Bool) (e : Refusal) → refuse_if b e ≡ None → b ≡ false
+pub not-refused : (b : Bool) (e : Refusal) → refuse_if b e ≡ None → b ≡ false
 not-refused true e h = cc
 not-refused false e h = refl
 

@@ -120,6 +120,14 @@ rev_le-after p q h = by (nat_cmp p.main q.main) (ranks p.main q.main) (nat_cmp p
     by Equal a t = absurd (omega arith)
     by Greater a t = refl
 
+pub rev_le-before : (p q : Rev) → p.main < q.main → rev_le p q ≡ true
+rev_le-before p q h = by (nat_cmp p.main q.main) (ranks p.main q.main) (nat_cmp p.sub q.sub)
+  where
+    by : (o : Ordering) → MatchOrdering o (p.main < q.main) (p.main ≡ q.main) (q.main < p.main) → (t : Ordering) → is_le (ordering_then o t) ≡ true
+    by Less a t = refl
+    by Equal a t = absurd (omega arith)
+    by Greater a t = absurd (omega arith)
+
 pub rev_lt-main : (p q : Rev) → rev_lt p q ≡ true → p.main ≤ q.main
 rev_lt-main p q h = by (nat_cmp p.main q.main) (ranks p.main q.main) (nat_cmp p.sub q.sub) h
   where
@@ -171,7 +179,7 @@ now_after-above r (m ∷ ms) a h =
     let first : r ≤ m.rev.main = a.0 in
     (omega arith, (rest.0, rest.1))
 
-above-one : (m : Mutation) → IsChange m → 1 ≤ m.rev.main
+pub above-one : (m : Mutation) → IsChange m → 1 ≤ m.rev.main
 above-one m h = omega arith
 
 -- no change of a history is behind its revision

@@ -34,10 +34,10 @@ NoClash (Path.txn b inner rest) = AllByRecursion (λ t. IsClear t (path_touches 
 clear-tail : (us : List Mutation) (t : Touch) (ts : List Touch) → AreClear us (t ∷ ts) → AreClear us ts
 clear-tail us t ts h = each-map (λ u. IsClear (touch_of u) (t ∷ ts)) (λ u. IsClear (touch_of u) ts) (λ u c. c.1) us h
 
-clear-head : (us : List Mutation) (t : Touch) (ts : List Touch) → AreClear us (t ∷ ts) → AllByRecursion (λ u. collides (touch_of u) t ≡ false) us
+pub clear-head : (us : List Mutation) (t : Touch) (ts : List Touch) → AreClear us (t ∷ ts) → AllByRecursion (λ u. collides (touch_of u) t ≡ false) us
 clear-head us t ts h = each-map (λ u. IsClear (touch_of u) (t ∷ ts)) (λ u. collides (touch_of u) t ≡ false) (λ u c. c.0) us h
 
-clear-front : (us : List Mutation) (ts ss : List Touch) → AreClear us (ts ++ ss) → AreClear us ts
+pub clear-front : (us : List Mutation) (ts ss : List Touch) → AreClear us (ts ++ ss) → AreClear us ts
 clear-front us ts ss h = each-map (λ u. IsClear (touch_of u) (ts ++ ss)) (λ u. IsClear (touch_of u) ts) (λ u c. (AllByRecursion-split (λ t. collides (touch_of u) t ≡ false) ts ss c).0) us h
 
 -- the changes of a path are clear of all that the path is clear of
@@ -101,12 +101,12 @@ refusal-on : (granted : ℤ → Bool) (c now : ℕ) (vs : List Version) (us ws :
     → run_refusal granted c now (extend_all vs (us ++ ws)) (length (us ++ ws)) q ≡ run_refusal granted c now (extend_all (extend_all vs us) ws) (length us + length ws) q
 refusal-on granted c now vs us ws q = λ i. run_refusal granted c now (extend_all-append vs us ws i) (length-append us ws i) q
 
-put-clear : (vs : List Version) (main : ℕ) (us : List Mutation) (p : PutRequest) (rest : Path) → AreClear us (path_touches (Path.put p rest)) → NoClash (Path.put p rest)
+pub put-clear : (vs : List Version) (main : ℕ) (us : List Mutation) (p : PutRequest) (rest : Path) → AreClear us (path_touches (Path.put p rest)) → NoClash (Path.put p rest)
     → AreClear (us ++ put_change vs main (length us) p ∷ []) (path_touches rest)
 put-clear vs main us p rest j n =
     each-append (λ u. IsClear (touch_of u) (path_touches rest)) us (put_change vs main (length us) p ∷ []) (clear-tail us (Touch.one p.key) (path_touches rest) j) (n.0, tt)
 
-delete-clear : (vs : List Version) (main : ℕ) (us : List Mutation) (d : DeleteRequest) (rest : Path) → AreClear us (path_touches (Path.delete d rest)) → NoClash (Path.delete d rest)
+pub delete-clear : (vs : List Version) (main : ℕ) (us : List Mutation) (d : DeleteRequest) (rest : Path) → AreClear us (path_touches (Path.delete d rest)) → NoClash (Path.delete d rest)
     → AreClear (us ++ deletes_of main (length us) (still_live vs us d.range)) (path_touches rest)
 delete-clear vs main us d rest j n =
     each-append (λ u. IsClear (touch_of u) (path_touches rest)) us (deletes_of main (length us) (still_live vs us d.range)) (clear-tail us (Touch.each d.range) (path_touches rest) j)

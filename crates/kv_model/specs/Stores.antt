@@ -1,18 +1,24 @@
 -- What commands are answered, and what they change, told over a store that stands for a world.
-use Rattle.std.specs.Prelude.{ℕ, ◌+◌, ◌^◌, ℤ, pos, negsuc, min, max, List, [], ◌∷◌, length, map, Bool, not, nat_lt, nat_le, Option, None, Some}
+use Rattle.std.specs.Prelude.{ℕ, ◌+◌, ◌^◌, ℤ, pos, negsuc, min, max, List, [], ◌∷◌, ◌++◌, ◌||◌, length, map, Bool, not, nat_lt, nat_le, Option, None, Some}
 use Rattle.std.specs.Option.{option_or}
 use Rattle.kv_model.specs.declared.call.RangeQuery.{RangeQuery}
 use Rattle.kv_model.specs.declared.call.PutRequest.{PutRequest}
 use Rattle.kv_model.specs.declared.call.DeleteRequest.{DeleteRequest}
+use Rattle.kv_model.specs.declared.call.Watched.{Watched}
 use Rattle.kv_model.specs.declared.refusal.Refusal.{Refusal}
-use Rattle.kv_model.specs.declared.refusal.Refusal.TheVariants.{NoKey, TtlTooLarge, LeaseExists, TooManyLeases, LeaseMissing}
+use Rattle.kv_model.specs.declared.refusal.Refusal.TheVariants.{NoKey, TtlTooLarge, LeaseExists, TooManyLeases, LeaseMissing, TooManyWatches}
 use Rattle.kv_model.specs.Lists.{is_empty}
 use Rattle.kv_model.specs.History.{Mutation, value_at, end_of}
 use Rattle.kv_model.specs.Ranges.{range_refusal, range_reply, live, keys_of, refuse_if}
-use Rattle.kv_model.specs.Txns.{put_fault, put_refusal, put_change, deletes_of, previous_value, if_asked}
+use Rattle.kv_model.specs.Txns.{Path, path_of, put_fault, put_refusal, put_change, deletes_of, extend_all, replies_of, previous_value, if_asked}
 use Rattle.kv_model.specs.Leases.{Lease, is_granted, id_asked, ttl_asked, deadline_of, longest_ttl, most_leases, keys_of_lease, renewed, seconds_left}
+use Rattle.kv_model.specs.Calls.{Ops}
+use Rattle.kv_model.specs.Plans.{planned, planned_refusal}
 use Rattle.kv_model.specs.Told.{Reply}
-use Rattle.kv_model.specs.Stands.{Store}
+use Rattle.kv_model.specs.Step.{succeeded, inner_path, last_main, most_watches, watched_range, start_of}
+use Rattle.kv_model.specs.World.{Watch}
+use Rattle.kv_model.specs.Watches.{undelivered}
+use Rattle.kv_model.specs.Stands.{Store, Tracked, first_main_of, ahead_of}
 
 -- ---- Range
 
@@ -45,6 +51,27 @@ reply_of_delete s d =
 
 abbrev pub changes_of_delete : Store → DeleteRequest → List Mutation
 changes_of_delete s d = deletes_of (s.revision + 1) 0 (keys_of (live s.versions (end_of s.revision) d.range))
+
+-- ---- Txn
+
+-- the operations that run, each compare decided on the store
+abbrev pub path_in : Store → Ops → Path
+path_in s ops = path_of s.versions s.revision ops
+
+abbrev pub refusal_of_path : Store → Path → Option Refusal
+refusal_of_path s q = planned_refusal (is_granted s.leases) s.compacted s.revision s.versions q
+
+abbrev pub changes_of_path : Store → Path → List Mutation
+changes_of_path s q = planned s.versions (s.revision + 1) [] q
+
+-- read in the versions that the store has with the changes
+abbrev pub reply_of_path : Store → Path → Reply
+reply_of_path s q = Reply.txn (succeeded q) (replies_of (extend_all s.versions (changes_of_path s q)) s.compacted s.revision 0 (inner_path q))
+
+-- ---- Compact
+
+abbrev pub with_floor : Store → ℕ → Store
+with_floor s c = record s { compacted = c }
 
 -- ---- leases
 
@@ -80,3 +107,27 @@ reply_of_leases s = Reply.leases (map (λ l. l.id) s.leases)
 
 abbrev pub at_store_moment : Store → ℕ → Store
 at_store_moment s m = record s { clock = max s.clock (min m (2 ^ 62)) }
+
+-- ---- watches
+
+abbrev pub refusal_of_watch : Store → Option Refusal
+refusal_of_watch s = refuse_if (nat_le most_watches (length s.watches) || nat_le last_main s.made) TooManyWatches
+
+-- the watch that is made, as the world has it
+abbrev pub watch_made : Store → Watched → ℤ → ℤ → Watch
+watch_made s watched start id = record {
+  number = s.made + 1;
+  id = id;
+  watched = record watched { range = watched_range watched.range };
+  late = nat_lt (start_of s.revision start) s.compacted;
+  next = start_of s.revision start;
+}
+
+-- and as the store has it, found in the versions that are kept
+abbrev pub tracked_made : Store → Watched → ℤ → ℤ → Tracked
+tracked_made s watched start id =
+    let w : Watch = watch_made s watched start id in
+    record { number = w.number; id = w.id; watched = w.watched; late = w.late; first = first_main_of (undelivered s.versions w); ahead = ahead_of s.revision w.next }
+
+abbrev pub with_watch : Store → Tracked → Store
+with_watch s t = record s { watches = s.watches ++ t ∷ []; made = s.made + 1 }
