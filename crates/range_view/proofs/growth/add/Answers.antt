@@ -17,19 +17,19 @@ returns-in-Ok-clause-tied c =
     let v = c.args.version in
     let vs = c.args.table.now in
     let i = c.args.index.now in
-    let index : c.note.new.index ≡ with_mark v.key (mark_of v) i = c.in-Ok.ensures.ok ∙ (λ j. with_mark (c.in_ok-key.ensures j) (record { rev = v.rev; gone = c.is_gone-gone.ensures j }) i) in
+    let index : c.note.new.index ≡ with_mark v.key (mark_of v) i = c.in-Ok.ensures.ok ∙ (λ j. with_mark (c.in_ok-key.ensures.cases j) (record { rev = v.rev; gone = c.is_gone-gone.ensures j }) i) in
     rw (index, c.in_ok-push.ensures.ok) (record { rising = rising-push vs v c.requires.tied.rising c.requires.behind; agrees = push-agrees i vs v c.requires.tied.agrees })
 
-pub returns-in-Err-clause-tied : goal.returns-in-Err-clause-tied
-returns-in-Err-clause-tied c =
+pub returns-clause-tied : goal.returns-clause-tied
+returns-clause-tied c =
     let v = c.args.version in
     let vs = c.args.table.now in
     let rising = rising-push vs v c.requires.tied.rising c.requires.behind in
     let removed : c.remove.new.self ≡ vs = c.remove.ensures ∙ ap (without_rev (Some v.rev)) c.in_ok-push.ensures.ok ∙ without_rev-middle vs v [] rising ∙ append-nil vs in
     rw (c.in-Err.ensures.err, removed) c.requires.tied
 
-pub returns-in-Err-clause-err : goal.returns-in-Err-clause-err
-returns-in-Err-clause-err c =
+pub returns-clause-err : goal.returns-clause-err
+returns-clause-err c =
     let v = c.args.version in
     let vs = c.args.table.now in
     let rising = rising-push vs v c.requires.tied.rising c.requires.behind in

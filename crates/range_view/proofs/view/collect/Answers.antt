@@ -11,7 +11,7 @@ use Rattle.range_view.specs.Replies.{kv_view}
 use Rattle.range_view.specs.Selecting.{IsFound}
 use Rattle.range_view.proofs.Walking.{walked-few, walked-more, length-filter}
 use Rattle.range_view.proofs.view.collect.Goals as goal
-use Rattle.range_view.proofs.view.collect.Goals.{in-Some+in_ok-add, in-None}
+use Rattle.range_view.proofs.view.collect.Goals.{in-Some+in_ok-add-in-Some, in-None}
 
 pub loop-key-init : goal.loop-key-init
 loop-key-init c = c.new-found.ensures c.args.query.now
@@ -36,6 +36,6 @@ loop-key-preserved c =
     let more = λ (o : Option KeyValue) (e : option_map kv_view c.held_at.result ≡ o).
     walked-more reads entry_of c.args.keys.now c.loop-key.key-index c.key-item.result o c.loop-key-test.true (ap (λ x. reads (entry_of x)) (sym c.key-item.is) ∙ sym c.held_at.ensures ∙ e) in
     rw add-one (elim c.match-held_at.branch [
-      | in-Some+in_ok-add w ↦ rw (w.found-is, more (Some (kv_view w.in-Some.kv)) (ap (option_map kv_view) w.in-Some.is)) (w.in_ok-add.ensures before c.loop-key.invariant)
-      | in_default w ↦ rw (w.found-is, more None ?, append-nil before) c.loop-key.invariant
+      | in-Some+in_ok-add-in-Some w ↦ rw (w.found-is, more (Some (kv_view w.in-Some.kv)) (ap (option_map kv_view) w.in-Some.is)) (w.in_ok-add-in-Some.ensures before c.loop-key.invariant)
+      | in-None w ↦ rw (w.found-is, more None (ap (option_map kv_view) w.in-None.is), append-nil before) c.loop-key.invariant
     ])
