@@ -287,7 +287,7 @@ pub present-retracted : (main : ℕ) (s : Stored) → (main == s.revision && nat
 present-retracted main s h =
     let same : s.revision ≡ main = sym (equal-number main s.revision (both (main == s.revision) (nat_lt 1 main) h).0) in
     let gone : ◌≡◌ {A = Stored} (record s { versions = retracted s.revision s.versions; revision = s.revision - 1 }) (record s { versions = retracted main s.versions; revision = main - 1 }) =
-        λ i. record s { versions = retracted (same i) s.versions; revision = same i - 1 } in
+    λ i. record s { versions = retracted (same i) s.versions; revision = same i - 1 } in
     gone ∙ sym (ap (λ b. cond b (record s { versions = retracted main s.versions; revision = main - 1 }) s) h)
 
 pub other-retracted : (main : ℕ) (s : Stored) → (main == s.revision && nat_lt 1 main) ≡ false → s ≡ retracted_to main s

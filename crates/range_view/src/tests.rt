@@ -1,8 +1,7 @@
 //! Each call once, on the tables of a few revisions.
-use super::reply::{KvRef, RangeReply};
+use super::reply::RangeReply;
 use super::revision::end_of;
 use super::tables::Tables;
-use super::view::View;
 use bytes::Bytes;
 use kv_model::call::{RangeQuery, SortOrder, SortTarget};
 use kv_model::refusal::Refusal;
@@ -75,6 +74,36 @@ fn between(key: &'static [u8], end: &'static [u8]) -> RangeQuery {
     }
 }
 
+/// A Range of every key, at a revision and with a limit, where 0 is none.
+fn every(revision: i64, limit: i64) -> RangeQuery {
+    let mut query = between(b"\0", b"\0");
+    query.revision = revision;
+    query.limit = limit;
+    query
+}
+
+/// A Range of every key at revision 5, in an order.
+fn sorted(order: SortOrder, target: SortTarget, limit: i64) -> RangeQuery {
+    let mut query = every(5, limit);
+    query.order = order;
+    query.target = target;
+    query
+}
+
+/// A Range of every key, with bounds on the modified revision.
+fn modified(least: i64, greatest: i64) -> RangeQuery {
+    let mut query = every(0, 0);
+    query.min_mod = least;
+    query.max_mod = greatest;
+    query
+}
+
+fn counted() -> RangeQuery {
+    let mut query = every(0, 1);
+    query.count_only = true;
+    query
+}
+
 /// The keys shown, joined.
 fn keys_of(alloc: Global, reply: &RangeReply<'_>) -> Result<Vec<u8>, AllocError> {
     let mut keys = Vec::new(alloc);
@@ -84,206 +113,144 @@ fn keys_of(alloc: Global, reply: &RangeReply<'_>) -> Result<Vec<u8>, AllocError>
     Ok(keys)
 }
 
-/// What a Range shows, counts and cuts.
+fn answer<'a>(
+    alloc: Global,
+    tables: &'a Tables,
+    query: &RangeQuery,
+) -> Result<RangeReply<'a>, Refusal> {
+    tables.view().range(alloc, query)
+}
+
+/// What a Range shows and counts, and whether it cuts.
 fn expect(
     rt: &impl Abort,
     alloc: Global,
-    view: &View<'_>,
-    query: &RangeQuery,
+    tables: &Tables,
+    query: RangeQuery,
     shown: (&[u8], u64, bool),
 ) -> Result<(), Fail> {
     let (keys, count, more) = shown;
-    match view.range(alloc, query) {
+    match answer(alloc, tables, &query) {
         Ok(reply) => {
             assert_eq!(rt; keys_of(alloc, &reply)?.as_slice(), keys);
             assert_eq!(rt; reply.count, count);
             assert_eq!(rt; reply.more, more);
-            assert_eq!(rt; reply.revision, 6);
         }
         Err(refusal) => assert_eq!(rt; refusal.number(), 0),
     }
     Ok(())
 }
 
-fn expect_value(rt: &impl Abort, kv: Option<KvRef<'_>>, value: &[u8], version: u64) {
-    match kv {
-        Some(kv) => {
-            assert_eq!(rt; kv.value, value);
-            assert_eq!(rt; kv.version, version);
-        }
-        None => assert_eq!(rt; version, 0),
+/// The number of a key's puts, at the end of a revision.
+fn version_at(tables: &Tables, revision: u64, key: &'static [u8]) -> Option<u64> {
+    match tables
+        .view_at(end_of(revision))
+        .get(&Bytes::from_static(key))
+    {
+        Some(kv) => Some(kv.version),
+        None => None,
     }
 }
 
 #[test]
 fn shows_what_a_key_holds_at_a_place(rt: HostRuntime) -> Result<(), Fail> {
     let tables = tables(rt.alloc())?;
-    let a = Bytes::from_static(b"a");
-    let c = Bytes::from_static(b"c");
-    expect_value(&rt, tables.view().get(&a), b"y", 2);
-    expect_value(&rt, tables.view_at(end_of(4)).get(&a), b"z", 1);
-    expect_value(&rt, tables.view_at(end_of(2)).get(&a), b"", 0);
-    expect_value(&rt, tables.view_at(end_of(5)).get(&c), b"x", 1);
-    expect_value(&rt, tables.view().get(&c), b"", 0);
+    assert_eq!(rt; version_at(&tables, 2, b"a"), None);
+    assert_eq!(rt; version_at(&tables, 4, b"a"), Some(1));
+    assert_eq!(rt; version_at(&tables, 6, b"a"), Some(2));
+    assert_eq!(rt; version_at(&tables, 6, b"c"), None);
     Ok(())
 }
 
 #[test]
-fn answers_ranges(rt: HostRuntime) -> Result<(), Fail> {
-    let alloc = rt.alloc();
-    let tables = tables(alloc)?;
-    let view = tables.view();
-    expect(&rt, alloc, &view, &between(b"a", b""), (b"a", 1, false))?;
-    expect(&rt, alloc, &view, &between(b"a", b"b"), (b"a", 1, false))?;
-    expect(&rt, alloc, &view, &between(b"b", b"\0"), (b"b", 1, false))?;
-    let all = between(b"\0", b"\0");
-    expect(&rt, alloc, &view, &all, (b"ab", 2, false))?;
+fn reads_intervals(rt: HostRuntime) -> Result<(), Fail> {
+    let tables = tables(rt.alloc())?;
     expect(
         &rt,
-        alloc,
-        &view,
-        &RangeQuery { revision: 5, ..all },
-        (b"abc", 3, false),
+        rt.alloc(),
+        &tables,
+        between(b"a", b""),
+        (b"a", 1, false),
     )?;
-    let all = between(b"\0", b"\0");
     expect(
         &rt,
-        alloc,
-        &view,
-        &RangeQuery { limit: 1, ..all },
-        (b"a", 2, true),
+        rt.alloc(),
+        &tables,
+        between(b"a", b"b"),
+        (b"a", 1, false),
     )?;
-    let all = between(b"\0", b"\0");
-    expect(
-        &rt,
-        alloc,
-        &view,
-        &RangeQuery { limit: 2, ..all },
-        (b"ab", 2, false),
-    )?;
-    let all = between(b"\0", b"\0");
-    expect(
-        &rt,
-        alloc,
-        &view,
-        &RangeQuery {
-            count_only: true,
-            limit: 1,
-            ..all
-        },
-        (b"", 2, false),
-    )?;
-    let all = between(b"\0", b"\0");
-    expect(
-        &rt,
-        alloc,
-        &view,
-        &RangeQuery { min_mod: 5, ..all },
-        (b"a", 2, false),
-    )?;
-    let all = between(b"\0", b"\0");
-    expect(
-        &rt,
-        alloc,
-        &view,
-        &RangeQuery {
-            max_create: 3,
-            ..all
-        },
-        (b"a", 2, false),
-    )?;
-    let all = between(b"\0", b"\0");
-    expect(
-        &rt,
-        alloc,
-        &view,
-        &RangeQuery { max_mod: -1, ..all },
-        (b"", 2, false),
-    )?;
-    Ok(())
+    expect(&rt, rt.alloc(), &tables, every(5, 0), (b"abc", 3, false))
+}
+
+#[test]
+fn cuts_and_filters(rt: HostRuntime) -> Result<(), Fail> {
+    let tables = tables(rt.alloc())?;
+    expect(&rt, rt.alloc(), &tables, every(0, 1), (b"a", 2, true))?;
+    expect(&rt, rt.alloc(), &tables, every(0, 2), (b"ab", 2, false))?;
+    expect(&rt, rt.alloc(), &tables, counted(), (b"", 2, false))?;
+    expect(&rt, rt.alloc(), &tables, modified(5, 0), (b"a", 2, false))
 }
 
 #[test]
 fn sorts_with_ties_by_key(rt: HostRuntime) -> Result<(), Fail> {
-    let alloc = rt.alloc();
-    let tables = tables(alloc)?;
-    let view = tables.view();
-    let by_value = RangeQuery {
-        revision: 5,
-        target: SortTarget::ByValue,
-        ..between(b"\0", b"\0")
-    };
-    expect(&rt, alloc, &view, &by_value, (b"bca", 3, false))?;
-    let down = RangeQuery {
-        order: SortOrder::Descend,
-        ..by_value
-    };
-    expect(&rt, alloc, &view, &down, (b"abc", 3, false))?;
-    let by_key = RangeQuery {
-        target: SortTarget::ByKey,
-        limit: 2,
-        ..down
-    };
-    expect(&rt, alloc, &view, &by_key, (b"cb", 3, true))?;
-    let by_create = RangeQuery {
-        target: SortTarget::ByCreate,
-        order: SortOrder::Ascend,
-        keys_only: true,
-        ..by_key
-    };
-    expect(&rt, alloc, &view, &by_create, (b"ca", 3, true))?;
-    Ok(())
+    let tables = tables(rt.alloc())?;
+    expect(
+        &rt,
+        rt.alloc(),
+        &tables,
+        sorted(SortOrder::Unsorted, SortTarget::ByValue, 0),
+        (b"bca", 3, false),
+    )?;
+    expect(
+        &rt,
+        rt.alloc(),
+        &tables,
+        sorted(SortOrder::Descend, SortTarget::ByValue, 0),
+        (b"abc", 3, false),
+    )?;
+    expect(
+        &rt,
+        rt.alloc(),
+        &tables,
+        sorted(SortOrder::Descend, SortTarget::ByKey, 2),
+        (b"cb", 3, true),
+    )
+}
+
+/// The number of a refusal, 0 where a Range of a revision is answered.
+fn refused(alloc: Global, tables: &Tables, revision: i64) -> u8 {
+    match answer(alloc, tables, &every(revision, 0)) {
+        Ok(_) => 0,
+        Err(refusal) => refusal.number(),
+    }
 }
 
 #[test]
 fn refuses_revisions(rt: HostRuntime) -> Result<(), Fail> {
     let mut tables = tables(rt.alloc())?;
     tables.compact(4);
-    assert_eq!(rt; tables.compacted(), 4);
-    let view = tables.view();
-    for (revision, refusal) in [
-        (3, Some(Refusal::Compacted(4))),
-        (4, None),
-        (6, None),
-        (7, Some(Refusal::Future(6))),
-    ] {
-        let query = RangeQuery {
-            revision,
-            ..between(b"a", b"")
-        };
-        assert_eq!(rt; view.range(rt.alloc(), &query).err(), refusal);
-    }
+    assert_eq!(rt;
+        refused(rt.alloc(), &tables, 3),
+        Refusal::Compacted(4).number()
+    );
+    assert_eq!(rt; refused(rt.alloc(), &tables, 4), 0);
+    assert_eq!(rt; refused(rt.alloc(), &tables, 6), 0);
+    assert_eq!(rt;
+        refused(rt.alloc(), &tables, 7),
+        Refusal::Future(6).number()
+    );
     Ok(())
 }
 
 #[test]
 fn takes_a_revision_back(rt: HostRuntime) -> Result<(), Fail> {
     let mut tables = tables(rt.alloc())?;
-    assert_eq!(rt; tables.revision(), 6);
-    assert_eq!(rt; tables.versions().len(), 5);
     tables.retract(5);
     assert_eq!(rt; tables.revision(), 6);
     tables.retract(6);
     assert_eq!(rt; tables.revision(), 5);
     assert_eq!(rt; tables.versions().len(), 4);
-    expect_value(&rt, tables.view().get(&Bytes::from_static(b"c")), b"x", 1);
-    Ok(())
-}
-
-#[test]
-fn takes_the_next_revision_alone(rt: HostRuntime) -> Result<(), Fail> {
-    let tables = tables(rt.alloc())?;
-    let mut versions = Vec::new(rt.alloc());
-    assert!(rt; tables.takes(&versions));
-    versions.push(tombstone(7, 0, b"a"))?;
-    assert!(rt; tables.takes(&versions));
-    versions.push(tombstone(7, 1, b"b"))?;
-    assert!(rt; tables.takes(&versions));
-    versions.push(tombstone(7, 1, b"c"))?;
-    assert!(rt; !tables.takes(&versions));
-    let mut late = Vec::new(rt.alloc());
-    late.push(tombstone(8, 0, b"a"))?;
-    assert!(rt; !tables.takes(&late));
+    assert_eq!(rt; version_at(&tables, 5, b"c"), Some(1));
     Ok(())
 }
 
