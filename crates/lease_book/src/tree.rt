@@ -271,7 +271,7 @@ impl Tree {
         ensures leases { self.new ≡ map (renewed clock id) self.old }
     {
         match &mut self.root {
-            Link::Nothing => None,
+            Link::Nothing => return None,
             Link::Held(node) => {
                 let node: &mut Node = node;
                 let ttl;

@@ -7,7 +7,7 @@ use Rattle.lease_book.proofs.Order.{int_eq-self}
 use Rattle.lease_book.specs.Trees.{leases_in}
 use Rattle.lease_book.proofs.Nodes.{IsRenewed, at_node, renewed_left, renewed_right, renewed_here}
 use Rattle.lease_book.proofs.tree.Tree.+renew.Goals as goal
-use Rattle.lease_book.proofs.tree.Tree.+renew.Goals.{Joined-id-node, in-Nothing, in-Held, then-id-node, else-id-node+then-node-id, else-id-node+else-node-id}
+use Rattle.lease_book.proofs.tree.Tree.+renew.Goals.{Joined-id-node, then-id-node, else-id-node+then-node-id, else-id-node+else-node-id}
 
 -- the node where the branches meet
 renewed : (t : ℕ) (c : Joined-id-node t) → IsRenewed c.args.clock c.args.id c.args.self.now c.if-id-node.ttl c.if-id-node.node
@@ -33,53 +33,7 @@ pub settle-requires-clause-ascending : goal.settle-requires-clause-ascending
 settle-requires-clause-ascending t c = (renewed t c).loose.ascending
 
 pub returns-clause-ttl : goal.returns-clause-ttl
-returns-clause-ttl t c =
-    elim c.match-self.branch [
-      | in-Nothing w ↦
-          let e : c.args.self.now ≡ [] = sym c.self.view_is ∙ ap leases_in w.in-Nothing.is in
-          rw (w.result-is, e)
-      | in-Held w ↦
-          let n = w.deref_mut-node.result.now in
-          let at = at_node n c.self.view_is c.self.invariant w.in-Held.is w.deref_mut-node.ensures.value in
-          let r : IsRenewed c.args.clock c.args.id c.args.self.now w.if-id-node.ttl w.if-id-node.node = elim w.if-id-node.branch [
-            | then-id-node v ↦
-                let h : c.args.id <ℤ n.entry.id = omega (arith, ints) in
-                let e = rw (to_z-of_z w64 c.args.id c.ranges.id) at v.renew-ttl.ensures in
-                rw (v.node-is, v.ttl-is) (renewed_left c.args.clock c.args.id at h e.leases refl refl e.ttl)
-            | else-id-node+then-node-id v ↦
-                let h : n.entry.id <ℤ c.args.id = omega (arith, ints) in
-                let e = rw (to_z-of_z w64 c.args.id c.ranges.id) at v.renew-ttl-then-node-id.ensures in
-                rw (v.node-is, v.ttl-is) (renewed_right c.args.clock c.args.id at h refl refl e.leases e.ttl)
-            | else-id-node+else-node-id v ↦
-                let h : c.args.id ≡ n.entry.id = omega (arith, ints) in
-                let e : lease_of v.renewed-node.result ≡ set_anew c.args.clock n.entry.id (lease_of n.entry) = rw (int_eq-self n.entry.id) v.renewed-node.ensures in
-                rw (v.node-is, v.ttl-is) (renewed_here c.args.clock c.args.id at h refl e refl refl)
-          ] in
-          w.result-is ∙ r.ttl
-    ]
+returns-clause-ttl t c = (renewed t (goal.at.returns-clause-ttl t c).Joined-id-node).ttl
 
 pub returns-clause-leases : goal.returns-clause-leases
-returns-clause-leases t c =
-    elim c.match-self.branch [
-      | in-Nothing w ↦
-          let e : c.args.self.now ≡ [] = sym c.self.view_is ∙ ap leases_in w.in-Nothing.is in
-          rw (w.self-inside-is, e) (ap leases_in w.in-Nothing.is)
-      | in-Held w ↦
-          let n = w.deref_mut-node.result.now in
-          let at = at_node n c.self.view_is c.self.invariant w.in-Held.is w.deref_mut-node.ensures.value in
-          let r : IsRenewed c.args.clock c.args.id c.args.self.now w.if-id-node.ttl w.if-id-node.node = elim w.if-id-node.branch [
-            | then-id-node v ↦
-                let h : c.args.id <ℤ n.entry.id = omega (arith, ints) in
-                let e = rw (to_z-of_z w64 c.args.id c.ranges.id) at v.renew-ttl.ensures in
-                rw (v.node-is, v.ttl-is) (renewed_left c.args.clock c.args.id at h e.leases refl refl e.ttl)
-            | else-id-node+then-node-id v ↦
-                let h : n.entry.id <ℤ c.args.id = omega (arith, ints) in
-                let e = rw (to_z-of_z w64 c.args.id c.ranges.id) at v.renew-ttl-then-node-id.ensures in
-                rw (v.node-is, v.ttl-is) (renewed_right c.args.clock c.args.id at h refl refl e.leases e.ttl)
-            | else-id-node+else-node-id v ↦
-                let h : c.args.id ≡ n.entry.id = omega (arith, ints) in
-                let e : lease_of v.renewed-node.result ≡ set_anew c.args.clock n.entry.id (lease_of n.entry) = rw (int_eq-self n.entry.id) v.renewed-node.ensures in
-                rw (v.node-is, v.ttl-is) (renewed_here c.args.clock c.args.id at h refl e refl refl)
-          ] in
-          rw w.self-inside-is (w.settle.ensures.leases ∙ r.loose.is)
-    ]
+returns-clause-leases t c = c.settle.ensures.leases ∙ (renewed t (goal.at.returns-clause-leases t c).Joined-id-node).loose.is
