@@ -1,0 +1,3 @@
+pub mod Book
+pub mod Entries
+pub mod Trees

@@ -1,0 +1,10 @@
+// The leases that are granted, and the clock.
+#![tactic(auto)]
+
+pub mod book;
+mod entry;
+#[cfg(test)]
+mod tests;
+mod tree;
+
+pub use book::{Granted, LeaseBook, TimeLeft};
