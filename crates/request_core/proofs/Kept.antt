@@ -1,5 +1,5 @@
 -- What is kept stays counted as it grows, and what a put and a delete add are the versions of the next revision.
-use Rattle.std.proofs.Common.{◌≡◌, ◌≢◌, ℕ, zero, suc, ◌+◌, ◌<◌, ◌≤◌, ◌^◌, ◌%◌, ◌&&◌, List, [], ◌∷◌, ◌++◌, length, Bool, true, false, nat_lt, Option, None, Some, option_and_then, refl, sym, ◌∙◌, ap, subst, arith, eq-eqb, lt-ltb}
+use Rattle.std.proofs.Common.{◌≡◌, ◌≢◌, ℕ, zero, suc, ◌+◌, ◌<◌, ◌≤◌, ◌^◌, ◌%◌, ◌&&◌, List, [], ◌∷◌, ◌++◌, length, map, take, get_or, Bool, true, false, nat_lt, Option, None, Some, option_and_then, refl, sym, ◌∙◌, ap, subst, arith, eq-eqb, lt-ltb}
 use Rattle.std.specs.Option.{MatchOption}
 use Rattle.std.specs.List.{AllByRecursion}
 use Rattle.kv_model.specs.declared.version.Rev.{Rev}
@@ -14,6 +14,8 @@ use Rattle.kv_model.specs.Step.{last_main}
 use Rattle.kv_model.specs.Feed.{last_main_or}
 use Rattle.kv_model.specs.Txns.{next_body, put_action}
 use Rattle.kv_model.proofs.PlaceLaws.{each-map, each-append}
+use Rattle.range_view.specs.declared.reply.KvRef.{KvRef}
+use Rattle.range_view.specs.Replies.{kv_view}
 use Rattle.range_view.specs.Stored.{Stored, goes_on, is_next, appended}
 use Rattle.range_view.proofs.Growing.{next-revision}
 use Rattle.request_core.specs.Writing.{CanCount, IsCountedTo, IsHeldTo, AreNext, next_rev, next_version, tombstone, tombstones}
@@ -68,10 +70,10 @@ dead-counted r main sub [] = tt
 dead-counted r main sub (kv ∷ kvs) = (tt, dead-counted r main (suc sub) kvs)
 
 -- the tombstones of a delete
-pub tombstones-next : (r : ℕ) (kvs : List KeyValue) → tombstones (r + 1) 0 kvs ≢ [] → AreNext r (tombstones (r + 1) 0 kvs)
-tombstones-next r [] some = absurd (some refl)
-tombstones-next r (kv ∷ kvs) some = record {
-  some = some;
+pub tombstones-next : (r n : ℕ) (kvs : List KeyValue) → n ≡ length kvs → 0 < n → AreNext r (tombstones (r + 1) 0 kvs)
+tombstones-next r n [] e some = absurd (omega (arith, e, some))
+tombstones-next r n (kv ∷ kvs) e some = record {
+  some = λ none. cc;
   next = λ i. eq-eqb (r + 1) (r + 1) refl i && dead-go_on (r + 1) 0 kvs i;
   counted = dead-counted (r + 1) (r + 1) 0 (kv ∷ kvs);
 }
@@ -81,10 +83,14 @@ tombstones-length main sub [] = refl
 tombstones-length main sub (kv ∷ kvs) = ap suc (tombstones-length main (suc sub) kvs)
 
 -- one tombstone more, behind the others
-pub tombstones-push : (main sub n : ℕ) (kvs : List KeyValue) (kv : KeyValue) → n ≡ sub + length kvs
-    → tombstones main sub (kvs ++ kv ∷ []) ≡ tombstones main sub kvs ++ tombstone main n kv.key ∷ []
-tombstones-push main sub n [] kv e = let same : sub ≡ n = omega (arith, e) in ap (λ m. tombstone main m kv.key ∷ []) same
-tombstones-push main sub n (x ∷ kvs) kv e = ap (λ vs. tombstone main sub x.key ∷ vs) (tombstones-push main (suc sub) n kvs kv (omega (arith, e)))
+pub tombstones-more : (main sub n : ℕ) (kvs : List KvRef) (i : ℕ) (d : KvRef) → n ≡ sub + i → i < length kvs
+    → tombstones main sub (map kv_view (take (suc i) kvs)) ≡ tombstones main sub (map kv_view (take i kvs)) ++ tombstone main n (get_or kvs i d).key.now ∷ []
+tombstones-more main sub n [] i d e h = absurd (omega arith)
+tombstones-more main sub n (kv ∷ kvs) zero d e h = let same : sub ≡ n = omega (arith, e) in ap (λ m. tombstone main m kv.key.now ∷ []) same
+tombstones-more main sub n (kv ∷ kvs) (suc i) d e h =
+    let below : i < length kvs = omega arith in
+    let same : n ≡ suc sub + i = omega (arith, e) in
+    ap (λ vs. tombstone main sub kv.key.now ∷ vs) (tombstones-more main (suc sub) n kvs i d same below)
 
 -- ---- growth
 

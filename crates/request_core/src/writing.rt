@@ -1,5 +1,7 @@
 //! What a put makes of a key, and a delete of the live keys of a range.
+ghost use Rattle.std.specs.Option.{option_or};
 ghost use Rattle.std.specs.Prelude.{◌≡◌, [], ◌∷◌, map, Some, None, option_map, IfOk};
+ghost use Rattle.kv_model.specs.Ranges.{refuse_if};
 ghost use Rattle.kv_model.specs.Txns as txns;
 ghost use Rattle.range_view.specs.Replies.{kv_view};
 ghost use Rattle.request_core.specs.Writing as writing;
@@ -11,8 +13,31 @@ use kv_model::version::{Body, Rev, Version};
 use range_view::reply::KvRef;
 use std::alloc::{AllocError, Global};
 
+/// The first refusal of a put whose key holds this, if there is one; where no lease is granted, and that of spent revisions
+/// comes last.
+pub fn fault_of_put(
+    request: &PutRequest,
+    held: Option<KvRef<'_>>,
+    is_spent: bool,
+) -> Option<Refusal>
+    ensures { result ≡ option_or (option_or (txns.put_fault request.now) (writing.held_refusal [] request.now (option_map kv_view held.entry)))
+        (refuse_if is_spent Refusal.RevisionsSpent) }
+{
+    if let Some(refusal) = put_fault(request) {
+        return Some(refusal);
+    }
+    if let Some(refusal) = held_refusal(request, held) {
+        return Some(refusal);
+    }
+    if is_spent {
+        Some(Refusal::RevisionsSpent)
+    } else {
+        None
+    }
+}
+
 /// Why a put is refused whatever is kept.
-pub fn put_fault(request: &PutRequest) -> Option<Refusal>
+fn put_fault(request: &PutRequest) -> Option<Refusal>
     ensures { result ≡ txns.put_fault request.now }
 {
     if request.key.is_empty() {
@@ -27,7 +52,7 @@ pub fn put_fault(request: &PutRequest) -> Option<Refusal>
 }
 
 /// Why a put is refused where its key holds this, and no lease is granted.
-pub fn held_refusal(request: &PutRequest, held: Option<KvRef<'_>>) -> Option<Refusal>
+fn held_refusal(request: &PutRequest, held: Option<KvRef<'_>>) -> Option<Refusal>
     ensures { result ≡ writing.held_refusal [] request.now (option_map kv_view held.entry) }
 {
     if (request.ignore_value || request.ignore_lease) && held.is_none() {

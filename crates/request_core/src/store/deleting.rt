@@ -92,6 +92,7 @@ impl Core {
         ensures quiet { self.now.store.watches ≡ [] }
         ensures refused { IfErr result (λ e. IsRefusal e (fault_of_delete self.now.store request.now)) }
     {
+        let main = self.tables.revision() + 1;
         if request.range.key.is_empty() {
             return Err(Refusal::NoKey);
         }
@@ -101,7 +102,7 @@ impl Core {
         if !live.is_empty() && self.is_spent() {
             return Err(Refusal::RevisionsSpent);
         }
-        match tombstones(self.alloc, self.tables.revision() + 1, &live) {
+        match tombstones(self.alloc, main, &live) {
             Ok(versions) => Ok(versions),
             Err(_) => Err(Refusal::Memory),
         }

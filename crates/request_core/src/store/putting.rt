@@ -8,7 +8,7 @@ ghost use Rattle.std.specs.Prelude.{◌≡◌, option_map, ◌+◌, ◌-◌, [],
 
 use super::Core;
 use crate::answer::{Receipt, Todo};
-use crate::writing::{held_refusal, put_fault, put_versions};
+use crate::writing::{fault_of_put, put_versions};
 use bytes::Bytes;
 use kv_model::call::PutRequest;
 use kv_model::feed::Sink;
@@ -89,35 +89,17 @@ impl Core {
         ensures next { IfOk result (λ vs. AreNext self.now.store.revision vs.items) }
         ensures refused { IfErr result (λ e. IsRefusal e (fault_of_put self.now.store request.now)) }
     {
-        let held = self.held(&request.key);
-        if let Some(refusal) = self.fault_of_put(request, held) {
-            return Err(refusal);
-        }
         let rev = Rev {
             main: self.tables.revision() + 1,
             sub: 0,
         };
+        let held = self.held(&request.key);
+        if let Some(refusal) = fault_of_put(request, held, self.is_spent()) {
+            return Err(refusal);
+        }
         match put_versions(self.alloc, rev, request, held) {
             Ok(versions) => Ok(versions),
             Err(_) => Err(Refusal::Memory),
-        }
-    }
-
-    /// The first refusal of a put whose key holds this, if there is one.
-    fn fault_of_put(&self, request: &PutRequest, held: Option<KvRef<'_>>) -> Option<Refusal>
-        requires { option_map kv_view held ≡ held_in self.now.store request.now.key }
-        ensures { result ≡ fault_of_put self.now.store request.now }
-    {
-        if let Some(refusal) = put_fault(request) {
-            return Some(refusal);
-        }
-        if let Some(refusal) = held_refusal(request, held) {
-            return Some(refusal);
-        }
-        if self.is_spent() {
-            Some(Refusal::RevisionsSpent)
-        } else {
-            None
         }
     }
 
