@@ -1,6 +1,5 @@
 -- The live keys of a range, as a walk over its keys finds them.
-use Rattle.std.proofs.Common.{◌≡◌, ℕ, List, [], ◌∷◌, Bool, true, false, ◌&&◌, ◌==◌, not, cond, Option, None, Some, option_and_then, filter, filter_map, map, refl, sym, ◌∙◌, ap, subst, eq-eqb}
-use Rattle.std.specs.Prelude.{⊤, option_map, find}
+use Rattle.std.proofs.Common.{◌≡◌, ℕ, List, [], ◌∷◌, Bool, true, false, ◌&&◌, cond, Option, None, Some, option_and_then, filter, filter_map, map, refl, sym, ◌∙◌, ap, subst}
 use Rattle.std.specs.Option.{option_or}
 use Rattle.std.specs.List.{AllByRecursion, cons_option}
 use Rattle.std.specs.Cmp.Lexicographic.{bytes_decides}
@@ -12,9 +11,9 @@ use Rattle.kv_model.specs.declared.version.Body.TheVariants.{Put, Gone}
 use Rattle.kv_model.specs.declared.version.KeyRange.{KeyRange}
 use Rattle.kv_model.specs.Lists.{last_that}
 use Rattle.kv_model.specs.Keys.{key_cmp, same_key, in_range}
-use Rattle.kv_model.specs.History.{KeyValue, latest, value_at, key_value, shown, rev_lt, rev_le}
+use Rattle.kv_model.specs.History.{KeyValue, latest, value_at, key_value, shown, rev_le}
 use Rattle.kv_model.specs.Laws.{IsStrictlyAscending}
-use Rattle.kv_model.specs.Ranges.{keys, live, value_within}
+use Rattle.kv_model.specs.Ranges.{keys, live}
 use Rattle.kv_model.proofs.KeyLaws.{IsAscending, ascending-keys}
 use Rattle.range_view.specs.Selecting.{AreByKey}
 

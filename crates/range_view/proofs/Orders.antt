@@ -1,10 +1,9 @@
 -- The orders that a Range may ask for are total.
 use Rattle.std.specs.declared.cmp.Ordering.{Ordering}
-use Rattle.std.specs.Ordering.{nat_cmp}
 use Rattle.std.specs.Cmp.{IsTotalOrder}
 use Rattle.std.specs.Cmp.Lexicographic.{nat_list_cmp_total}
-use Rattle.std.proofs.lemmas.Cmp.{on_total, nat_cmp_total, back_total}
-use Rattle.std.proofs.Common.{◌≡◌, ◌∙◌, refl, sym, ap}
+use Rattle.std.proofs.lemmas.Cmp.{on_total, nat_cmp_total}
+use Rattle.std.proofs.Common.{◌≡◌, ◌∙◌, refl, ap}
 use Rattle.std.specs.Ordering.{ordering_reverse}
 use Rattle.std.specs.declared.cmp.Ordering.TheVariants.{Less, Equal, Greater}
 use Rattle.kv_model.specs.declared.call.SortOrder.{SortOrder}
@@ -12,7 +11,6 @@ use Rattle.kv_model.specs.declared.call.SortOrder.TheVariants.{Unsorted, Ascend,
 use Rattle.kv_model.specs.declared.call.SortTarget.{SortTarget}
 use Rattle.kv_model.specs.declared.call.SortTarget.TheVariants.{ByKey, ByVersion, ByCreate, ByMod, ByValue}
 use Rattle.kv_model.specs.History.{KeyValue}
-use Rattle.kv_model.specs.Keys.{key_cmp}
 use Rattle.kv_model.specs.Ranges.{target_cmp, order_cmp}
 
 -- key-values by what a Range sorts them by

@@ -1,11 +1,10 @@
 -- What is kept of a walk is enough for the answer.
-use Rattle.std.proofs.Common.{◌≡◌, ℕ, zero, suc, ◌+◌, ◌<◌, ◌≤◌, ℤ, pos, negsuc, List, [], ◌∷◌, ◌++◌, Bool, true, false, not, ◌&&◌, cond, filter, map, take, drop, length, get_or, Option, None, Some, refl, sym, ◌∙◌, ap, subst, arith, add-one, nat_lt}
-use Rattle.std.specs.Prelude.{⊤, slice_set}
+use Rattle.std.proofs.Common.{◌≡◌, ℕ, zero, suc, ◌<◌, ℤ, pos, negsuc, List, [], ◌∷◌, ◌++◌, Bool, true, false, not, ◌&&◌, cond, filter, map, take, drop, length, get_or, None, Some, refl, sym, ◌∙◌, ap, arith, nat_lt}
 use Rattle.std.proofs.Math.ListN.{set}
 use Rattle.std.specs.List.{AllByRecursion}
 use Rattle.std.specs.Cmp.Lexicographic.{nat_list_cmp_total}
 use Rattle.std.specs.declared.cmp.Ordering.{Ordering}
-use Rattle.std.specs.declared.cmp.Ordering.TheVariants.{Less, Equal, Greater}
+use Rattle.std.specs.declared.cmp.Ordering.TheVariants.{Less}
 use Rattle.std.specs.Ordering.{is_lt, is_gt, ordering_reverse}
 use Rattle.kv_model.specs.declared.call.RangeQuery.{RangeQuery}
 use Rattle.kv_model.specs.declared.call.SortOrder.{SortOrder}
@@ -14,10 +13,9 @@ use Rattle.kv_model.specs.declared.call.SortTarget.{SortTarget}
 use Rattle.kv_model.specs.declared.call.SortTarget.TheVariants.{ByKey, ByVersion, ByCreate, ByMod, ByValue}
 use Rattle.kv_model.specs.Keys.{key_cmp}
 use Rattle.kv_model.specs.History.{KeyValue}
-use Rattle.kv_model.specs.Laws.{IsStrictlyAscending}
 use Rattle.kv_model.specs.Ranges as ranges
 use Rattle.kv_model.specs.Ranges.{passes_filters, sorted, sorted_by, insert_by, first_few, stripped, reply_from, target_cmp, order_cmp}
-use Rattle.range_view.specs.Selecting.{AreByKey, is_ascending, keeps_order, arranged, limit_of, most_needed, first_of}
+use Rattle.range_view.specs.Selecting.{AreByKey, keeps_order, arranged, limit_of, most_needed, first_of}
 use Rattle.range_view.proofs.Orders.{asked_total}
 use Rattle.range_view.proofs.Sorting.{Rises, NoneBelow, sorted_by-rising}
 

@@ -1,5 +1,5 @@
 -- What is lent, as the definitions speak of it.
-use Rattle.std.specs.Prelude.{map, Option, option_map}
+use Rattle.std.specs.Prelude.{map}
 use Rattle.kv_model.specs.History.{KeyValue}
 use Rattle.kv_model.specs.Ranges as ranges
 use Rattle.range_view.specs.declared.reply.KvRef.{KvRef}

@@ -1,5 +1,5 @@
 -- The index has the version that the table has, or both are as they were.
-use Rattle.std.proofs.Common.{◌≡◌, ◌∙◌, ◌++◌, ◌∷◌, [], Some, sym, ap}
+use Rattle.std.proofs.Common.{◌≡◌, ◌∙◌, [], Some, ap}
 use Rattle.std.proofs.lemmas.List.{append-nil}
 use Rattle.kv_model.specs.Kept.{without_rev}
 use Rattle.version_table.proofs.Rising.{rising-push}

@@ -1,5 +1,5 @@
 -- What was added so far stands behind what was kept, and goes again where the next one finds no memory.
-use Rattle.std.proofs.Common.{◌≡◌, ◌∙◌, ◌++◌, ◌∷◌, ◌+◌, [], List, length, sym, ap, append_assoc, arith}
+use Rattle.std.proofs.Common.{◌≡◌, ◌∙◌, ◌++◌, ◌∷◌, [], List, length, sym, ap, append_assoc, arith}
 use Rattle.std.specs.Vec.Iter.{into_iter_items, into_iter_len}
 use Rattle.kv_model.specs.declared.version.Version.{Version}
 use Rattle.version_table.specs.Rising.{retracted}

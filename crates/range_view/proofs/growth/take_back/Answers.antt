@@ -6,7 +6,7 @@ use Rattle.version_table.proofs.Rising.{rising-retracted}
 use Rattle.key_index.specs.Agrees.{Agrees}
 use Rattle.key_index.specs.Index as indexed
 use Rattle.key_index.proofs.Agrees.{retract-agrees}
-use Rattle.range_view.specs.Stored.{AreTied, IsUpTo, IsBelow}
+use Rattle.range_view.specs.Stored.{IsBelow}
 use Rattle.range_view.proofs.Growing.{below-not_of}
 use Rattle.range_view.proofs.growth.take_back.Goals as goal
 

@@ -8,7 +8,7 @@ use Rattle.std.proofs.lemmas.List.Sorted.{ranks_by}
 use Rattle.std.proofs.lemmas.Result.{on_ok_weaker}
 use Rattle.std.specs.declared.cmp.Ordering.{Ordering}
 use Rattle.kv_model.specs.History.{KeyValue}
-use Rattle.kv_model.specs.Ranges.{order_cmp, target_cmp, sorted}
+use Rattle.kv_model.specs.Ranges.{order_cmp, target_cmp}
 use Rattle.range_view.specs.declared.reply.KvRef.{KvRef}
 use Rattle.range_view.specs.Replies.{kv_view}
 use Rattle.range_view.proofs.Orders.{asked_total}

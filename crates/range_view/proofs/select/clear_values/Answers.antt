@@ -1,5 +1,5 @@
 -- The element at the index loses its value; the others are as they were.
-use Rattle.std.proofs.Common.{rules, refl, true, add-one, arith, ◌<◌, length}
+use Rattle.std.proofs.Common.{refl, true, add-one, arith}
 use Rattle.kv_model.specs.Ranges.{stripped}
 use Rattle.range_view.specs.Replies.{kv_view}
 use Rattle.range_view.proofs.Selecting.{changed-more}

@@ -1,14 +1,12 @@
 -- Each key that holds something is taken, and no other.
-use Rattle.std.proofs.Common.{◌≡◌, ◌∙◌, ◌≤◌, ◌<◌, ap, sym, arith, add-one, map, take, filter, filter_map, length, None, Some, ◌++◌, [], List}
+use Rattle.std.proofs.Common.{◌≡◌, ◌∙◌, ap, sym, arith, add-one, map, take, filter_map, None, Some, List}
 use Rattle.std.specs.Prelude.{option_map, Option}
-use Rattle.std.specs.List.{cons_option}
 use Rattle.std.proofs.lemmas.List.{append-nil}
 use Rattle.kv_model.specs.History.{KeyValue}
 use Rattle.kv_model.specs.Ranges.{passes_filters}
 use Rattle.key_index.specs.Agrees.{read_entry}
 use Rattle.key_index.specs.Lent.{entry_of}
 use Rattle.range_view.specs.Replies.{kv_view}
-use Rattle.range_view.specs.Selecting.{IsFound}
 use Rattle.range_view.proofs.Walking.{walked-few, walked-more, length-filter}
 use Rattle.range_view.proofs.view.collect.Goals as goal
 use Rattle.range_view.proofs.view.collect.Goals.{in-Some+in_ok-add-in-Some, in-None}

@@ -1,12 +1,11 @@
 -- The reply is made of what was kept.
-use Rattle.std.proofs.Common.{rules, arith, ◌≡◌, ℕ, Bool, List, map, length, refl, sym, ◌∙◌, ap, not, ◌&&◌, nat_lt}
+use Rattle.std.proofs.Common.{arith, ◌≡◌, List, map, length, sym, ◌∙◌, ap, not, ◌&&◌, nat_lt}
 use Rattle.std.specs.Vec.{vec_len, with_items}
 use Rattle.std.proofs.lemmas.List.{length-map, with_items_is}
 use Rattle.kv_model.specs.History.{KeyValue}
 use Rattle.kv_model.specs.Ranges as ranges
 use Rattle.kv_model.specs.Ranges.{first_few, stripped, reply_from}
-use Rattle.range_view.specs.Replies.{kv_view, reply_view}
-use Rattle.range_view.specs.Selecting.{arranged, most_needed, IsFound, AreByKey}
+use Rattle.range_view.specs.Replies.{kv_view}
 use Rattle.range_view.proofs.Selecting.{finished, map-first_few, shown_of, made}
 use Rattle.range_view.proofs.select.Found.finish.Goals as goal
 

@@ -1,5 +1,5 @@
 -- The present revision goes, where it is the one named.
-use Rattle.std.proofs.Common.{◌≡◌, ◌∙◌, ◌==◌, ◌&&◌, nat_lt, sym, true, false}
+use Rattle.std.proofs.Common.{◌∙◌, sym}
 use Rattle.range_view.proofs.Growing.{present-more, present-retracted, other-retracted}
 use Rattle.range_view.proofs.tables.Tables.retract.Goals as goal
 

@@ -1,6 +1,5 @@
 -- What is left is below the revision that goes.
-use Rattle.std.proofs.Common.{◌≡◌, ◌≤◌, ◌<◌, ◌-◌, arith}
-use Rattle.range_view.specs.Stored.{Stored}
+use Rattle.std.proofs.Common.{◌-◌, arith}
 use Rattle.range_view.proofs.Growing.{below-upto}
 use Rattle.range_view.proofs.tables.Tables.retract_present.Goals as goal
 

@@ -1,7 +1,6 @@
 -- The version at the revision that the index has is the last one of the key.
-use Rattle.std.proofs.Common.{◌≡◌, ◌∙◌, ap, sym}
+use Rattle.std.proofs.Common.{◌∙◌, ap, sym}
 use Rattle.std.specs.Prelude.{option_and_then}
-use Rattle.kv_model.specs.History.{value_at}
 use Rattle.version_table.proofs.Changes.{find-latest}
 use Rattle.key_index.specs.Agrees.{read_at}
 use Rattle.key_index.proofs.Walks.{value-agrees}
