@@ -1,10 +1,8 @@
 -- Which engine reads a base64 text.
-use Rattle.std.proofs.Common.{◌≡◌, ℕ, List, map, Bool, true, false, Option, cond, eqb, refl, sym, ap, ◌∙◌}
+use Rattle.std.proofs.Common.{◌≡◌, ℕ, List, map, Bool, true, false, cond, eqb, refl, ◌∙◌}
 use Rattle.std.specs.List.{list_any}
-use Rattle.std.specs.Result.{result_ok}
 use Rattle.base64.specs.Engines.{standard, standard_no_pad}
 use Rattle.base64.specs.GeneralPurpose.{decoded_of}
-use Rattle.base64.specs.declared.engine.general_purpose.GeneralPurpose.{GeneralPurpose}
 use Rattle.kv_model.specs.Requests.{decoded, standard_symbol}
 
 abbrev pub has_padding : List ℕ → Bool

@@ -1,5 +1,5 @@
 -- The text of an integer: what `parse` answers is what the model reads.
-use Rattle.std.proofs.Common.{◌≡◌, ℕ, ◌+◌, ◌-◌, ◌*◌, ◌^◌, ◌<◌, ◌≤◌, ◌≢◌, ℤ, pos, neg_ℤ, List, [], ◌∷◌, length, get_or, Bool, true, false, cond, not, ◌&&◌, eqb, Option, None, Some, option_map, option_and_then, Result, Ok, Err, refl, sym, ap, ◌∙◌, arith, rules, true≢false}
+use Rattle.std.proofs.Common.{◌≡◌, ℕ, ◌+◌, ◌-◌, ◌*◌, ◌^◌, ◌<◌, ◌≤◌, ◌≢◌, ℤ, pos, neg_ℤ, List, [], ◌∷◌, length, get_or, Bool, true, false, cond, not, ◌&&◌, eqb, None, Some, option_map, option_and_then, Result, Ok, Err, refl, sym, ap, ◌∙◌, arith, rules, true≢false}
 use Rattle.std.specs.Prelude.{fold, int_le, int_lt}
 use Rattle.std.specs.Bool.{Decides}
 use Rattle.std.specs.Char.{is_ascii_digit}
@@ -8,7 +8,6 @@ use Rattle.std.specs.List.{list_all}
 use Rattle.std.specs.Result.{OkIff, result_ok}
 use Rattle.std.specs.Str.Parse.{ParsesSigned}
 use Rattle.std.proofs.lemmas.Bool.Decides.{Decides-and, Decides-like, nat_tests}
-use Rattle.std.proofs.lemmas.Grind.{common_steps}
 use Rattle.std.proofs.lemmas.Int.{ints}
 use Rattle.std.proofs.lemmas.Str.Parse.{IsNumeralModel, numerals_by_fold, parse_signed_minus, parse_signed_plain}
 use Rattle.kv_model.specs.Lists.{is_empty}

@@ -1,17 +1,15 @@
 -- The model's readings, part by part.
-use Rattle.std.proofs.Common.{◌≡◌, ℕ, ℤ, List, [], ◌∷◌, map, Bool, true, false, cond, Option, None, Some, Result, Ok, Err, refl, ap, ◌∙◌}
-use Rattle.std.specs.Prelude.{not, codes, option_map}
+use Rattle.std.proofs.Common.{◌≡◌, ℕ, ℤ, List, [], ◌∷◌, map, Bool, true, false, cond, Option, None, Some, Ok, Err, refl, ap, ◌∙◌}
+use Rattle.std.specs.Prelude.{codes, option_map}
 use Rattle.std.specs.Str.{IsUtf8, is_utf8}
 use Rattle.std.proofs.lemmas.Str.{is_utf8-from_IsUtf8, IsUtf8-from_is_utf8}
 use Rattle.serde_json.specs.Read.{read}
 use Rattle.serde_json.specs.Data.{Members}
-use Rattle.kv_model.specs.declared.call.RangeQuery.{RangeQuery}
 use Rattle.kv_model.specs.declared.call.SortOrder.{SortOrder}
 use Rattle.kv_model.specs.declared.call.SortOrder.TheVariants.{Unsorted}
 use Rattle.kv_model.specs.declared.call.SortTarget.{SortTarget}
 use Rattle.kv_model.specs.declared.call.SortTarget.TheVariants.{ByKey}
 use Rattle.kv_model.specs.Requests as requests
-use Rattle.kv_model.specs.Calls.{Call}
 use Rattle.kv_model.specs.Keys.{same_key}
 use Rattle.kv_model.specs.Requests.{Read, ◌>>=◌}
 use Rattle.gateway_read.specs.declared.requests.Request.{Request}

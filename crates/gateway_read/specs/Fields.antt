@@ -1,5 +1,5 @@
 -- How each field of a request is spelled.
-use Rattle.std.specs.Prelude.{◌≡◌, ℕ, List, codes, refl}
+use Rattle.std.specs.Prelude.{ℕ, List, codes}
 use Rattle.gateway_read.specs.declared.field.Field.{Field}
 use Rattle.gateway_read.specs.declared.field.Field.TheVariants.{Key, RangeEnd, Limit, Revision, SortOrder, SortTarget, Serializable, KeysOnly, CountOnly, MinModRevision, MaxModRevision, MinCreateRevision, MaxCreateRevision, Value, Lease, PrevKv, IgnoreValue, IgnoreLease, Compare, Success, Failure, Physical, CreateRequest, StartRevision, Filters, WatchId, Ttl, Id, Keys, Result, Target, Version, CreateRevision, ModRevision, RequestRange, RequestPut, RequestDeleteRange, RequestTxn}
 

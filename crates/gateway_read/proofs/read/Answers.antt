@@ -1,5 +1,4 @@
-use Rattle.std.proofs.Common.{rules, arith, sym}
-use Rattle.std.proofs.lemmas.Grind.{common_steps}
+use Rattle.std.proofs.Common.{rules, sym}
 use Rattle.gateway_read.proofs.Readings.{request_of-no_path, request_of-call_read}
 use Rattle.gateway_read.proofs.read.Goals as goal
 

@@ -1,5 +1,4 @@
 use Rattle.std.proofs.Common.{refl}
-use Rattle.kv_model.specs.Requests as requests
 use Rattle.gateway_read.proofs.Readings.{json_of-read, json_of-none}
 use Rattle.gateway_read.proofs.body.value_of.Goals as goal
 
