@@ -19,7 +19,7 @@ use Rattle.range_view.specs.Replies.{kv_view}
 use Rattle.range_view.specs.Stored.{Stored, goes_on, is_next, appended}
 use Rattle.range_view.proofs.Growing.{next-revision}
 use Rattle.request_core.specs.Writing.{CanCount, IsCountedTo, IsHeldTo, AreNext, next_rev, next_version, tombstone, tombstones}
-use Rattle.request_core.specs.State.{CoreState, IsSound, core_state, with_versions}
+use Rattle.request_core.specs.State.{IsSound, core_state, with_versions}
 use Rattle.request_core.proofs.Back.{last_that-holds}
 
 -- ---- counting

@@ -8,6 +8,8 @@ use Rattle.kv_model.specs.declared.call.PutRequest.{PutRequest}
 use Rattle.kv_model.specs.declared.call.DeleteRequest.{DeleteRequest}
 use Rattle.kv_model.specs.declared.refusal.Refusal.{Refusal}
 use Rattle.kv_model.specs.declared.refusal.Refusal.TheVariants.{RevisionsSpent}
+use Rattle.kv_model.specs.Calls.{Call}
+use Rattle.kv_model.specs.Feed.{Published}
 use Rattle.kv_model.specs.Lists.{is_empty}
 use Rattle.kv_model.specs.Ranges.{live, refuse_if}
 use Rattle.kv_model.specs.Told.{Answer, Reply}
@@ -96,3 +98,16 @@ answer_after_delete s d deleted = record {
   reply = Reply.delete deleted (if_asked (d.prev_kv && nat_lt 0 deleted) (live s.versions (end_of (s.revision - 1)) d.range));
   revision = s.revision;
 }
+
+-- ---- what a sink is told
+
+-- the versions that a call adds to the store
+abbrev pub added_by : Store → Call → List Version
+added_by s (Call.put p) = added_by_put s p ∷ []
+added_by s (Call.delete d) = added_by_delete s d
+added_by s _ = []
+
+-- of these versions, from the first state of the sink to the second: one batch, and nothing where there are none
+abbrev pub IsTold : {X : Type 0} → (X → Published → X → Type 0) → List Version → X → X → Type 0
+IsTold takes [] old new = new ≡ old
+IsTold takes (v ∷ vs) old new = takes old (Published.batch (v ∷ vs)) new

@@ -46,7 +46,7 @@ impl Core {
     ghost use Rattle.kv_model.specs.World.{World, opening};
     ghost use Rattle.kv_model.specs.Stands.{StandsFor};
     ghost use Rattle.kv_model.specs.Step.{perform};
-    ghost use Rattle.request_core.specs.State.{CoreState, held_in, is_spent, with_versions};
+    ghost use Rattle.request_core.specs.State.{CoreState, IsTold, added_by, held_in, is_spent, with_versions};
     ghost use Rattle.request_core.specs.Answers.{Accepts, IsRefusal, IsReadable, answer_view, answer_of, first_refusal};
 
     /// The store before the first event. Takes no memory.
@@ -113,6 +113,7 @@ impl Core {
             → Accepts self.new r w (perform w (call_of command.now)).0 (perform w (call_of command.now)).1) }
         ensures readable { IfOk result (λ r. IsReadable r self.new) }
         ensures unraised { IfOk result (λ r. r.raised ≡ None → self.new ≡ self.old) }
+        ensures told { OnOk result (IsTold S.takes (added_by self.old.store (call_of command.now)) sink.old sink.new) }
         ensures refused { IfErr result (λ e. (w : World) → StandsFor self.old.store w
             → IsRefusal e (first_refusal (perform w (call_of command.now)).0)) }
         ensures err { OnErr result ((self.new ≡ self.old) × (sink.new ≡ sink.old)) }

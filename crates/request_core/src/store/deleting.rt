@@ -1,11 +1,9 @@
 //! DeleteRange.
-ghost use Rattle.kv_model.specs.Feed.{Published};
 ghost use Rattle.kv_model.specs.History.{end_of};
-ghost use Rattle.kv_model.specs.Lists.{is_empty};
 ghost use Rattle.kv_model.specs.Ranges.{live};
 ghost use Rattle.kv_model.specs.Txns.{if_asked};
 ghost use Rattle.range_view.specs.Replies.{kv_view};
-ghost use Rattle.std.specs.Prelude.{◌≡◌, map, ◌-◌, [], length, nat_lt, true, MatchBool, IfOk, IfErr, OnErr, None};
+ghost use Rattle.std.specs.Prelude.{◌≡◌, map, ◌-◌, [], length, IfOk, IfErr, OnOk, OnErr, None};
 
 use super::Core;
 use crate::answer::{Receipt, Todo};
@@ -23,7 +21,7 @@ impl Core {
     ghost use Rattle.kv_model.specs.World.{World};
     ghost use Rattle.kv_model.specs.Stands.{StandsFor};
     ghost use Rattle.kv_model.specs.Step.{perform};
-    ghost use Rattle.request_core.specs.State.{fault_of_delete, added_by_delete, after_delete, answer_after_delete, live_in, raised_by_delete};
+    ghost use Rattle.request_core.specs.State.{IsTold, added_by, fault_of_delete, added_by_delete, after_delete, answer_after_delete, live_in, raised_by_delete};
     ghost use Rattle.request_core.specs.Answers.{Accepts, IsRefusal, IsReadable, answer_of, first_refusal};
 
     /// A DeleteRange appends the tombstones of the live keys of its range at the next revision, and nothing where none is live.
@@ -36,6 +34,7 @@ impl Core {
             → Accepts self.new r w (perform w (Call.delete request.now)).0 (perform w (Call.delete request.now)).1) }
         ensures readable { IfOk result (λ r. IsReadable r self.new) }
         ensures unraised { IfOk result (λ r. r.raised ≡ None → self.new ≡ self.old) }
+        ensures told { OnOk result (IsTold S.takes (added_by self.old.store (Call.delete request.now)) sink.old sink.new) }
         ensures refused { IfErr result (λ e. (w : World) → StandsFor self.old.store w
             → IsRefusal e (first_refusal (perform w (Call.delete request.now)).0)) }
         ensures err { OnErr result ((self.new ≡ self.old) × (sink.new ≡ sink.old)) }
@@ -70,8 +69,7 @@ impl Core {
         ensures made { IfOk result (λ n. (fault_of_delete self.old.store request.now ≡ None) × (self.new ≡ after_delete self.old request.now)) }
         ensures counted { IfOk result (λ n. n ≡ length (live_in self.old.store request.now.range)) }
         ensures quiet { self.old.store.watches ≡ [] }
-        ensures told { IfOk result (λ n. MatchBool (nat_lt 0 n)
-            (S.takes sink.old (Published.batch (added_by_delete self.old.store request.now)) sink.new) (sink.new ≡ sink.old)) }
+        ensures told { OnOk result (IsTold S.takes (added_by self.old.store (Call.delete request.now)) sink.old sink.new) }
         ensures refused { IfErr result (λ e. IsRefusal e (fault_of_delete self.old.store request.now)) }
         ensures err { OnErr result ((self.new ≡ self.old) × (sink.new ≡ sink.old)) }
     {

@@ -1,5 +1,4 @@
 //! Put.
-ghost use Rattle.kv_model.specs.Feed.{Published};
 ghost use Rattle.kv_model.specs.History.{end_of, value_at};
 ghost use Rattle.kv_model.specs.Txns.{previous_value};
 ghost use Rattle.range_view.specs.Replies.{kv_view};
@@ -22,7 +21,7 @@ impl Core {
     ghost use Rattle.kv_model.specs.World.{World};
     ghost use Rattle.kv_model.specs.Stands.{StandsFor};
     ghost use Rattle.kv_model.specs.Step.{perform};
-    ghost use Rattle.request_core.specs.State.{fault_of_put, added_by_put, after_put, answer_after_put, held_in};
+    ghost use Rattle.request_core.specs.State.{IsTold, added_by, fault_of_put, added_by_put, after_put, answer_after_put, held_in};
     ghost use Rattle.request_core.specs.Answers.{Accepts, IsRefusal, IsReadable, answer_of, first_refusal};
 
     /// A Put appends one version at the next revision.
@@ -35,7 +34,7 @@ impl Core {
             → Accepts self.new r w (perform w (Call.put request.now)).0 (perform w (Call.put request.now)).1) }
         ensures readable { IfOk result (λ r. IsReadable r self.new) }
         ensures raised { IfOk result (λ r. r.raised ≡ Some (self.old.store.revision + 1)) }
-        ensures told { OnOk result (S.takes sink.old (Published.batch (added_by_put self.old.store request.now ∷ [])) sink.new) }
+        ensures told { OnOk result (IsTold S.takes (added_by self.old.store (Call.put request.now)) sink.old sink.new) }
         ensures refused { IfErr result (λ e. (w : World) → StandsFor self.old.store w
             → IsRefusal e (first_refusal (perform w (Call.put request.now)).0)) }
         ensures err { OnErr result ((self.new ≡ self.old) × (sink.new ≡ sink.old)) }
@@ -68,7 +67,7 @@ impl Core {
     fn put<S: Sink>(&mut self, request: &PutRequest, sink: &mut S) -> Result<(), Refusal>
         ensures made { OnOk result ((fault_of_put self.old.store request.now ≡ None) × (self.new ≡ after_put self.old request.now)) }
         ensures quiet { self.old.store.watches ≡ [] }
-        ensures told { OnOk result (S.takes sink.old (Published.batch (added_by_put self.old.store request.now ∷ [])) sink.new) }
+        ensures told { OnOk result (IsTold S.takes (added_by self.old.store (Call.put request.now)) sink.old sink.new) }
         ensures refused { IfErr result (λ e. IsRefusal e (fault_of_put self.old.store request.now)) }
         ensures err { OnErr result ((self.new ≡ self.old) × (sink.new ≡ sink.old)) }
     {
