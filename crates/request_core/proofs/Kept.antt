@@ -1,9 +1,6 @@
--- What is kept stays sound with one version more at the next revision.
-use Rattle.std.proofs.Common.{◌≡◌, ◌≢◌, ℕ, ◌+◌, ◌<◌, ◌≤◌, ◌^◌, List, [], ◌∷◌, ◌++◌, Bool, true, false, cond, not, nat_eq, Option, None, Some, option_and_then, All, filter, refl, sym, ◌∙◌, ap, subst, arith}
+-- What is kept stays counted as it grows, and what a put and a delete add are the versions of the next revision.
+use Rattle.std.proofs.Common.{◌≡◌, ◌≢◌, ℕ, zero, suc, ◌+◌, ◌<◌, ◌≤◌, ◌^◌, ◌%◌, ◌&&◌, List, [], ◌∷◌, ◌++◌, length, map, take, get_or, Bool, true, false, nat_lt, Option, None, Some, option_and_then, refl, sym, ◌∙◌, ap, subst, arith, eq-eqb, lt-ltb}
 use Rattle.std.specs.Option.{MatchOption}
-use Rattle.std.proofs.lemmas.Bool.Decides.{nat_tests}
-use Rattle.std.proofs.lemmas.List.Elements.{filter-append, All-from_recursion, recursion_from_All}
-use Rattle.std.proofs.lemmas.List.{append-nil}
 use Rattle.std.specs.List.{AllByRecursion}
 use Rattle.kv_model.specs.declared.version.Rev.{Rev}
 use Rattle.kv_model.specs.declared.version.Version.{Version}
@@ -12,85 +9,102 @@ use Rattle.kv_model.specs.declared.version.Body.TheVariants.{Put, Gone}
 use Rattle.kv_model.specs.declared.call.PutRequest.{PutRequest}
 use Rattle.kv_model.specs.Lists.{last_that}
 use Rattle.kv_model.specs.Keys.{same_key}
-use Rattle.kv_model.specs.History.{KeyValue, key_value, shown, value_now}
+use Rattle.kv_model.specs.History.{KeyValue, key_value, shown, value_at, rev_le}
 use Rattle.kv_model.specs.Step.{last_main}
+use Rattle.kv_model.specs.Feed.{last_main_or}
 use Rattle.kv_model.specs.Txns.{next_body, put_action}
-use Rattle.kv_model.proofs.HistoryLaws.{last_that-append}
-use Rattle.kv_model.proofs.PlaceLaws.{each-map, each-append, rev_lt-mains}
-use Rattle.version_table.specs.Rising.{IsBehind, is_newest, last, retracted}
-use Rattle.request_core.specs.Writing.{CanCountBody, CanCount, IsCountedTo, next_rev, next_version}
-use Rattle.request_core.specs.State.{IsUpTo, IsSound}
+use Rattle.kv_model.proofs.PlaceLaws.{each-map, each-append}
+use Rattle.range_view.specs.declared.reply.KvRef.{KvRef}
+use Rattle.range_view.specs.Replies.{kv_view}
+use Rattle.range_view.specs.Stored.{Stored, goes_on, is_next, appended}
+use Rattle.range_view.proofs.Growing.{next-revision}
+use Rattle.request_core.specs.Writing.{CanCount, IsCountedTo, IsHeldTo, AreNext, next_rev, next_version, tombstone, tombstones}
+use Rattle.request_core.specs.State.{IsSound, core_state, with_versions}
 use Rattle.request_core.proofs.Back.{last_that-holds}
+
+-- ---- counting
 
 counted-more : (r : ℕ) (b : Body) → IsCountedTo r b → IsCountedTo (r + 1) b
 counted-more r (Put create version lease value) h = omega arith
 counted-more r Gone h = tt
 
-upto-more : (r : ℕ) (v : Version) → IsUpTo r v → IsUpTo (r + 1) v
-upto-more r v h = record { main = omega (arith, h.main); counted = counted-more r v.body h.counted }
+shown-held : (r m : ℕ) (k : List ℕ) (b : Body) → IsCountedTo r b → IsHeldTo r (shown m k b)
+shown-held r m k (Put create version lease value) h = h
+shown-held r m k Gone h = tt
 
--- the next revision is behind all that is kept
-pub behind-next : (vs : List Version) (r : ℕ) → IsSound vs r → IsBehind (next_rev r) vs
-behind-next vs r h = each-map (IsUpTo r) (λ v. _) (λ v u. rev_lt-mains v.rev (next_rev r) (omega (arith, u.main))) vs h.kept
+found-held : (r : ℕ) (o : Option Version) → MatchOption o (Unit {0}) (λ v. IsCountedTo r v.body) → IsHeldTo r (option_and_then key_value o)
+found-held r None h = tt
+found-held r (Some v) h = shown-held r v.rev.main v.key v.body h
 
--- one version more at the next revision
-pub sound-push : (vs : List Version) (r : ℕ) (v : Version) → IsSound vs r → r < last_main → v.rev ≡ next_rev r → IsCountedTo (r + 1) v.body → IsSound (vs ++ v ∷ []) (r + 1)
-sound-push vs r v h room at counted = record {
-  opened = omega (arith, h.opened);
-  fits = omega arith;
-  kept = each-append (IsUpTo (r + 1)) vs (v ∷ []) (each-map (IsUpTo r) (IsUpTo (r + 1)) (upto-more r) vs h.kept)
-      (record { main = let e : v.rev.main ≡ r + 1 = ap (λ (p : Rev). p.main) at in omega arith; counted = counted }, tt);
+-- what a key holds is counted
+pub held-counted : (t : Stored) (p : Rev) (k : List ℕ) → IsSound t → IsHeldTo t.revision (value_at t.versions p k)
+unfolding value_at
+held-counted t p k h = found-held t.revision (last_that (λ (v : Version). same_key v.key k && rev_le v.rev p) t.versions)
+    (last_that-holds (λ (v : Version). IsCountedTo t.revision v.body) (λ (v : Version). same_key v.key k && rev_le v.rev p) t.versions h.counted)
+
+-- so one put more can be counted
+pub can_count : (r : ℕ) (o : Option KeyValue) → r ≤ last_main → IsHeldTo r o → CanCount o
+can_count r None l h = tt
+can_count r (Some kv) l h = omega arith
+
+put-counted : (r main : ℕ) (p : PutRequest) (o : Option KeyValue) → IsHeldTo r o → IsCountedTo (r + 1) (next_body main (put_action p o) o)
+put-counted r main p None h = omega arith
+put-counted r main p (Some kv) h = omega arith
+
+-- ---- the versions of the next revision
+
+-- the version that a put makes
+pub put-next : (r : ℕ) (p : PutRequest) (o : Option KeyValue) → IsHeldTo r o → AreNext r (next_version (next_rev r) p o ∷ [])
+put-next r p o h = record {
+  some = λ e. cc;
+  next = ap (λ b. b && true) (eq-eqb (r + 1) (r + 1) refl);
+  counted = (put-counted r (r + 1) p o h, tt);
 }
 
--- it is taken back by its main revision
-pub retracted-push : (vs : List Version) (r : ℕ) (v : Version) → IsSound vs r → v.rev ≡ next_rev r → retracted v.rev.main (vs ++ v ∷ []) ≡ vs
-retracted-push vs r v h at =
-    ap (λ b. cond b (filter other (vs ++ v ∷ [])) (vs ++ v ∷ [])) newest
-    ∙ filter-append other vs (v ∷ [])
-    ∙ ap (λ us. us ++ filter other (v ∷ [])) (rest vs h.kept)
-    ∙ ap (λ b. vs ++ cond (not b) (v ∷ []) []) same
-    ∙ append-nil vs
-  where
-    main_is : v.rev.main ≡ r + 1
-    main_is = ap (λ (p : Rev). p.main) at
+dead-go_on : (main sub : ℕ) (kvs : List KeyValue) → goes_on (record { main = main; sub = sub }) (tombstones main (suc sub) kvs) ≡ true
+dead-go_on main sub [] = refl
+dead-go_on main sub (kv ∷ kvs) = λ i. eq-eqb main main refl i && lt-ltb sub (suc sub) (omega arith) i && dead-go_on main (suc sub) kvs i
 
-    same : nat_eq v.rev.main v.rev.main ≡ true
-    same = grind (arith, nat_tests)
+dead-counted : (r main sub : ℕ) (kvs : List KeyValue) → AllByRecursion (λ v. IsCountedTo r v.body) (tombstones main sub kvs)
+dead-counted r main sub [] = tt
+dead-counted r main sub (kv ∷ kvs) = (tt, dead-counted r main (suc sub) kvs)
 
-    newest : is_newest v.rev.main (vs ++ v ∷ []) ≡ true
-    newest = ap (λ (o : Option Version). elim o as (λ _. Bool) [ None ↦ false | Some l ↦ nat_eq l.rev.main v.rev.main ]) (last_that-append (λ _. true) vs (v ∷ [])) ∙ same
+-- the tombstones of a delete
+pub tombstones-next : (r n : ℕ) (kvs : List KeyValue) → n ≡ length kvs → 0 < n → AreNext r (tombstones (r + 1) 0 kvs)
+tombstones-next r n [] e some = absurd (omega (arith, e, some))
+tombstones-next r n (kv ∷ kvs) e some = record {
+  some = λ none. cc;
+  next = λ i. eq-eqb (r + 1) (r + 1) refl i && dead-go_on (r + 1) 0 kvs i;
+  counted = dead-counted (r + 1) (r + 1) 0 (kv ∷ kvs);
+}
 
-    other : Version → Bool
-    other u = not (nat_eq u.rev.main v.rev.main)
+pub tombstones-length : (main sub : ℕ) (kvs : List KeyValue) → length (tombstones main sub kvs) ≡ length kvs
+tombstones-length main sub [] = refl
+tombstones-length main sub (kv ∷ kvs) = ap suc (tombstones-length main (suc sub) kvs)
 
-    below : (u : Version) → IsUpTo r u → nat_eq u.rev.main v.rev.main ≡ false
-    below u b = let ne : u.rev.main ≢ v.rev.main = λ e. omega (arith, main_is, b.main) in grind (arith, nat_tests)
+-- one tombstone more, behind the others
+pub tombstones-more : (main sub n : ℕ) (kvs : List KvRef) (i : ℕ) (d : KvRef) → n ≡ sub + i → i < length kvs
+    → tombstones main sub (map kv_view (take (suc i) kvs)) ≡ tombstones main sub (map kv_view (take i kvs)) ++ tombstone main n (get_or kvs i d).key.now ∷ []
+tombstones-more main sub n [] i d e h = absurd (omega arith)
+tombstones-more main sub n (kv ∷ kvs) zero d e h = let same : sub ≡ n = omega (arith, e) in ap (λ m. tombstone main m kv.key.now ∷ []) same
+tombstones-more main sub n (kv ∷ kvs) (suc i) d e h =
+    let below : i < length kvs = omega arith in
+    let same : n ≡ suc sub + i = omega (arith, e) in
+    ap (λ vs. tombstone main sub kv.key.now ∷ vs) (tombstones-more main (suc sub) n kvs i d same below)
 
-    rest : (us : List Version) → AllByRecursion (IsUpTo r) us → filter other us ≡ us
-    rest [] k = refl
-    rest (u ∷ us) k = ap (λ b. cond (not b) (u ∷ filter other us) (filter other us)) (below u k.0) ∙ ap (λ ws. u ∷ ws) (rest us k.1)
+-- ---- growth
 
--- ---- counting
+pub next-main : (r : ℕ) (vs : List Version) → AreNext r vs → last_main_or r vs ≡ r + 1
+next-main r [] h = absurd (h.some refl)
+next-main r (v ∷ vs) h = next-revision r v vs h.next
 
-can_count-body : (r : ℕ) (b : Body) → r ≤ last_main → IsCountedTo r b → CanCountBody b
-can_count-body r (Put create version lease value) h c = omega arith
-can_count-body r Gone h c = tt
+pub sound-appended : (t : Stored) (vs : List Version) → IsSound t → t.revision < last_main → AreNext t.revision vs → IsSound (appended t vs)
+sound-appended t vs h room n = subst (λ r. IsSound (record t { versions = t.versions ++ vs; revision = r })) (sym (next-main t.revision vs n)) (record {
+  fits = omega arith;
+  counted = each-append (λ v. IsCountedTo (t.revision + 1) v.body) t.versions vs
+      (each-map (λ v. IsCountedTo t.revision v.body) (λ v. IsCountedTo (t.revision + 1) v.body) (λ v c. counted-more t.revision v.body c) t.versions h.counted) n.counted;
+})
 
-pub can_count : (vs : List Version) (r : ℕ) → IsSound vs r → CanCount vs
-can_count vs r h = All-from_recursion (λ (v : Version). CanCountBody v.body) vs (each-map (IsUpTo r) (λ v. CanCountBody v.body) (λ v u. can_count-body r v.body h.fits u.counted) vs h.kept)
-
-shown-counted : (r main m : ℕ) (p : PutRequest) (k : List ℕ) (b : Body) → IsCountedTo r b
-    → IsCountedTo (r + 1) (next_body main (put_action p (shown m k b)) (shown m k b))
-shown-counted r main m p k (Put create version lease value) c = omega arith
-shown-counted r main m p k Gone c = omega arith
-
-held-counted : (r main : ℕ) (p : PutRequest) (o : Option Version) → MatchOption o (Unit {0}) (IsUpTo r)
-    → IsCountedTo (r + 1) (next_body main (put_action p (option_and_then key_value o)) (option_and_then key_value o))
-held-counted r main p None h = omega arith
-held-counted r main p (Some v) h = shown-counted r main v.rev.main p v.key v.body h.counted
-
--- a put more is counted too
-pub next-counted : (vs : List Version) (r : ℕ) (p : PutRequest) → IsSound vs r → IsCountedTo (r + 1) (next_version vs (next_rev r) p).body
-unfolding value_now
-next-counted vs r p h = held-counted r (r + 1) p (last_that (λ (v : Version). same_key v.key p.key) vs)
-    (last_that-holds (IsUpTo r) (λ (v : Version). same_key v.key p.key) vs h.kept)
+-- a core whose tables grew, one changing call later
+pub grown-state : (t : Stored) (vs : List Version) (stamp : ℕ) → AreNext t.revision vs → core_state (appended t vs) ((stamp + 1) % 2 ^ 64) ≡ with_versions (core_state t stamp) vs
+grown-state t vs stamp n = ap (λ r. core_state (record t { versions = t.versions ++ vs; revision = r }) ((stamp + 1) % 2 ^ 64)) (next-main t.revision vs n)

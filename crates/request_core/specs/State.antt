@@ -1,71 +1,113 @@
 -- What a core holds, and how a command changes it.
-use Rattle.std.specs.Prelude.{◌≡◌, ℕ, ◌+◌, ◌-◌, ◌≤◌, ◌%◌, ◌^◌, List, [], ◌∷◌, ◌++◌, not, nat_lt, Option}
+use Rattle.std.specs.Prelude.{◌≡◌, ℕ, ◌+◌, ◌-◌, ◌≤◌, ◌%◌, ◌^◌, List, [], ◌∷◌, ◌++◌, Bool, not, ◌&&◌, nat_lt, length, Option, None, Some, if◌then◌else◌}
 use Rattle.std.specs.Option.{option_or}
 use Rattle.std.specs.List.{AllByRecursion}
 use Rattle.kv_model.specs.declared.version.Version.{Version}
+use Rattle.kv_model.specs.declared.version.KeyRange.{KeyRange}
 use Rattle.kv_model.specs.declared.call.PutRequest.{PutRequest}
-use Rattle.kv_model.specs.declared.call.RangeQuery.{RangeQuery}
+use Rattle.kv_model.specs.declared.call.DeleteRequest.{DeleteRequest}
 use Rattle.kv_model.specs.declared.refusal.Refusal.{Refusal}
-use Rattle.kv_model.specs.declared.refusal.Refusal.TheVariants.{NoKey, RevisionsSpent}
+use Rattle.kv_model.specs.declared.refusal.Refusal.TheVariants.{RevisionsSpent}
+use Rattle.kv_model.specs.Calls.{Call}
+use Rattle.kv_model.specs.Feed.{Published}
 use Rattle.kv_model.specs.Lists.{is_empty}
-use Rattle.kv_model.specs.Ranges.{refuse_if}
+use Rattle.kv_model.specs.Ranges.{live, refuse_if}
 use Rattle.kv_model.specs.Told.{Answer, Reply}
-use Rattle.kv_model.specs.Txns.{previous_value}
-use Rattle.kv_model.specs.History.{value_at, end_of}
+use Rattle.kv_model.specs.Txns.{put_fault, previous_value, if_asked}
+use Rattle.kv_model.specs.History.{KeyValue, value_at, end_of}
 use Rattle.kv_model.specs.Step.{last_main}
 use Rattle.kv_model.specs.Stands.{Store}
-use Rattle.kv_model.specs.Stores.{refusal_of_put, reply_of_put}
-use Rattle.request_core.specs.Writing.{next_rev, IsCountedTo, next_version}
+use Rattle.kv_model.specs.Stores.{refusal_of_delete}
+use Rattle.range_view.specs.Stored.{Stored}
+use Rattle.request_core.specs.Writing.{IsCountedTo, held_refusal, next_rev, next_version, tombstones}
 
 -- what clauses see of a core: what is kept, and how many changing calls came, wrapping
 pub record CoreState : Type 0 where
   pub store : Store
   pub stamp : ℕ
 
--- a store without leases, watches and compactions
-abbrev pub store_of : List Version → ℕ → Store
-store_of vs revision = record { versions = vs; revision = revision; compacted = 0; leases = []; clock = 0; watches = []; made = 0 }
+-- a store without leases and watches
+abbrev pub store_of : Stored → Store
+store_of t = record { versions = t.versions; revision = t.revision; compacted = t.compacted; leases = []; clock = 0; watches = []; made = 0 }
 
-abbrev pub core_state : List Version → ℕ → ℕ → CoreState
-core_state vs revision stamp = record { store = store_of vs revision; stamp = stamp }
-
-pub record IsUpTo (revision : ℕ) (v : Version) : Type 0 where
-  pub main : v.rev.main ≤ revision
-  pub counted : IsCountedTo revision v.body
+abbrev pub core_state : Stored → ℕ → CoreState
+core_state t stamp = record { store = store_of t; stamp = stamp }
 
 -- what is true of the fields of every core
-pub record IsSound (vs : List Version) (revision : ℕ) : Type 0 where
-  pub opened : 1 ≤ revision
-  pub fits : revision ≤ last_main
-  pub kept : AllByRecursion (IsUpTo revision) vs
+pub record IsSound (t : Stored) : Type 0 where
+  pub fits : t.revision ≤ last_main
+  pub counted : AllByRecursion (λ v. IsCountedTo t.revision v.body) t.versions
 
--- the first refusal of a put, that of spent revisions last
-abbrev pub fault_of_put : Store → PutRequest → Option Refusal
-fault_of_put s p = option_or (refusal_of_put s p) (refuse_if (not (nat_lt s.revision last_main)) RevisionsSpent)
+-- what a key holds at the store's revision, and what the keys of a range hold
+abbrev pub held_in : Store → List ℕ → Option KeyValue
+held_in s k = value_at s.versions (end_of s.revision) k
 
--- the version that a put adds
-abbrev pub added_by_put : Store → PutRequest → Version
-added_by_put s p = next_version s.versions (next_rev s.revision) p
+abbrev pub live_in : Store → KeyRange → List KeyValue
+live_in s r = live s.versions (end_of s.revision) r
 
--- one version more, at its revision
-abbrev pub with_version : CoreState → Version → CoreState
-with_version s v = record {
-  store = record s.store { versions = s.store.versions ++ v ∷ []; revision = v.rev.main };
+-- no revision comes after this one
+abbrev pub is_spent : ℕ → Bool
+is_spent revision = not (nat_lt revision last_main)
+
+-- with the versions of the next revision
+abbrev pub with_versions : CoreState → List Version → CoreState
+with_versions s vs = record {
+  store = record s.store { versions = s.store.versions ++ vs; revision = s.store.revision + 1 };
   stamp = (s.stamp + 1) % 2 ^ 64;
 }
 
+-- ---- Put
+
+-- the first refusal of a put, that of spent revisions last
+abbrev pub fault_of_put : Store → PutRequest → Option Refusal
+fault_of_put s p = option_or (option_or (put_fault p) (held_refusal s.leases p (held_in s p.key))) (refuse_if (is_spent s.revision) RevisionsSpent)
+
+-- the version that a put adds
+abbrev pub added_by_put : Store → PutRequest → Version
+added_by_put s p = next_version (next_rev s.revision) p (held_in s p.key)
+
 -- what an accepted put leaves
 abbrev pub after_put : CoreState → PutRequest → CoreState
-after_put s p = with_version s (added_by_put s.store p)
-
--- the first refusal of a Range of one key at the present revision
-abbrev pub first_fault_of_range : RangeQuery → Option Refusal
-first_fault_of_range q = refuse_if (is_empty q.range.key) NoKey
-
--- the answer to an accepted put
-abbrev pub answer_to_put : Store → PutRequest → Answer
-answer_to_put s p = record { reply = reply_of_put s p; revision = s.revision + 1 }
+after_put s p = with_versions s (added_by_put s.store p ∷ [])
 
 -- the answer to a put, read on the state that it left
 abbrev pub answer_after_put : Store → PutRequest → Answer
 answer_after_put s p = record { reply = Reply.put (previous_value p.prev_kv (value_at s.versions (end_of (s.revision - 1)) p.key)); revision = s.revision }
+
+-- ---- DeleteRange
+
+-- the first refusal of a delete, that of spent revisions where some key is live
+abbrev pub fault_of_delete : Store → DeleteRequest → Option Refusal
+fault_of_delete s d = option_or (refusal_of_delete d) (refuse_if (not (is_empty (live_in s d.range)) && is_spent s.revision) RevisionsSpent)
+
+-- the versions that a delete adds
+abbrev pub added_by_delete : Store → DeleteRequest → List Version
+added_by_delete s d = tombstones (s.revision + 1) 0 (live_in s d.range)
+
+-- what an accepted delete leaves: nothing has changed where no key was live
+abbrev pub after_delete : CoreState → DeleteRequest → CoreState
+after_delete s d = if is_empty (live_in s.store d.range) then s else with_versions s (added_by_delete s.store d)
+
+-- the revision that a delete of so many keys raised the store to
+abbrev pub raised_by_delete : ℕ → ℕ → Option ℕ
+raised_by_delete deleted revision = if nat_lt 0 deleted then Some revision else None
+
+-- the answer to a delete of so many keys, read on the state that it left
+abbrev pub answer_after_delete : Store → DeleteRequest → ℕ → Answer
+answer_after_delete s d deleted = record {
+  reply = Reply.delete deleted (if_asked (d.prev_kv && nat_lt 0 deleted) (live s.versions (end_of (s.revision - 1)) d.range));
+  revision = s.revision;
+}
+
+-- ---- what a sink is told
+
+-- the versions that a call adds to the store
+abbrev pub added_by : Store → Call → List Version
+added_by s (Call.put p) = added_by_put s p ∷ []
+added_by s (Call.delete d) = added_by_delete s d
+added_by s _ = []
+
+-- of these versions, from the first state of the sink to the second: one batch, and nothing where there are none
+abbrev pub IsTold : {X : Type 0} → (X → Published → X → Type 0) → List Version → X → X → Type 0
+IsTold takes [] old new = new ≡ old
+IsTold takes (v ∷ vs) old new = takes old (Published.batch (v ∷ vs)) new

@@ -1,6 +1,7 @@
 //! What a command did, and what is answered to it.
 use bytes::Bytes;
 use kv_model::call::RangeQuery;
+use kv_model::version::KeyRange;
 use range_view::reply::{KvRef, RangeReply};
 
 /// What an accepted command did, and what is left to read for its answer.
@@ -24,6 +25,12 @@ pub enum Todo<'c> {
     Range(&'c RangeQuery),
     /// What the key held before the put, where that is asked for.
     Put { key: &'c Bytes, previous: bool },
+    /// What the deleted keys held before, where that is asked for and some key was deleted.
+    Delete {
+        range: &'c KeyRange,
+        previous: bool,
+        deleted: u64,
+    },
 }
 
 /// The answer to a command, which lends from the core (the etcd documentation's API reference).
@@ -33,6 +40,13 @@ pub enum Answer<'a> {
     Put {
         revision: u64,
         previous: Option<KvRef<'a>>,
+    },
+    Delete {
+        revision: u64,
+        /// How many keys were deleted.
+        deleted: u64,
+        /// What they held before, in the order of the keys; empty where that is not asked for.
+        previous: Vec<KvRef<'a>>,
     },
 }
 

@@ -2,7 +2,6 @@
 #![tactic(auto)]
 
 pub mod answer;
-mod reading;
 pub mod store;
 #[cfg(test)]
 mod tests;

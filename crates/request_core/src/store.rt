@@ -1,26 +1,24 @@
 //! The core: one step of the store.
 ghost use Rattle.kv_model.specs.Feed.{Published, published};
-ghost use Rattle.kv_model.specs.History.{end_of, value_at};
-ghost use Rattle.kv_model.specs.Ranges.{range_reply, plain_range};
-ghost use Rattle.kv_model.specs.Step.{last_main};
 ghost use Rattle.range_view.specs.Replies.{kv_view, reply_view};
-ghost use Rattle.request_core.specs.Writing.{next_rev, IsCountedTo, reply_to_one};
-ghost use Rattle.std.specs.Prelude.{◌≡◌, option_map, ◌+◌, ◌-◌, ◌<◌, ◌≤◌, [], ◌∷◌, ◌++◌, length, IfOk, IfErr, OnOk, OnErr, Ok, Err, Some, None};
+ghost use Rattle.request_core.specs.Writing.{AreNext, IsHeldTo};
+ghost use Rattle.kv_model.specs.Step.{last_main};
+ghost use Rattle.std.specs.Prelude.{◌≡◌, option_map, ◌<◌, ◌≤◌, length, IfOk, IfErr, OnOk, OnErr};
+
+mod deleting;
+mod putting;
+mod ranging;
 
 use crate::answer::{Answer, Receipt, Status, Todo};
-use crate::reading::{place_behind, value_of};
-use crate::writing::{put_fault, put_refusal, put_version};
 use bytes::Bytes;
-use kv_model::call::{Command, PutRequest, RangeQuery};
+use kv_model::call::Command;
 use kv_model::feed::{NoSink, Op, Sink};
 use kv_model::refusal::Refusal;
-#[cfg(test)]
-use kv_model::version::Body;
-use kv_model::version::{Rev, Version};
-use range_view::reply::{KvRef, RangeReply};
+use kv_model::version::Version;
+use range_view::reply::KvRef;
+use range_view::tables::Tables;
 use std::alloc::{AllocError, Global};
 use std::marker::Model;
-use version_table::VersionTable;
 
 /// The greatest revision.
 pub const LAST_MAIN: u64 = 9_223_372_036_854_775_807;
@@ -29,19 +27,18 @@ pub const LAST_MAIN: u64 = 9_223_372_036_854_775_807;
 #[derive(Drop)]
 pub struct Core {
     alloc: Global,
-    table: VersionTable,
-    revision: u64,
+    tables: Tables,
     stamp: u64,
 }
 
 impl Model for Core {
-    ghost use Rattle.request_core.specs.State.{CoreState, IsSound, store_of};
+    ghost use Rattle.request_core.specs.State.{CoreState, IsSound, core_state};
 
     ghost Value = { CoreState };
 
-    ghost view = { λ c. record { store = store_of c.table c.revision; stamp = c.stamp } };
+    ghost view = { λ c. core_state c.tables c.stamp };
 
-    ghost invariant = { λ c. IsSound c.table c.revision };
+    ghost invariant = { λ c. IsSound c.tables };
 }
 
 impl Core {
@@ -49,9 +46,7 @@ impl Core {
     ghost use Rattle.kv_model.specs.World.{World, opening};
     ghost use Rattle.kv_model.specs.Stands.{StandsFor};
     ghost use Rattle.kv_model.specs.Step.{perform};
-    ghost use Rattle.kv_model.specs.Stores.{reply_of_range};
-    ghost use Rattle.kv_model.specs.Built.{IsBuilt};
-    ghost use Rattle.request_core.specs.State.{CoreState, fault_of_put, added_by_put, after_put, answer_after_put, with_version};
+    ghost use Rattle.request_core.specs.State.{CoreState, IsTold, added_by, held_in, is_spent, with_versions};
     ghost use Rattle.request_core.specs.Answers.{Accepts, IsRefusal, IsReadable, answer_view, answer_of, first_refusal};
 
     /// The store before the first event. Takes no memory.
@@ -60,8 +55,7 @@ impl Core {
     {
         Core {
             alloc,
-            table: VersionTable::new(alloc),
-            revision: 1,
+            tables: Tables::new(alloc),
             stamp: 0,
         }
     }
@@ -81,19 +75,22 @@ impl Core {
         ensures versions { result.versions ≡ length self.now.store.versions }
     {
         Status {
-            revision: self.revision,
-            compacted: 0,
+            revision: self.tables.revision(),
+            compacted: self.tables.compacted(),
             clock: 0,
-            versions: self.table.len() as u64,
+            versions: self.tables.versions().len() as u64,
         }
     }
 
     /// Does one command, on what the core stands for.
     ///
     /// The refusals come in the order of the etcd documentation's checks of a request; want of memory may come in
-    /// place of any later one. A refused command leaves the core as it was. A Put is linear in the versions.
+    /// place of any later one. A refused command leaves the core as it was.
+    ///
+    /// A Range takes no memory before its answer. A Put is logarithmic in the number of keys and in that of the versions, and
+    /// linear in a value that it keeps. A DeleteRange walks the keys of its range, live or not, and adds a tombstone for each
+    /// that is live, all in one revision. A list may grow.
     pub fn apply<'c>(&mut self, command: &'c Command) -> Result<Receipt<'c>, Refusal>
-        requires built { IsBuilt (call_of command.now) }
         ensures accepted { IfOk result (λ r. (w : World) → StandsFor self.old.store w
             → Accepts self.new r w (perform w (call_of command.now)).0 (perform w (call_of command.now)).1) }
         ensures readable { IfOk result (λ r. IsReadable r self.new) }
@@ -105,16 +102,18 @@ impl Core {
         self.apply_over(command, &mut NoSink)
     }
 
+    /// Does one command, and hands what changes to a sink before it stands, in one batch. A sink that finds no memory refuses
+    /// the command.
     pub(crate) fn apply_over<'c, S: Sink>(
         &mut self,
         command: &'c Command,
         sink: &mut S,
     ) -> Result<Receipt<'c>, Refusal>
-        requires built { IsBuilt (call_of command.now) }
         ensures accepted { IfOk result (λ r. (w : World) → StandsFor self.old.store w
             → Accepts self.new r w (perform w (call_of command.now)).0 (perform w (call_of command.now)).1) }
         ensures readable { IfOk result (λ r. IsReadable r self.new) }
         ensures unraised { IfOk result (λ r. r.raised ≡ None → self.new ≡ self.old) }
+        ensures told { OnOk result (IsTold S.takes (added_by self.old.store (call_of command.now)) sink.old sink.new) }
         ensures refused { IfErr result (λ e. (w : World) → StandsFor self.old.store w
             → IsRefusal e (first_refusal (perform w (call_of command.now)).0)) }
         ensures err { OnErr result ((self.new ≡ self.old) × (sink.new ≡ sink.old)) }
@@ -122,147 +121,8 @@ impl Core {
         match command {
             Command::Range(query) => self.apply_range(query),
             Command::Put(request) => self.apply_put(request, sink),
+            Command::Delete(request) => self.apply_delete(request, sink),
         }
-    }
-
-    /// A Range changes nothing, and takes no memory before its answer.
-    fn apply_range<'c>(&self, query: &'c RangeQuery) -> Result<Receipt<'c>, Refusal>
-        requires built { IsBuilt (Call.range query.now) }
-        ensures accepted { IfOk result (λ r. (w : World) → StandsFor self.now.store w
-            → Accepts self.now r w (perform w (Call.range query.now)).0 (perform w (Call.range query.now)).1) }
-        ensures readable { IfOk result (λ r. IsReadable r self.now) }
-        ensures refused { IfErr result (λ e. (w : World) → StandsFor self.now.store w
-            → IsRefusal e (first_refusal (perform w (Call.range query.now)).0)) }
-    {
-        if query.range.key.is_empty() {
-            return Err(Refusal::NoKey);
-        }
-        Ok(self.receipt_of_range(query))
-    }
-
-    fn receipt_of_range<'c>(&self, query: &'c RangeQuery) -> Receipt<'c>
-        requires { IsBuilt (Call.range query.now) }
-        ensures answers { answer_of result self.now ≡ record { reply = reply_of_range self.now.store query.now; revision = self.now.store.revision } }
-        ensures unraised { (result.raised ≡ None) × (result.watch ≡ None) }
-        ensures readable { IsReadable result self.now }
-    {
-        Receipt {
-            stamp: self.stamp,
-            revision: self.revision,
-            raised: None,
-            watch: None,
-            todo: Todo::Range(query),
-        }
-    }
-
-    /// A Put appends one version at the next revision.
-    fn apply_put<'c, S: Sink>(
-        &mut self,
-        request: &'c PutRequest,
-        sink: &mut S,
-    ) -> Result<Receipt<'c>, Refusal>
-        ensures accepted { IfOk result (λ r. (w : World) → StandsFor self.old.store w
-            → Accepts self.new r w (perform w (Call.put request.now)).0 (perform w (Call.put request.now)).1) }
-        ensures readable { IfOk result (λ r. IsReadable r self.new) }
-        ensures raised { IfOk result (λ r. r.raised ≡ Some (self.old.store.revision + 1)) }
-        ensures told { OnOk result (S.takes sink.old (Published.batch (added_by_put self.old.store request.now ∷ [])) sink.new) }
-        ensures refused { IfErr result (λ e. (w : World) → StandsFor self.old.store w
-            → IsRefusal e (first_refusal (perform w (Call.put request.now)).0)) }
-        ensures err { OnErr result ((self.new ≡ self.old) × (sink.new ≡ sink.old)) }
-    {
-        if let Err(refusal) = self.put(request, sink) {
-            return Err(refusal);
-        }
-        Ok(self.receipt_of_put(request))
-    }
-
-    fn receipt_of_put<'c>(&self, request: &'c PutRequest) -> Receipt<'c>
-        ensures answers { answer_of result self.now ≡ answer_after_put self.now.store request.now }
-        ensures raised { (result.raised ≡ Some self.now.store.revision) × (result.watch ≡ None) }
-        ensures readable { IsReadable result self.now }
-    {
-        Receipt {
-            stamp: self.stamp,
-            revision: self.revision,
-            raised: Some(self.revision),
-            watch: None,
-            todo: Todo::Put {
-                key: &request.key,
-                previous: request.prev_kv,
-            },
-        }
-    }
-
-    /// Appends the version that a put makes. What can fail comes first, and the sink's taking last.
-    fn put<S: Sink>(&mut self, request: &PutRequest, sink: &mut S) -> Result<(), Refusal>
-        ensures made { OnOk result ((fault_of_put self.old.store request.now ≡ None) × (self.new ≡ after_put self.old request.now)) }
-        ensures quiet { self.old.store.watches ≡ [] }
-        ensures told { OnOk result (S.takes sink.old (Published.batch (added_by_put self.old.store request.now ∷ [])) sink.new) }
-        ensures refused { IfErr result (λ e. IsRefusal e (fault_of_put self.old.store request.now)) }
-        ensures err { OnErr result ((self.new ≡ self.old) × (sink.new ≡ sink.old)) }
-    {
-        let _ = &self.alloc;
-        if let Some(refusal) = self.fault_of_put(request) {
-            return Err(refusal);
-        }
-        let Ok(version) = self.version_of_put(request) else {
-            return Err(Refusal::Memory);
-        };
-        if self.append(version, sink).is_err() {
-            return Err(Refusal::Memory);
-        }
-        Ok(())
-    }
-
-    /// The first refusal of a put, if there is one.
-    fn fault_of_put(&self, request: &PutRequest) -> Option<Refusal>
-        ensures { result ≡ fault_of_put self.now.store request.now }
-    {
-        if let Some(refusal) = put_fault(request) {
-            return Some(refusal);
-        }
-        if let Some(refusal) = put_refusal(self.table.as_slice(), request) {
-            return Some(refusal);
-        }
-        if self.revision < LAST_MAIN {
-            None
-        } else {
-            Some(Refusal::RevisionsSpent)
-        }
-    }
-
-    /// The version that a put adds.
-    fn version_of_put(&self, request: &PutRequest) -> Result<Version, AllocError>
-        requires { self.now.store.revision < last_main }
-        ensures added { IfOk result (λ v. v ≡ added_by_put self.now.store request.now) }
-        ensures counted { IfOk result (λ v. IsCountedTo (self.now.store.revision + 1) v.body) }
-    {
-        let rev = Rev {
-            main: self.revision + 1,
-            sub: 0,
-        };
-        put_version(self.table.as_slice(), rev, request)
-    }
-
-    /// Appends a version at the next revision, once the sink has taken it.
-    fn append<S: Sink>(&mut self, version: Version, sink: &mut S) -> Result<(), AllocError>
-        requires room { self.old.store.revision < last_main }
-        requires next { version.rev ≡ next_rev self.old.store.revision }
-        requires counted { IsCountedTo (self.old.store.revision + 1) version.body }
-        ensures ok { OnOk result (self.new ≡ with_version self.old version) }
-        ensures told { OnOk result (S.takes sink.old (Published.batch (version ∷ [])) sink.new) }
-        ensures err { OnErr result ((self.new ≡ self.old) × (sink.new ≡ sink.old)) }
-    {
-        let main = version.rev.main;
-        let batch = batch_of(self.alloc, &version)?;
-        self.table.push(version)?;
-        if let Err(full) = sink.take(batch) {
-            self.table.retract(main);
-            return Err(full);
-        }
-        self.revision = main;
-        self.stamp = self.stamp.wrapping_add(1);
-        Ok(())
     }
 
     /// The answer of a receipt, on the state that it left. `AllocError` comes where the list of an answer finds no
@@ -275,90 +135,63 @@ impl Core {
             Todo::Range(query) => Ok(Answer::Range(self.range(query)?)),
             Todo::Put { key, previous } => Ok(Answer::Put {
                 revision: receipt.revision,
-                previous: if *previous {
-                    self.value_before(receipt.revision, key)
-                } else {
-                    None
-                },
+                previous: self.value_before(receipt.revision, key, *previous),
+            }),
+            Todo::Delete {
+                range,
+                previous,
+                deleted,
+            } => Ok(Answer::Delete {
+                revision: receipt.revision,
+                deleted: *deleted,
+                previous: self.values_before(receipt.revision, range, *previous && *deleted > 0)?,
             }),
         }
     }
 
-    /// What a key held before a revision.
-    fn value_before<'a>(&'a self, revision: u64, key: &Bytes) -> Option<KvRef<'a>>
-        ensures { option_map kv_view result ≡ value_at self.now.store.versions (end_of (revision - 1)) key.now }
+    /// Whether no revision comes after the present one.
+    fn is_spent(&self) -> bool
+        ensures { result ≡ is_spent self.now.store.revision }
     {
-        let place = place_behind(revision.saturating_sub(1));
-        value_of(self.table.as_slice(), place, key.as_slice())
+        self.tables.revision() >= LAST_MAIN
     }
 
-    /// The reply to a Range of one key at the present revision.
-    fn range(&self, query: &RangeQuery) -> Result<RangeReply<'_>, AllocError>
-        requires { query.now ≡ plain_range query.now.range.key 0 }
-        ensures { IfOk result (λ r. reply_view r ≡ range_reply self.now.store.versions self.now.store.compacted self.now.store.revision
-            (end_of self.now.store.revision) query.now) }
+    /// What a key holds at the present revision.
+    fn held(&self, key: &Bytes) -> Option<KvRef<'_>>
+        ensures value { option_map kv_view result ≡ held_in self.now.store key.now }
+        ensures counted { IsHeldTo self.now.store.revision (option_map kv_view result) }
+        ensures fits { self.now.store.revision ≤ last_main }
     {
-        let place = place_behind(self.revision);
-        let found = value_of(self.table.as_slice(), place, query.range.key.as_slice());
-        one_found(self.alloc, found, self.revision)
+        self.tables.view().get(key)
+    }
+
+    /// Appends the versions of the next revision, once the sink has taken them.
+    fn append<S: Sink>(
+        &mut self,
+        versions: Vec<Version>,
+        sink: &mut S,
+    ) -> Result<(), AllocError>
+        requires room { self.old.store.revision < last_main }
+        requires next { AreNext self.old.store.revision versions.items }
+        ensures ok { OnOk result (self.new ≡ with_versions self.old versions.items) }
+        ensures told { OnOk result (S.takes sink.old (Published.batch versions.items) sink.new) }
+        ensures err { OnErr result ((self.new ≡ self.old) × (sink.new ≡ sink.old)) }
+    {
+        let main = self.tables.revision() + 1;
+        let batch = batch_of(self.alloc, &versions)?;
+        self.tables.append(versions)?;
+        if let Err(full) = sink.take(batch) {
+            self.tables.retract(main);
+            return Err(full);
+        }
+        self.stamp = self.stamp.wrapping_add(1);
+        Ok(())
     }
 }
 
-/// The batch of one version.
-fn batch_of(alloc: Global, version: &Version) -> Result<Op, AllocError>
-    ensures { IfOk result (λ op. published op ≡ Published.batch (version.now ∷ [])) }
+/// The batch of versions, which are cloned.
+fn batch_of(alloc: Global, versions: &[Version]) -> Result<Op, AllocError>
+    ensures { IfOk result (λ op. published op ≡ Published.batch versions.now) }
 {
-    let mut versions = Vec::with_capacity(alloc, 1)?;
-    versions.push(version.clone()?)?;
-    Ok(Op::Batch(versions))
-}
-
-/// The reply to a Range that finds what one key holds.
-fn one_found(
-    alloc: Global,
-    found: Option<KvRef<'_>>,
-    revision: u64,
-) -> Result<RangeReply<'_>, AllocError>
-    ensures { IfOk result (λ r. reply_view r ≡ reply_to_one (option_map kv_view found.entry) revision) }
-{
-    let mut kvs = Vec::new(alloc);
-    let mut count = 0;
-    if let Some(kv) = found {
-        kvs.push(kv)?;
-        count = 1;
-    }
-    Ok(RangeReply {
-        kvs,
-        count,
-        more: false,
-        revision,
-    })
-}
-
-#[cfg(test)]
-impl Core {
-    /// A core that keeps one version, at the last revision but one.
-    pub fn at_last_but_one(alloc: Global) -> Result<Self, AllocError> {
-        let mut table = VersionTable::new(alloc);
-        let revision = LAST_MAIN - 1;
-        table.push(Version {
-            rev: Rev {
-                main: revision,
-                sub: 0,
-            },
-            key: Bytes::from_static(b"a"),
-            body: Body::Put {
-                create: revision,
-                version: 1,
-                lease: 0,
-                value: Bytes::new(),
-            },
-        })?;
-        Ok(Core {
-            alloc,
-            table,
-            revision,
-            stamp: 0,
-        })
-    }
+    Ok(Op::Batch(Vec::from_clones(alloc, versions)?))
 }

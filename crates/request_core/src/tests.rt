@@ -1,44 +1,58 @@
 //! What no clause says: that calls succeed with ample memory, and what a sink that refuses leaves.
 use crate::answer::{Answer, Status};
-use crate::store::{Core, LAST_MAIN};
+use crate::store::Core;
 use bytes::Bytes;
-use kv_model::call::{Command, PutRequest, RangeQuery, SortOrder, SortTarget};
+use kv_model::call::{Command, DeleteRequest, PutRequest, RangeQuery, SortOrder, SortTarget};
 use kv_model::feed::{Op, Sink};
 use kv_model::refusal::Refusal;
 use kv_model::version::KeyRange;
-use std::alloc::AllocError;
+use range_view::reply::{KvRef, RangeReply};
+use std::alloc::{AllocError, Global};
 use std::test::Fail;
 
-fn put_of(key: &'static [u8], value: &'static [u8]) -> PutRequest {
-    PutRequest {
+fn put(key: &'static [u8], value: &'static [u8]) -> Command {
+    Command::Put(PutRequest {
         key: Bytes::from_static(key),
         value: Bytes::from_static(value),
         lease: 0,
         prev_kv: false,
         ignore_value: false,
         ignore_lease: false,
+    })
+}
+
+/// A put that keeps the value, and shows what was there.
+fn keep(key: &'static [u8], lease: i64) -> Command {
+    Command::Put(PutRequest {
+        key: Bytes::from_static(key),
+        value: Bytes::new(),
+        lease,
+        prev_kv: true,
+        ignore_value: true,
+        ignore_lease: false,
+    })
+}
+
+fn between(key: &'static [u8], end: &'static [u8]) -> KeyRange {
+    KeyRange {
+        key: Bytes::from_static(key),
+        end: Bytes::from_static(end),
     }
 }
 
-fn put(key: &'static [u8], value: &'static [u8]) -> Command
-    ensures { IsBuilt (call_of result) }
-{
-    Command::Put(put_of(key, value))
+fn delete(key: &'static [u8], end: &'static [u8]) -> Command {
+    Command::Delete(DeleteRequest {
+        range: between(key, end),
+        prev_kv: true,
+    })
 }
 
-ghost use Rattle.kv_model.specs.Built.{IsBuilt};
-ghost use Rattle.kv_model.specs.Calls.{call_of};
-
-fn range(key: &'static [u8]) -> Command
-    ensures { IsBuilt (call_of result) }
-{
+/// The live keys of the whole store at a revision.
+fn all_at(revision: i64) -> Command {
     Command::Range(RangeQuery {
-        range: KeyRange {
-            key: Bytes::from_static(key),
-            end: Bytes::new(),
-        },
+        range: between(b"\0", b"\0"),
         limit: 0,
-        revision: 0,
+        revision,
         order: SortOrder::Unsorted,
         target: SortTarget::ByKey,
         serializable: false,
@@ -49,6 +63,53 @@ fn range(key: &'static [u8]) -> Command
         min_create: 0,
         max_create: 0,
     })
+}
+
+/// Does a command, and gives the revision after it. Without clauses, so that a test does not carry those of `apply`.
+fn done(core: &mut Core, command: &Command) -> Result<u64, Fail> {
+    Ok(core.apply(command)?.revision)
+}
+
+fn refused(core: &mut Core, command: &Command) -> Option<Refusal> {
+    core.apply(command).err()
+}
+
+fn ranged<'a>(core: &'a mut Core, command: &Command) -> Result<RangeReply<'a>, Fail> {
+    let receipt = core.apply(command)?;
+    match core.answer(&receipt)? {
+        Answer::Range(reply) => Ok(reply),
+        _ => Err(Fail::from("no answer to a range")),
+    }
+}
+
+/// What a put found before it.
+fn replaced<'a>(core: &'a mut Core, command: &Command) -> Result<KvRef<'a>, Fail> {
+    let receipt = core.apply(command)?;
+    match core.answer(&receipt)? {
+        Answer::Put { previous, .. } => Ok(previous.ok_or("nothing before")?),
+        _ => Err(Fail::from("no answer to a put")),
+    }
+}
+
+/// How many keys a delete found, and what they held.
+fn deleted<'a>(core: &'a mut Core, command: &Command) -> Result<(u64, Vec<KvRef<'a>>), Fail> {
+    let receipt = core.apply(command)?;
+    match core.answer(&receipt)? {
+        Answer::Delete {
+            deleted, previous, ..
+        } => Ok((deleted, previous)),
+        _ => Err(Fail::from("no answer to a delete")),
+    }
+}
+
+/// Revisions 2 to 5: puts of a, b, c, and of b again.
+fn stored(alloc: Global) -> Result<Core, Fail> {
+    let mut core = Core::new(alloc);
+    done(&mut core, &put(b"a", b"1"))?;
+    done(&mut core, &put(b"b", b"1"))?;
+    done(&mut core, &put(b"c", b"1"))?;
+    done(&mut core, &put(b"b", b"2"))?;
+    Ok(core)
 }
 
 #[test]
@@ -65,71 +126,70 @@ fn a_fresh_core(rt: HostRuntime) {
 }
 
 #[test]
-fn a_put_and_its_range(rt: HostRuntime) -> Result<(), Fail> {
-    let mut core = Core::new(rt.alloc());
-    let command = put(b"foo", b"bar");
-    let receipt = core.apply(&command)?;
-    assert_eq!(rt; receipt.raised, Some(2));
-    assert_eq!(rt; receipt.watch, None);
-    assert_eq!(rt; core.stamp(), 1);
-    let Answer::Put { revision, previous } = core.answer(&receipt)? else {
-        return Err(Fail::from("no answer to a put"));
-    };
-    assert_eq!(rt; revision, 2);
-    assert!(rt; previous.is_none());
-    let command = range(b"foo");
-    let receipt = core.apply(&command)?;
-    assert_eq!(rt; receipt.raised, None);
-    let Answer::Range(reply) = core.answer(&receipt)? else {
-        return Err(Fail::from("no answer to a range"));
-    };
-    assert_eq!(rt; reply.count, 1);
-    assert_eq!(rt; reply.revision, 2);
-    assert_eq!(rt; reply.kvs.len(), 1);
-    assert_eq!(rt; reply.kvs[0].value, b"bar".as_slice());
-    assert_eq!(rt; reply.kvs[0].create, 2);
-    assert_eq!(rt; reply.kvs[0].version, 1);
+fn a_delete_of_two_keys(rt: HostRuntime) -> Result<(), Fail> {
+    let mut core = stored(rt.alloc())?;
+    let (count, before) = deleted(&mut core, &delete(b"a", b"c"))?;
+    assert_eq!(rt; count, 2);
+    assert_eq!(rt; before.len(), 2);
+    assert_eq!(rt; before[0].key, b"a".as_slice());
+    assert_eq!(rt; before[0].value, b"1".as_slice());
+    assert_eq!(rt; before[1].create, 3);
+    assert_eq!(rt; before[1].modified, 5);
+    assert_eq!(rt; before[1].value, b"2".as_slice());
+    assert_eq!(rt; before[1].version, 2);
+    assert_eq!(rt; core.status().revision, 6);
+    assert_eq!(rt; core.status().versions, 6);
+    assert_eq!(rt; core.stamp(), 5);
     Ok(())
 }
 
-/// A key-value before, kept values and their refusals.
+/// A read at the revision before a delete still finds the keys, and one in the future is refused.
+#[test]
+fn ranges_at_revisions(rt: HostRuntime) -> Result<(), Fail> {
+    let mut core = stored(rt.alloc())?;
+    done(&mut core, &delete(b"a", b"c"))?;
+    assert_eq!(rt; ranged(&mut core, &all_at(5))?.count, 3);
+    assert_eq!(rt; ranged(&mut core, &all_at(0))?.count, 1);
+    assert_eq!(rt; ranged(&mut core, &all_at(2))?.revision, 6);
+    assert_eq!(rt; refused(&mut core, &all_at(7)), Some(Refusal::Future(6)));
+    Ok(())
+}
+
 #[test]
 fn a_put_that_keeps_the_value(rt: HostRuntime) -> Result<(), Fail> {
-    let mut core = Core::new(rt.alloc());
-    let mut kept = put_of(b"c", b"");
-    kept.ignore_value = true;
-    kept.prev_kv = true;
-    let command = Command::Put(kept);
-    assert_eq!(rt; core.apply(&command).err(), Some(Refusal::KeyMissing));
-    let _ = core.apply(&put(b"c", b"1"))?;
-    let receipt = core.apply(&command)?;
-    let Answer::Put { revision, previous } = core.answer(&receipt)? else {
-        return Err(Fail::from("no answer to a put"));
-    };
-    assert_eq!(rt; revision, 3);
-    let before = previous.ok_or("nothing before")?;
+    let mut core = stored(rt.alloc())?;
+    let before = replaced(&mut core, &keep(b"c", 0))?;
     assert_eq!(rt; before.value, b"1".as_slice());
-    assert_eq!(rt; before.modified, 2);
-    let mut leased = put_of(b"c", b"2");
-    leased.lease = 7;
-    assert_eq!(rt;
-        core.apply(&Command::Put(leased)).err(),
-        Some(Refusal::LeaseMissing)
-    );
+    assert_eq!(rt; before.modified, 4);
+    let kvs = ranged(&mut core, &all_at(0))?.kvs;
+    assert_eq!(rt; kvs.len(), 3);
+    assert_eq!(rt; kvs[2].value, b"1".as_slice());
+    assert_eq!(rt; kvs[2].version, 2);
+    assert_eq!(rt; refused(&mut core, &keep(b"d", 0)), Some(Refusal::KeyMissing));
+    assert_eq!(rt; refused(&mut core, &keep(b"c", 7)), Some(Refusal::LeaseMissing));
     Ok(())
 }
 
-/// At the last revision but one a put is accepted, and the next one is refused.
 #[test]
-fn the_greatest_revision(rt: HostRuntime) -> Result<(), Fail> {
-    let mut core = Core::at_last_but_one(rt.alloc())?;
-    let command = put(b"a", b"1");
-    let receipt = core.apply(&command)?;
-    assert_eq!(rt; receipt.raised, Some(LAST_MAIN));
-    let refused = core.apply(&put(b"a", b"2")).err();
-    assert_eq!(rt; refused, Some(Refusal::RevisionsSpent));
-    assert_eq!(rt; Refusal::RevisionsSpent.number(), 17);
-    assert_eq!(rt; core.status().versions, 2);
+fn a_put_after_a_delete_begins_anew(rt: HostRuntime) -> Result<(), Fail> {
+    let mut core = stored(rt.alloc())?;
+    done(&mut core, &delete(b"b", b""))?;
+    done(&mut core, &put(b"b", b"3"))?;
+    let kvs = ranged(&mut core, &all_at(0))?.kvs;
+    assert_eq!(rt; kvs.len(), 3);
+    assert_eq!(rt; kvs[1].create, 7);
+    assert_eq!(rt; kvs[1].version, 1);
+    Ok(())
+}
+
+#[test]
+fn a_delete_of_nothing(rt: HostRuntime) -> Result<(), Fail> {
+    let mut core = stored(rt.alloc())?;
+    let (count, before) = deleted(&mut core, &delete(b"d", b""))?;
+    assert_eq!(rt; count, 0);
+    assert_eq!(rt; before.len(), 0);
+    assert_eq!(rt; core.status().revision, 5);
+    assert_eq!(rt; core.stamp(), 4);
     Ok(())
 }
 
@@ -146,16 +206,19 @@ impl Sink for Full {
     }
 }
 
+fn refused_by_sink(core: &mut Core, command: &Command) -> Option<Refusal> {
+    core.apply_over(command, &mut Full).err()
+}
+
 #[test]
 fn a_refused_taking_leaves_nothing(rt: HostRuntime) -> Result<(), Fail> {
-    let mut core = Core::new(rt.alloc());
-    let _ = core.apply(&put(b"a", b"1"))?;
+    let mut core = stored(rt.alloc())?;
     let before = core.status();
-    let refused = core.apply_over(&put(b"a", b"2"), &mut Full).err();
-    assert_eq!(rt; refused, Some(Refusal::Memory));
+    assert_eq!(rt; refused_by_sink(&mut core, &put(b"a", b"2")), Some(Refusal::Memory));
+    assert_eq!(rt; refused_by_sink(&mut core, &delete(b"a", b"c")), Some(Refusal::Memory));
     assert_eq!(rt; core.status(), before);
-    let _ = core.apply(&put(b"a", b"2"))?;
-    assert_eq!(rt; core.status().revision, 3);
+    assert_eq!(rt; ranged(&mut core, &all_at(0))?.count, 3);
+    assert_eq!(rt; done(&mut core, &delete(b"a", b"c"))?, 6);
     Ok(())
 }
 

@@ -1,19 +1,43 @@
-//! What a put makes of a key.
-ghost use Rattle.std.specs.Prelude.{◌≡◌, [], IfOk, is_some, option_and_then, option_copied};
-ghost use Rattle.kv_model.specs.History.{key_value, value_now};
-ghost use Rattle.kv_model.specs.Leases.{is_granted};
+//! What a put makes of a key, and a delete of the live keys of a range.
+ghost use Rattle.std.specs.Option.{option_or};
+ghost use Rattle.std.specs.Prelude.{◌≡◌, [], ◌∷◌, map, Some, None, option_map, IfOk};
+ghost use Rattle.kv_model.specs.Ranges.{refuse_if};
 ghost use Rattle.kv_model.specs.Txns as txns;
-ghost use Rattle.request_core.specs.Writing.{next_version, CanCount, CanCountOn};
+ghost use Rattle.range_view.specs.Replies.{kv_view};
+ghost use Rattle.request_core.specs.Writing as writing;
 
-use crate::reading::{newest_of, shown};
 use bytes::Bytes;
 use kv_model::call::PutRequest;
 use kv_model::refusal::Refusal;
 use kv_model::version::{Body, Rev, Version};
-use std::alloc::AllocError;
+use range_view::reply::KvRef;
+use std::alloc::{AllocError, Global};
+
+/// The first refusal of a put whose key holds this, if there is one; where no lease is granted, and that of spent revisions
+/// comes last.
+pub fn fault_of_put(
+    request: &PutRequest,
+    held: Option<KvRef<'_>>,
+    is_spent: bool,
+) -> Option<Refusal>
+    ensures { result ≡ option_or (option_or (txns.put_fault request.now) (writing.held_refusal [] request.now (option_map kv_view held.entry)))
+        (refuse_if is_spent Refusal.RevisionsSpent) }
+{
+    if let Some(refusal) = put_fault(request) {
+        return Some(refusal);
+    }
+    if let Some(refusal) = held_refusal(request, held) {
+        return Some(refusal);
+    }
+    if is_spent {
+        Some(Refusal::RevisionsSpent)
+    } else {
+        None
+    }
+}
 
 /// Why a put is refused whatever is kept.
-pub fn put_fault(request: &PutRequest) -> Option<Refusal>
+fn put_fault(request: &PutRequest) -> Option<Refusal>
     ensures { result ≡ txns.put_fault request.now }
 {
     if request.key.is_empty() {
@@ -27,11 +51,11 @@ pub fn put_fault(request: &PutRequest) -> Option<Refusal>
     }
 }
 
-/// Why a put is refused on what is kept, where no lease is granted.
-pub fn put_refusal(versions: &[Version], request: &PutRequest) -> Option<Refusal>
-    ensures { result ≡ txns.put_refusal (is_granted []) versions.now request.now }
+/// Why a put is refused where its key holds this, and no lease is granted.
+fn held_refusal(request: &PutRequest, held: Option<KvRef<'_>>) -> Option<Refusal>
+    ensures { result ≡ writing.held_refusal [] request.now (option_map kv_view held.entry) }
 {
-    if (request.ignore_value || request.ignore_lease) && !is_live(versions, &request.key) {
+    if (request.ignore_value || request.ignore_lease) && held.is_none() {
         Some(Refusal::KeyMissing)
     } else if request.lease != 0 {
         Some(Refusal::LeaseMissing)
@@ -40,69 +64,80 @@ pub fn put_refusal(versions: &[Version], request: &PutRequest) -> Option<Refusal
     }
 }
 
-/// Whether the key holds something at last.
-#[tactic(auto, unfolding(kv_model::specs::History::value_now))]
-fn is_live(versions: &[Version], key: &Bytes) -> bool
-    ensures { result ≡ is_some (value_now versions.now key.now) }
-{
-    match newest_of(versions, key.as_slice()) {
-        Some(version) => shown(version).is_some(),
-        None => false,
-    }
-}
-
-/// The version that a put makes at a place.
-#[tactic(auto, unfolding(kv_model::specs::History::value_now))]
-pub fn put_version(
-    versions: &[Version],
+/// The version that a put makes of a key that holds this, at a place. It shares the request's key and value; a value that is
+/// kept is copied.
+fn put_version(
+    alloc: Global,
     rev: Rev,
     request: &PutRequest,
+    held: Option<KvRef<'_>>,
 ) -> Result<Version, AllocError>
-    requires { CanCount versions.now }
-    ensures { IfOk result (λ v. v ≡ next_version versions.now rev request.now) }
+    requires { writing.CanCount (option_map kv_view held) }
+    ensures { IfOk result (λ v. v ≡ writing.next_version rev request.now (option_map kv_view held.entry)) }
 {
-    let body = next_body(
-        rev.main,
-        request,
-        newest_of(versions, request.key.as_slice()),
-    )?;
     Ok(Version {
         rev,
         key: request.key.clone()?,
-        body,
+        body: next_body(alloc, rev.main, request, held)?,
     })
 }
 
-/// What a put makes of a key whose newest version is this.
-fn next_body(main: u64, request: &PutRequest, newest: Option<&Version>) -> Result<Body, AllocError>
-    requires { CanCountOn (option_copied newest) }
-    ensures { IfOk result (λ b. b ≡ (let held = option_and_then key_value (option_copied newest.entry) in
-        txns.next_body main (txns.put_action request.now held) held)) }
+/// What a put makes at a revision of a key that holds this.
+fn next_body(
+    alloc: Global,
+    main: u64,
+    request: &PutRequest,
+    held: Option<KvRef<'_>>,
+) -> Result<Body, AllocError>
+    requires { writing.CanCount (option_map kv_view held) }
+    ensures { IfOk result (λ b. b ≡ txns.next_body main (txns.put_action request.now (option_map kv_view held.entry)) (option_map kv_view held.entry)) }
 {
-    if let Some(version) = newest {
-        if let Body::Put {
-            create,
-            version: number,
-            lease,
-            value,
-        } = &version.body
-        {
-            return Ok(Body::Put {
-                create: *create,
-                version: *number + 1,
-                lease: if request.ignore_lease {
-                    *lease
-                } else {
-                    request.lease
-                },
-                value: if request.ignore_value {
-                    value.clone()?
-                } else {
-                    request.value.clone()?
-                },
-            });
-        }
+    match held {
+        Some(kv) => body_after(alloc, request, kv),
+        None => first_body(main, request),
     }
+}
+
+/// The same in a list of its own.
+pub fn put_versions(
+    alloc: Global,
+    rev: Rev,
+    request: &PutRequest,
+    held: Option<KvRef<'_>>,
+) -> Result<Vec<Version>, AllocError>
+    requires { writing.CanCount (option_map kv_view held) }
+    ensures { IfOk result (λ vs. vs.items ≡ writing.next_version rev request.now (option_map kv_view held.entry) ∷ []) }
+{
+    let mut versions = Vec::with_capacity(alloc, 1)?;
+    versions.push(put_version(alloc, rev, request, held)?)?;
+    Ok(versions)
+}
+
+/// What a put makes of a key that holds something.
+fn body_after(alloc: Global, request: &PutRequest, kv: KvRef<'_>) -> Result<Body, AllocError>
+    requires { writing.CanCount (Some (kv_view kv)) }
+    ensures { IfOk result (λ b. b ≡ txns.next_body kv.entry.modified (txns.put_action request.now (Some (kv_view kv.entry))) (Some (kv_view kv.entry))) }
+{
+    Ok(Body::Put {
+        create: kv.create,
+        version: kv.version + 1,
+        lease: if request.ignore_lease {
+            kv.lease
+        } else {
+            request.lease
+        },
+        value: if request.ignore_value {
+            Bytes::copy_from_slice(alloc, kv.value)?
+        } else {
+            request.value.clone()?
+        },
+    })
+}
+
+/// What a put makes at a revision of a key that holds nothing.
+fn first_body(main: u64, request: &PutRequest) -> Result<Body, AllocError>
+    ensures { IfOk result (λ b. b ≡ txns.next_body main (txns.put_action request.now None) None) }
+{
     Ok(Body::Put {
         create: main,
         version: 1,
@@ -116,5 +151,31 @@ fn next_body(main: u64, request: &PutRequest, newest: Option<&Version>) -> Resul
         } else {
             request.value.clone()?
         },
+    })
+}
+
+/// The tombstones of live keys at a revision, numbered from 0 in the order of the keys, which are copied.
+pub fn tombstones(
+    alloc: Global,
+    main: u64,
+    live: &[KvRef<'_>],
+) -> Result<Vec<Version>, AllocError>
+    ensures { IfOk result (λ vs. vs.items ≡ writing.tombstones main 0 (map kv_view live.now)) }
+{
+    let mut versions = Vec::with_capacity(alloc, live.len())?;
+    for (sub, kv) in live.iter().enumerate() {
+        versions.push(tombstone(alloc, main, sub as u64, kv.key)?)?;
+    }
+    Ok(versions)
+}
+
+/// The tombstone of a key.
+fn tombstone(alloc: Global, main: u64, sub: u64, key: &[u8]) -> Result<Version, AllocError>
+    ensures { IfOk result (λ v. v ≡ writing.tombstone main sub key.now) }
+{
+    Ok(Version {
+        rev: Rev { main, sub },
+        key: Bytes::copy_from_slice(alloc, key)?,
+        body: Body::Gone,
     })
 }

@@ -1,2 +1,3 @@
 pub mod RevOrder
 pub mod Rising
+pub mod Changes

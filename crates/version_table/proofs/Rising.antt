@@ -1,17 +1,15 @@
 -- Rising lists of versions: what is behind the last, what stands at a place, and how the list changes.
-use Rattle.std.proofs.Common.{◌≡◌, ◌≢◌, ℕ, zero, suc, ◌<◌, ◌≤◌, ◌-◌, ◌⊎◌, inl, inr, List, [], ◌∷◌, ◌++◌, length, take, drop, get_or, Bool, true, false, not, ◌==◌, cond, Option, None, Some, filter, refl, sym, ◌∙◌, ap, subst, arith}
+use Rattle.std.proofs.Common.{◌≡◌, ℕ, zero, suc, ◌<◌, ◌≤◌, ◌-◌, ◌⊎◌, inl, inr, List, [], ◌∷◌, ◌++◌, length, take, get_or, Bool, true, false, not, ◌==◌, cond, Option, None, Some, filter, refl, sym, ◌∙◌, ap, subst, arith}
 use Rattle.std.proofs.lemmas.Bool.Decides.{nat_tests}
-use Rattle.std.specs.Prelude.{⊤}
 use Rattle.std.specs.List.Sorted.{IsPartitionedBy, IsPartitionPoint}
 use Rattle.std.specs.Option.{option_or}
 use Rattle.std.specs.List.{AllByRecursion, find, slice_get, remove}
 use Rattle.kv_model.specs.declared.version.Rev.{Rev}
 use Rattle.kv_model.specs.declared.version.Version.{Version}
-use Rattle.kv_model.specs.Lists.{last_that}
 use Rattle.kv_model.specs.History.{rev_lt}
 use Rattle.kv_model.specs.Kept.{is_at}
 use Rattle.version_table.specs.Rising.{IsBehind, IsRising, place, last, is_of, is_newest, retracted}
-use Rattle.version_table.proofs.RevOrder.{rev_lt-trans, rev_lt-not, rev_lt-asym, is_at-before, is_at-behind, before_false, before_first, main_le}
+use Rattle.version_table.proofs.RevOrder.{rev_lt-trans, rev_lt-not, is_at-before, is_at-behind, before_false, before_first, main_le}
 
 abbrev pub IsAbove : Rev → List Version → Type 0
 IsAbove p vs = AllByRecursion (λ w. rev_lt p w.rev ≡ true) vs
@@ -73,7 +71,7 @@ none-above : (p : Rev) (vs : List Version) → IsAbove p vs → find (is_at p) v
 none-above p [] a = refl
 none-above p (v ∷ vs) a = ap (λ b. cond b (Some v) (find (is_at p) vs)) (is_at-behind p v a.0) ∙ none-above p vs a.1
 
-all-above : (p : Rev) (vs : List Version) → IsAbove p vs → filter (λ v. not (is_at p v)) vs ≡ vs
+pub all-above : (p : Rev) (vs : List Version) → IsAbove p vs → filter (λ v. not (is_at p v)) vs ≡ vs
 all-above p [] a = refl
 all-above p (v ∷ vs) a =
     ap (λ b. cond (not b) (v ∷ filter (λ w. not (is_at p w)) vs) (filter (λ w. not (is_at p w)) vs)) (is_at-behind p v a.0)

@@ -1,5 +1,5 @@
 -- Halving finds the first version that is not before the revision.
-use Rattle.std.proofs.Common.{rules, of_calls, sym, ap}
+use Rattle.std.proofs.Common.{rules}
 use Rattle.kv_model.specs.History.{rev_lt}
 use Rattle.version_table.proofs.Rising.{place_point, partitioned}
 use Rattle.std.proofs.lemmas.List.Sorted.{IsPartitionPoint-from_clause}

@@ -1,5 +1,5 @@
 -- The version before which no other stands is at the revision, or none is.
-use Rattle.std.proofs.Common.{◌≡◌, None, option_copied, sym, ◌∙◌, ap}
+use Rattle.std.proofs.Common.{option_copied, sym, ◌∙◌, ap}
 use Rattle.version_table.proofs.Rising.{found, missed, past}
 use Rattle.version_table.proofs.table.place_of.Goals as goal
 

@@ -5,7 +5,7 @@ use Rattle.kv_model.specs.Told.{Reply, Answer}
 use Rattle.request_core.specs.declared.answer.Todo.{Todo}
 use Rattle.request_core.specs.declared.answer.Todo.TheVariants as todo
 use Rattle.request_core.specs.Answers.{reply_left}
-use Rattle.request_core.proofs.Worlds.{reply_revision}
+use Rattle.request_core.proofs.Ranges.{reply_revision}
 use Rattle.request_core.proofs.store.Core.answer.Goals as goal
 
 pub returns-in_ok-range-in-Range : goal.returns-in_ok-range-in-Range

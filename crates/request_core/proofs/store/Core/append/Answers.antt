@@ -1,36 +1,42 @@
-use Rattle.std.proofs.Common.{◌≡◌, ◌+◌, ◌<◌, List, ◌∷◌, [], ◌++◌, sym, ◌∙◌, ap, subst}
-use Rattle.kv_model.specs.declared.version.Rev.{Rev}
-use Rattle.kv_model.specs.declared.version.Version.{Version}
+use Rattle.std.proofs.Common.{◌≡◌, ◌+◌, ◌<◌, ◌%◌, ◌^◌, sym, ◌∙◌, ap, subst}
 use Rattle.kv_model.specs.Step.{last_main}
-use Rattle.version_table.specs.Rising.{IsBehind, retracted}
-use Rattle.request_core.specs.Writing.{next_rev, IsCountedTo}
-use Rattle.request_core.specs.State.{CoreState, IsSound, core_state}
-use Rattle.request_core.proofs.Kept.{behind-next, sound-push, retracted-push}
+use Rattle.range_view.specs.Stored.{Stored, appended, retracted_to}
+use Rattle.range_view.proofs.Growing.{retracted_to-appended}
+use Rattle.request_core.specs.Writing.{AreNext}
+use Rattle.request_core.specs.State.{CoreState, IsSound, core_state, with_versions}
+use Rattle.request_core.proofs.Kept.{sound-appended, grown-state}
 use Rattle.request_core.proofs.store.Core.append.Goals as goal
-
-pub push-requires : goal.push-requires
-push-requires g c =
-    let at = c.requires.next ∙ ap next_rev (sym (ap (λ (s : CoreState). s.store.revision) c.self.view_is)) in
-    subst (λ (p : Rev). IsBehind p c.self.inside.table) (sym at) (behind-next c.self.inside.table c.self.inside.revision c.self.invariant)
 
 pub invariant_of-self-in-Err : goal.invariant_of-self-in-Err
 invariant_of-self-in-Err g c =
-    let at = c.requires.next ∙ ap next_rev (sym (ap (λ (s : CoreState). s.store.revision) c.self.view_is)) in
-    let back = c.retract.ensures ∙ ap (retracted c.args.version.rev.main) c.in_ok-push.ensures.ok ∙ retracted-push c.self.inside.table c.self.inside.revision c.args.version c.self.invariant at in
-    subst (λ (vs : List Version). IsSound vs c.self.inside.revision) (sym back) c.self.invariant
+    let t = c.self.inside.tables in
+    let vs = c.args.versions.items in
+    let next = subst (λ r. AreNext r vs) (sym (ap (λ (s : CoreState). s.store.revision) c.self.view_is)) c.requires.next in
+    let back = c.retract.ensures ∙ ap (retracted_to (c.revision-main.result + 1)) c.in_ok-append.ensures.ok
+    ∙ ap (λ n. retracted_to (n + 1) (appended t vs)) c.revision-main.ensures.value ∙ retracted_to-appended t vs c.revision-main.ensures.stored next.next in
+    subst IsSound (sym back) c.self.invariant
 
 pub returns-in-Err-clause-err : goal.returns-in-Err-clause-err
 returns-in-Err-clause-err g c =
-    let at = c.requires.next ∙ ap next_rev (sym (ap (λ (s : CoreState). s.store.revision) c.self.view_is)) in
-    let back = c.retract.ensures ∙ ap (retracted c.args.version.rev.main) c.in_ok-push.ensures.ok ∙ retracted-push c.self.inside.table c.self.inside.revision c.args.version c.self.invariant at in
-    (ap (λ (vs : List Version). core_state vs c.self.inside.revision c.self.inside.stamp) back ∙ c.self.view_is, c.in-Err.ensures.err)
+    let t = c.self.inside.tables in
+    let vs = c.args.versions.items in
+    let next = subst (λ r. AreNext r vs) (sym (ap (λ (s : CoreState). s.store.revision) c.self.view_is)) c.requires.next in
+    let back = c.retract.ensures ∙ ap (retracted_to (c.revision-main.result + 1)) c.in_ok-append.ensures.ok
+    ∙ ap (λ n. retracted_to (n + 1) (appended t vs)) c.revision-main.ensures.value ∙ retracted_to-appended t vs c.revision-main.ensures.stored next.next in
+    (ap (λ (u : Stored). core_state u c.self.inside.stamp) back ∙ c.self.view_is, c.in-Err.ensures.err)
 
 pub invariant_of-self-2 : goal.invariant_of-self-2
 invariant_of-self-2 g c =
+    let t = c.self.inside.tables in
+    let vs = c.args.versions.items in
     let same = ap (λ (s : CoreState). s.store.revision) c.self.view_is in
-    let at = c.requires.next ∙ ap next_rev (sym same) in
-    let grown : IsSound (c.self.inside.table ++ c.args.version ∷ []) (c.self.inside.revision + 1)
-    = sound-push c.self.inside.table c.self.inside.revision c.args.version c.self.invariant (subst (λ r. r < last_main) (sym same) c.requires.room) at
-    (subst (λ r. IsCountedTo (r + 1) c.args.version.body) (sym same) c.requires.counted) in
-    subst (λ (vs : List Version). IsSound vs c.args.version.rev.main) (sym c.in_ok-push.ensures.ok)
-    (subst (λ r. IsSound (c.self.inside.table ++ c.args.version ∷ []) r) (sym (ap (λ (p : Rev). p.main) at)) grown)
+    subst IsSound (sym c.in_ok-append.ensures.ok)
+    (sound-appended t vs c.self.invariant (subst (λ r. r < last_main) (sym same) c.requires.room) (subst (λ r. AreNext r vs) (sym same) c.requires.next))
+
+pub returns-clause-ok : goal.returns-clause-ok
+returns-clause-ok g c =
+    let t = c.self.inside.tables in
+    let vs = c.args.versions.items in
+    let next = subst (λ r. AreNext r vs) (sym (ap (λ (s : CoreState). s.store.revision) c.self.view_is)) c.requires.next in
+    ap (λ (u : Stored). core_state u ((c.self.inside.stamp + 1) % 2 ^ 64)) c.in_ok-append.ensures.ok
+    ∙ grown-state t vs c.self.inside.stamp next ∙ ap (λ (s : CoreState). with_versions s vs) c.self.view_is

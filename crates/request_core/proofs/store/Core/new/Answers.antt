@@ -6,4 +6,4 @@ use Rattle.request_core.specs.State.{store_of}
 use Rattle.request_core.proofs.store.Core.new.Goals as goal
 
 pub returns : goal.returns
-returns c = subst (λ vs. StandsFor (store_of vs 1) opening) (sym c.new.ensures) blank_good
+returns c = subst (λ t. StandsFor (store_of t) opening) (sym c.new.ensures) blank_good

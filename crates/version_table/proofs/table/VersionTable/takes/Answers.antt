@@ -1,5 +1,5 @@
 -- A place behind the last version is behind all.
-use Rattle.std.proofs.Common.{◌≡◌, Some, None, sym, ◌∙◌, ap, refl}
+use Rattle.std.proofs.Common.{◌≡◌, Some, sym, ◌∙◌, ap, refl}
 use Rattle.version_table.specs.Rising.{last}
 use Rattle.version_table.proofs.Rising.{behind-last, last-behind, behind-none}
 use Rattle.version_table.proofs.table.VersionTable.takes.Goals as goal

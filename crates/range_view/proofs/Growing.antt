@@ -1,0 +1,294 @@
+-- How the versions that are kept grow by those of a revision, and lose them again.
+use Rattle.std.proofs.Common.{◌≡◌, ◌≤◌, ◌<◌, ◌+◌, ◌-◌, ◌==◌, ℕ, zero, suc, List, [], ◌∷◌, ◌++◌, Bool, true, false, not, ◌&&◌, cond, nat_lt, length, take, drop, get_or, refl, sym, ◌∙◌, ap, subst, arith, append_assoc, eq-eqb, None, Some}
+use Rattle.std.proofs.lemmas.Bool.Decides.{nat_tests}
+use Rattle.std.specs.List.{AllByRecursion}
+use Rattle.std.specs.List.Sorted.{IsPartitionPoint, IsPartitionedBy}
+use Rattle.std.proofs.lemmas.List.{append-nil, take-append-drop}
+use Rattle.kv_model.specs.declared.version.Rev.{Rev}
+use Rattle.kv_model.specs.declared.version.Version.{Version}
+use Rattle.kv_model.specs.History.{rev_lt}
+use Rattle.kv_model.specs.Feed.{last_main_or}
+use Rattle.kv_model.specs.Stands.{first_main_of}
+use Rattle.version_table.specs.Rising.{IsBehind, IsRising, retracted}
+use Rattle.version_table.proofs.RevOrder.{main_le, rev_lt-trans, before_main, before_sub}
+use Rattle.version_table.proofs.Changes.{retracted-append}
+use Rattle.kv_model.specs.Trimming.{oldest_place}
+use Rattle.key_index.specs.Index.{Index}
+use Rattle.key_index.specs.Agrees.{Agrees}
+use Rattle.key_index.proofs.Agrees.{agrees-nothing}
+use Rattle.range_view.specs.Stored.{AreTables, Stored, IsUpTo, IsBelow, AreOf, AreNotOf, IsStored, goes_on, is_next, appended, retracted_to}
+
+-- ---- lists
+
+all-append : {X : Type 0} (P : X → Type 0) (xs ys : List X) → AllByRecursion P xs → AllByRecursion P ys → AllByRecursion P (xs ++ ys)
+all-append P [] ys a b = b
+all-append P (x ∷ xs) ys a b = (a.0, all-append P xs ys a.1 b)
+
+pub all-front : {X : Type 0} (P : X → Type 0) (xs ys : List X) → AllByRecursion P (xs ++ ys) → AllByRecursion P xs
+all-front P [] ys a = tt
+all-front P (x ∷ xs) ys a = (a.0, all-front P xs ys a.1)
+
+all-weaker : {X : Type 0} (P Q : X → Type 0) → ((x : X) → P x → Q x) → (xs : List X) → AllByRecursion P xs → AllByRecursion Q xs
+all-weaker P Q f [] a = tt
+all-weaker P Q f (x ∷ xs) a = (f x a.0, all-weaker P Q f xs a.1)
+
+at-index : {X : Type 0} (P : X → Type 0) (xs : List X) (j : ℕ) (d : X) → AllByRecursion P xs → j < length xs → P (get_or xs j d)
+at-index P [] j d a h = absurd (omega arith)
+at-index P (x ∷ xs) zero d a h = a.0
+at-index P (x ∷ xs) (suc j) d a h = at-index P xs j d a.1 (omega arith)
+
+-- ---- numbers
+
+equal-number : (a b : ℕ) → (a == b) ≡ true → a ≡ b
+equal-number a b h = grind (arith, nat_tests)
+
+less-number : (a b : ℕ) → nat_lt a b ≡ true → a < b
+less-number a b h = grind (arith, nat_tests)
+
+other-number : (a b : ℕ) → a < b → (a == b) ≡ false
+other-number a b h = grind (arith, nat_tests)
+
+newest-number : (n main : ℕ) → nat_lt n main ≡ false → n ≤ main → (n == main) ≡ true
+newest-number n main h g = grind (arith, nat_tests)
+
+below-number : (a b main : ℕ) → a ≤ b → nat_lt b main ≡ true → nat_lt a main ≡ true
+below-number a b main h g = grind (arith, nat_tests)
+
+never-present : (r : ℕ) → (r + 1 == r && nat_lt 1 (r + 1)) ≡ false
+never-present r = let other : (r + 1 == r) ≡ false = grind (arith, nat_tests) in ap (λ b. b && nat_lt 1 (r + 1)) other
+
+always-present : (r : ℕ) → 1 ≤ r → (r + 1 == r + 1 && nat_lt 1 (r + 1)) ≡ true
+always-present r h =
+    let same : (r + 1 == r + 1) ≡ true = grind (arith, nat_tests) in
+    let more : nat_lt 1 (r + 1) ≡ true = grind (arith, nat_tests) in
+    ap (λ b. b && nat_lt 1 (r + 1)) same ∙ more
+
+-- ---- main revisions
+
+pub below-not_of : (main : ℕ) (vs : List Version) → IsBelow main vs → AreNotOf main vs
+below-not_of main vs h = all-weaker (λ (v : Version). v.rev.main < main) (λ v. (v.rev.main == main) ≡ false) (λ v less. other-number v.rev.main main less) vs h
+
+pub upto-below : (main : ℕ) (vs us : List Version) → IsBelow main vs → AreOf main us → IsUpTo main (vs ++ us)
+upto-below main vs us h g =
+    all-append (λ (v : Version). v.rev.main ≤ main) vs us
+    (all-weaker (λ (v : Version). v.rev.main < main) (λ v. v.rev.main ≤ main) (λ v less. omega arith) vs h)
+    (all-weaker (λ (v : Version). (v.rev.main == main) ≡ true) (λ v. v.rev.main ≤ main) (λ v same. let e = equal-number v.rev.main main same in omega arith) us g)
+
+pub below-upto : (main : ℕ) (vs : List Version) → IsBelow main vs → IsUpTo (main - 1) vs
+below-upto main vs h = all-weaker (λ (v : Version). v.rev.main < main) (λ v. v.rev.main ≤ main - 1) (λ v less. omega arith) vs h
+
+pub below-next : (now : ℕ) (vs : List Version) → IsUpTo now vs → IsBelow (now + 1) vs
+below-next now vs h = all-weaker (λ (v : Version). v.rev.main ≤ now) (λ v. v.rev.main < now + 1) (λ v less. omega arith) vs h
+
+-- ---- where the changes of the newest main revision begin
+
+pub mains-partitioned : (main : ℕ) (vs : List Version) → IsRising vs → IsPartitionedBy (λ v. nat_lt v.rev.main main) vs
+mains-partitioned main [] r i j d l m h = absurd (omega arith)
+mains-partitioned main (v ∷ vs) r zero zero d l m h = h
+mains-partitioned main (v ∷ vs) r zero (suc j) d l m h =
+    let before : v.rev.main ≤ (get_or vs j d).rev.main = main_le v.rev (get_or vs j d).rev (at-index (λ w. rev_lt v.rev w.rev ≡ true) vs j d r.0 (omega arith)) in
+    below-number v.rev.main (get_or vs j d).rev.main main before h
+mains-partitioned main (v ∷ vs) r (suc i) zero d l m h = absurd (omega arith)
+mains-partitioned main (v ∷ vs) r (suc i) (suc j) d l m h = mains-partitioned main vs r.1 i j d (omega arith) (omega arith) h
+
+abbrev Parts : ℕ → List Version → ℕ → Type 0
+Parts main vs n = IsBelow main (take n vs) × AreOf main (drop n vs)
+
+point-parts : (main : ℕ) (vs : List Version) (n : ℕ) → n ≤ length vs → IsUpTo main vs
+    → IsPartitionPoint (λ v. nat_lt v.rev.main main ≡ true) (λ v. nat_lt v.rev.main main ≡ false) vs n → Parts main vs n
+point-parts main [] zero h u t = (tt, tt)
+point-parts main [] (suc n) h u t = absurd (omega arith)
+point-parts main (v ∷ vs) zero h u t =
+    let rest = point-parts main vs zero (omega arith) u.1 ((λ k d l m. absurd (omega arith)), (λ k d l m. t.1 (suc k) d (omega arith) (omega arith))) in
+    (tt, (newest-number v.rev.main main (t.1 0 v (omega arith) (omega arith)) u.0, rest.1))
+point-parts main (v ∷ vs) (suc n) h u t =
+    let rest = point-parts main vs n (omega arith) u.1 ((λ k d l m. t.0 (suc k) d (omega arith) (omega arith)), (λ k d l m. t.1 (suc k) d (omega arith) (omega arith))) in
+    ((less-number v.rev.main main (t.0 0 v (omega arith) (omega arith)), rest.0), rest.1)
+
+-- what is before the point stays where the newest main revision goes
+pub record IsSplit (main : ℕ) (vs us : List Version) : Type 0 where
+  pub split : vs ≡ retracted main vs ++ us
+  pub older : IsBelow main (retracted main vs)
+  pub newest : AreOf main us
+
+pub point-split : (main : ℕ) (vs : List Version) (n : ℕ) → n ≤ length vs → IsUpTo main vs
+    → IsPartitionPoint (λ v. nat_lt v.rev.main main ≡ true) (λ v. nat_lt v.rev.main main ≡ false) vs n → IsSplit main vs (drop n vs)
+point-split main vs n h u t =
+    let parts = point-parts main vs n h u t in
+    let kept : retracted main vs ≡ take n vs = ap (retracted main) (sym (take-append-drop n vs)) ∙ retracted-append main (take n vs) (drop n vs) (below-not_of main (take n vs) parts.0) parts.1 in
+    record {
+      split = sym (take-append-drop n vs) ∙ ap (λ ws. ws ++ drop n vs) (sym kept);
+      older = subst (IsBelow main) (sym kept) parts.0;
+      newest = parts.1;
+    }
+
+-- ---- growth at the end
+
+pub behind-middle : (xs : List Version) (v : Version) (ys : List Version) → IsRising (xs ++ v ∷ ys) → IsBehind v.rev xs
+behind-middle [] v ys r = tt
+behind-middle (x ∷ xs) v ys r = (first x.rev xs r.0, behind-middle xs v ys r.1)
+  where
+    first : (p : Rev) (zs : List Version) → AllByRecursion (λ w. rev_lt p w.rev ≡ true) (zs ++ v ∷ ys) → rev_lt p v.rev ≡ true
+    first p [] a = a.0
+    first p (z ∷ zs) a = first p zs a.1
+
+both : (a b : Bool) → (a && b) ≡ true → (a ≡ true) × (b ≡ true)
+both true b h = (refl, h)
+both false b h = cc
+
+step : (p q : Rev) → (q.main == p.main && nat_lt p.sub q.sub) ≡ true → (rev_lt p q ≡ true) × (p.main ≡ q.main)
+step p q h =
+    let parts = both (q.main == p.main) (nat_lt p.sub q.sub) h in
+    let same : p.main ≡ q.main = sym (equal-number q.main p.main parts.0) in
+    let less : p.sub < q.sub = less-number p.sub q.sub parts.1 in
+    (before_sub p.main q.main p.sub q.sub same less, same)
+
+goes_on-above : (p : Rev) (vs : List Version) → goes_on p vs ≡ true → AllByRecursion (λ w. rev_lt p w.rev ≡ true) vs
+goes_on-above p [] h = tt
+goes_on-above p (v ∷ vs) h =
+    let parts = both (v.rev.main == p.main && nat_lt p.sub v.rev.sub) (goes_on v.rev vs) h in
+    let first = step p v.rev parts.0 in
+    (first.0, all-weaker (λ w. rev_lt v.rev w.rev ≡ true) (λ w. rev_lt p w.rev ≡ true) (λ w up. rev_lt-trans p v.rev w.rev first.0 up) vs (goes_on-above v.rev vs parts.1))
+
+goes_on-rising : (p : Rev) (vs : List Version) → goes_on p vs ≡ true → IsRising vs
+goes_on-rising p [] h = tt
+goes_on-rising p (v ∷ vs) h = let parts = both (v.rev.main == p.main && nat_lt p.sub v.rev.sub) (goes_on v.rev vs) h in (goes_on-above v.rev vs parts.1, goes_on-rising v.rev vs parts.1)
+
+goes_on-of : (main : ℕ) (p : Rev) (vs : List Version) → p.main ≡ main → goes_on p vs ≡ true → AreOf main vs
+goes_on-of main p [] e h = tt
+goes_on-of main p (v ∷ vs) e h =
+    let parts = both (v.rev.main == p.main && nat_lt p.sub v.rev.sub) (goes_on v.rev vs) h in
+    let same : v.rev.main ≡ main = sym (step p v.rev parts.0).1 ∙ e in
+    (eq-eqb v.rev.main main same, goes_on-of main v.rev vs same parts.1)
+
+-- the versions of the next revision are all of it
+pub next-of : (now : ℕ) (vs : List Version) → is_next now vs ≡ true → AreOf (now + 1) vs
+next-of now [] h = tt
+next-of now (v ∷ vs) h = let parts = both (v.rev.main == now + 1) (goes_on v.rev vs) h in (parts.0, goes_on-of (now + 1) v.rev vs (equal-number v.rev.main (now + 1) parts.0) parts.1)
+
+next-rising : (now : ℕ) (vs : List Version) → is_next now vs ≡ true → IsRising vs
+next-rising now [] h = tt
+next-rising now (v ∷ vs) h = let parts = both (v.rev.main == now + 1) (goes_on v.rev vs) h in (goes_on-above v.rev vs parts.1, goes_on-rising v.rev vs parts.1)
+
+older-before : (now : ℕ) (v w : Version) → v.rev.main ≤ now → (w.rev.main == now + 1) ≡ true → rev_lt v.rev w.rev ≡ true
+older-before now v w h g = let e = equal-number w.rev.main (now + 1) g in let less : v.rev.main < w.rev.main = omega arith in before_main v.rev.main w.rev.main v.rev.sub w.rev.sub less
+
+-- and stand behind all that are kept
+pub rising-next : (now : ℕ) (vs us : List Version) → IsRising vs → IsUpTo now vs → is_next now us ≡ true → IsRising (vs ++ us)
+rising-next now [] us r u h = next-rising now us h
+rising-next now (v ∷ vs) us r u h = (
+  all-append (λ w. rev_lt v.rev w.rev ≡ true) vs us r.0 (all-weaker (λ w. (w.rev.main == now + 1) ≡ true) (λ w. rev_lt v.rev w.rev ≡ true) (λ w same. older-before now v w u.0 same) us (next-of now us h)),
+  rising-next now vs us r.1 u.1 h,
+)
+
+-- the main revision that comes last is the next one
+of-last : (main r : ℕ) (v : Version) (vs : List Version) → AreOf main (v ∷ vs) → last_main_or r (v ∷ vs) ≡ main
+of-last main r v [] h = equal-number v.rev.main main h.0
+of-last main r v (w ∷ ws) h = of-last main v.rev.main w ws h.1
+
+pub next-revision : (now : ℕ) (v : Version) (vs : List Version) → is_next now (v ∷ vs) ≡ true → last_main_or now (v ∷ vs) ≡ now + 1
+next-revision now v vs h = of-last (now + 1) now v vs (next-of now (v ∷ vs) h)
+
+pub next-main : (now : ℕ) (vs : List Version) (m : ℕ) → first_main_of vs ≡ Some m → is_next now vs ≡ true → (m ≡ now + 1) × (last_main_or now vs ≡ m)
+next-main now [] m e h = cc
+next-main now (v ∷ vs) m e h =
+    let parts = both (v.rev.main == now + 1) (goes_on v.rev vs) h in
+    let same : v.rev.main ≡ m = cc in
+    let next : v.rev.main ≡ now + 1 = equal-number v.rev.main (now + 1) parts.0 in
+    (sym same ∙ next, next-revision now v vs h ∙ sym next ∙ same)
+
+-- ---- what was appended last is taken back
+
+pub retracted_to-appended : (s : Stored) (vs : List Version) → IsStored s → is_next s.revision vs ≡ true → retracted_to (s.revision + 1) (appended s vs) ≡ s
+retracted_to-appended s [] st h = ap (λ b. cond b (record s { versions = retracted (s.revision + 1) (s.versions ++ []); revision = s.revision + 1 - 1 }) (appended s [])) never ∙ same
+  where
+    never : (s.revision + 1 == s.revision && nat_lt 1 (s.revision + 1)) ≡ false
+    never = never-present s.revision
+
+    same : appended s [] ≡ s
+    same = λ i. record s { versions = append-nil s.versions i }
+retracted_to-appended s (v ∷ vs) st h = ap (λ b. cond b (record s { versions = retracted (s.revision + 1) (s.versions ++ v ∷ vs); revision = s.revision + 1 - 1 }) (appended s (v ∷ vs))) always ∙ same
+  where
+    revised : last_main_or s.revision (v ∷ vs) ≡ s.revision + 1
+    revised = next-revision s.revision v vs h
+
+    always : (s.revision + 1 == last_main_or s.revision (v ∷ vs) && nat_lt 1 (s.revision + 1)) ≡ true
+    always = ap (λ n. s.revision + 1 == n && nat_lt 1 (s.revision + 1)) revised ∙ always-present s.revision st.opened
+
+    kept : retracted (s.revision + 1) (s.versions ++ v ∷ vs) ≡ s.versions
+    kept = retracted-append (s.revision + 1) s.versions (v ∷ vs) (below-not_of (s.revision + 1) s.versions (below-next s.revision s.versions st.upto)) (next-of s.revision (v ∷ vs) h)
+
+    number : s.revision + 1 - 1 ≡ s.revision
+    number = omega arith
+
+    same : ◌≡◌ {A = Stored} (record s { versions = retracted (s.revision + 1) (s.versions ++ v ∷ vs); revision = s.revision + 1 - 1 }) s
+    same = λ i. record s { versions = kept i; revision = number i }
+
+-- ---- one version after another
+
+nothing_left : {X : Type 0} (xs : List X) → length xs ≡ 0 → xs ≡ []
+nothing_left [] h = refl
+nothing_left (x ∷ xs) h = absurd (omega arith)
+
+pub all-yielded : {X : Type 0} (done rest all : List X) (n : ℕ) → done ++ rest ≡ all → n ≡ length rest → n ≡ 0 → done ≡ all
+all-yielded done rest all n e len none = sym (append-nil done) ∙ ap (λ xs. done ++ xs) (sym (nothing_left rest (sym len ∙ none))) ∙ e
+
+-- the next one stands behind what was kept and what was added before it
+pub ready : (vs us done rest : List Version) (v : Version) → IsRising (vs ++ us) → done ++ (v ∷ rest) ≡ us → IsBehind v.rev (vs ++ done)
+ready vs us done rest v r e = behind-middle (vs ++ done) v rest (subst IsRising (ap (λ ws. vs ++ ws) (sym e) ∙ sym (append_assoc vs done (v ∷ rest))) r)
+
+pub front-of : (main : ℕ) (us done rest : List Version) → AreOf main us → done ++ rest ≡ us → AreOf main done
+front-of main us done rest h e = all-front (λ (v : Version). (v.rev.main == main) ≡ true) done rest (subst (AreOf main) (sym e) h)
+
+-- ---- a revision more
+
+-- what the versions of the next revision are to those that are kept
+pub record Grows (main : ℕ) (vs us : List Version) : Type 0 where
+  pub rising : IsRising (vs ++ us)
+  pub older : IsBelow main vs
+  pub newest : AreOf main us
+
+pub grows : (s : Stored) (us : List Version) (main : ℕ) → IsStored s → is_next s.revision us ≡ true → first_main_of us ≡ Some main → Grows main s.versions us
+grows s us main st n e =
+    let same : s.revision + 1 ≡ main = sym (next-main s.revision us main e n).0 in
+    record {
+      rising = rising-next s.revision s.versions us st.rising st.upto n;
+      older = subst (λ m. IsBelow m s.versions) same (below-next s.revision s.versions st.upto);
+      newest = subst (λ m. AreOf m us) same (next-of s.revision us n);
+    }
+
+pub grown-stored : (s : Stored) (us : List Version) (main : ℕ) → IsStored s → is_next s.revision us ≡ true → first_main_of us ≡ Some main
+    → IsStored (record s { versions = s.versions ++ us; revision = main })
+grown-stored s us main st n e =
+    let g = grows s us main st n e in
+    let next : main ≡ s.revision + 1 = (next-main s.revision us main e n).0 in
+    record { opened = omega arith; rising = g.rising; upto = upto-below main s.versions us g.older g.newest }
+
+pub appended-nothing : (s : Stored) (us : List Version) → first_main_of us ≡ None → s ≡ appended s us
+appended-nothing s [] e = λ i. record s { versions = sym (append-nil s.versions) i }
+appended-nothing s (u ∷ us) e = cc
+
+pub blank_tables : (i : Index) (vs : List Version) → i ≡ [] → vs ≡ [] → AreTables i (record { versions = vs; compacted = 0; revision = 1; place = oldest_place })
+blank_tables i vs none empty = record {
+  stored = record { opened = omega arith; rising = subst IsRising (sym empty) tt; upto = subst (IsUpTo 1) (sym empty) tt };
+  agrees = subst (λ xs. Agrees i xs) (sym empty) (subst (λ j. Agrees j []) (sym none) agrees-nothing);
+}
+
+-- ---- the present revision goes, or stays
+
+pub present-more : (main : ℕ) (s : Stored) → (main == s.revision && nat_lt 1 main) ≡ true → 1 < s.revision
+present-more main s h =
+    let parts = both (main == s.revision) (nat_lt 1 main) h in
+    let same = equal-number main s.revision parts.0 in
+    let more = less-number 1 main parts.1 in
+    omega arith
+
+pub present-retracted : (main : ℕ) (s : Stored) → (main == s.revision && nat_lt 1 main) ≡ true → ◌≡◌ {A = Stored} (record s { versions = retracted s.revision s.versions; revision = s.revision - 1 }) (retracted_to main s)
+present-retracted main s h =
+    let same : s.revision ≡ main = sym (equal-number main s.revision (both (main == s.revision) (nat_lt 1 main) h).0) in
+    let gone : ◌≡◌ {A = Stored} (record s { versions = retracted s.revision s.versions; revision = s.revision - 1 }) (record s { versions = retracted main s.versions; revision = main - 1 }) =
+        λ i. record s { versions = retracted (same i) s.versions; revision = same i - 1 } in
+    gone ∙ sym (ap (λ b. cond b (record s { versions = retracted main s.versions; revision = main - 1 }) s) h)
+
+pub other-retracted : (main : ℕ) (s : Stored) → (main == s.revision && nat_lt 1 main) ≡ false → s ≡ retracted_to main s
+other-retracted main s h = sym (ap (λ b. cond b (record s { versions = retracted main s.versions; revision = main - 1 }) s) h)

@@ -1,0 +1,6 @@
+pub mod Growing
+pub mod Live
+pub mod Orders
+pub mod Selecting
+pub mod Sorting
+pub mod Walking

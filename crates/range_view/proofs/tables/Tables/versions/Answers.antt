@@ -1,0 +1,4 @@
+use Rattle.range_view.proofs.tables.Tables.versions.Goals as goal
+
+pub returns-clause-stored : goal.returns-clause-stored
+returns-clause-stored c = rw (← c.self.view_is) c.self.invariant.stored

@@ -1,0 +1,114 @@
+//! How a table of versions and its index grow together, and shrink again where the growth fails.
+ghost use Rattle.std.specs.Prelude.{◌≡◌, ◌++◌, ◌∷◌, [], OnOk, OnErr};
+ghost use Rattle.version_table.specs.Rising.{IsBehind, IsRising, retracted};
+ghost use Rattle.key_index.specs.Agrees.{is_gone};
+ghost use Rattle.key_index.specs.Index.{with_mark, marks};
+ghost use Rattle.key_index.specs.Marks.{IsBehind as IsBehindMarks};
+ghost use Rattle.range_view.specs.Stored.{IsUpTo, IsBelow, AreOf, AreTied};
+
+use bytes::Bytes;
+use key_index::KeyIndex;
+use kv_model::version::{Body, Rev, Version};
+use std::alloc::AllocError;
+use version_table::VersionTable;
+
+/// The versions of a main revision, which are the last ones. They are found by halving.
+fn changes_of(versions: &[Version], main: u64) -> &[Version]
+    requires rising { IsRising versions.now }
+    requires upto { IsUpTo main versions.now }
+    ensures split { versions.now ≡ retracted main versions.now ++ result.now }
+    ensures older { IsBelow main (retracted main versions.now) }
+    ensures newest { AreOf main result.now }
+{
+    let kept = versions.partition_point(|version| version.rev.main < main);
+    &versions[kept..]
+}
+
+/// Takes the newest main revision back. Takes no memory.
+///
+/// The time is logarithmic in the number of versions and, for each of the changes, in that of the keys.
+pub fn take_back(table: &mut VersionTable, index: &mut KeyIndex, main: u64)
+    requires upto { IsUpTo main table.old }
+    requires tied { AreTied index.old table.old }
+    ensures table { table.new ≡ retracted main table.old }
+    ensures older { IsBelow main table.new }
+    ensures tied { AreTied index.new table.new }
+{
+    index.retract(main, changes_of(table.as_slice(), main));
+    table.retract(main);
+}
+
+/// Adds a revision of a key to an index, a put or a tombstone.
+fn note(index: &mut KeyIndex, key: &Bytes, rev: Rev, gone: bool) -> Result<(), AllocError>
+    requires { IsBehindMarks rev (marks key.now index.old) }
+    ensures ok { OnOk result (index.new ≡ with_mark key.now (record { rev = rev; gone = gone }) index.old) }
+    ensures err { OnErr result (index.new ≡ index.old) }
+{
+    if gone {
+        index.gone(key, rev)
+    } else {
+        index.put(key, rev)
+    }
+}
+
+/// Whether a version is a tombstone.
+fn is_gone(version: &Version) -> bool
+    ensures { result ≡ is_gone version.now.body }
+{
+    match version.body {
+        Body::Gone => true,
+        Body::Put { .. } => false,
+    }
+}
+
+/// Adds a version to the table and to the index, or to none of the two.
+pub fn add(
+    table: &mut VersionTable,
+    index: &mut KeyIndex,
+    version: Version,
+) -> Result<(), AllocError>
+    requires behind { IsBehind version.rev table.old }
+    requires tied { AreTied index.old table.old }
+    ensures ok { OnOk result (table.new ≡ table.old ++ version ∷ []) }
+    ensures err { OnErr result (table.new ≡ table.old) }
+    ensures tied { AreTied index.new table.new }
+{
+    let key = version.key.clone()?;
+    let rev = version.rev;
+    let gone = is_gone(&version);
+    table.push(version)?;
+    match note(index, &key, rev, gone) {
+        Ok(()) => Ok(()),
+        Err(error) => {
+            table.remove(rev);
+            Err(error)
+        }
+    }
+}
+
+/// Adds the versions of a main revision that is above all in the table, or none of them.
+pub fn add_all(
+    table: &mut VersionTable,
+    index: &mut KeyIndex,
+    main: u64,
+    versions: Vec<Version>,
+) -> Result<(), AllocError>
+    requires rising { IsRising (table.old ++ versions.items) }
+    requires older { IsBelow main table.old }
+    requires newest { AreOf main versions.items }
+    requires tied { AreTied index.old table.old }
+    ensures ok { OnOk result (table.new ≡ table.old ++ versions.items) }
+    ensures err { OnErr result (table.new ≡ table.old) }
+    ensures tied { AreTied index.new table.new }
+{
+    for version in versions {
+        match add(table, index, version) {
+            Ok(()) => {}
+            Err(error) => {
+                take_back(table, index, main);
+                return Err(error);
+            }
+        }
+    }
+    Ok(())
+}

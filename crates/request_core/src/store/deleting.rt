@@ -1,0 +1,125 @@
+//! DeleteRange.
+ghost use Rattle.kv_model.specs.History.{end_of};
+ghost use Rattle.kv_model.specs.Ranges.{live};
+ghost use Rattle.kv_model.specs.Txns.{if_asked};
+ghost use Rattle.range_view.specs.Replies.{kv_view};
+ghost use Rattle.std.specs.Prelude.{◌≡◌, map, ◌-◌, [], length, IfOk, IfErr, OnOk, OnErr, None};
+
+use super::Core;
+use crate::answer::{Receipt, Todo};
+use crate::writing::tombstones;
+use kv_model::call::DeleteRequest;
+use kv_model::feed::Sink;
+use kv_model::refusal::Refusal;
+use kv_model::version::{KeyRange, Version};
+use range_view::reply::KvRef;
+use range_view::revision::end_of;
+use std::alloc::AllocError;
+
+impl Core {
+    ghost use Rattle.kv_model.specs.Calls.{Call};
+    ghost use Rattle.kv_model.specs.World.{World};
+    ghost use Rattle.kv_model.specs.Stands.{StandsFor};
+    ghost use Rattle.kv_model.specs.Step.{perform};
+    ghost use Rattle.request_core.specs.State.{IsTold, added_by, fault_of_delete, added_by_delete, after_delete, answer_after_delete, live_in, raised_by_delete};
+    ghost use Rattle.request_core.specs.Answers.{Accepts, IsRefusal, IsReadable, answer_of, first_refusal};
+
+    /// A DeleteRange appends the tombstones of the live keys of its range at the next revision, and nothing where none is live.
+    pub(crate) fn apply_delete<'c, S: Sink>(
+        &mut self,
+        request: &'c DeleteRequest,
+        sink: &mut S,
+    ) -> Result<Receipt<'c>, Refusal>
+        ensures accepted { IfOk result (λ r. (w : World) → StandsFor self.old.store w
+            → Accepts self.new r w (perform w (Call.delete request.now)).0 (perform w (Call.delete request.now)).1) }
+        ensures readable { IfOk result (λ r. IsReadable r self.new) }
+        ensures unraised { IfOk result (λ r. r.raised ≡ None → self.new ≡ self.old) }
+        ensures told { OnOk result (IsTold S.takes (added_by self.old.store (Call.delete request.now)) sink.old sink.new) }
+        ensures refused { IfErr result (λ e. (w : World) → StandsFor self.old.store w
+            → IsRefusal e (first_refusal (perform w (Call.delete request.now)).0)) }
+        ensures err { OnErr result ((self.new ≡ self.old) × (sink.new ≡ sink.old)) }
+    {
+        match self.delete(request, sink) {
+            Ok(deleted) => Ok(self.receipt_of_delete(request, deleted)),
+            Err(refusal) => Err(refusal),
+        }
+    }
+
+    fn receipt_of_delete<'c>(&self, request: &'c DeleteRequest, deleted: u64) -> Receipt<'c>
+        ensures answers { answer_of result self.now ≡ answer_after_delete self.now.store request.now deleted }
+        ensures raised { (result.raised ≡ raised_by_delete deleted self.now.store.revision) × (result.watch ≡ None) }
+        ensures readable { IsReadable result self.now }
+    {
+        let revision = self.tables.revision();
+        Receipt {
+            stamp: self.stamp,
+            revision,
+            raised: if deleted > 0 { Some(revision) } else { None },
+            watch: None,
+            todo: Todo::Delete {
+                range: &request.range,
+                previous: request.prev_kv,
+                deleted,
+            },
+        }
+    }
+
+    /// Appends the tombstones of a delete, and tells how many. What can fail comes first, and the sink's taking last.
+    fn delete<S: Sink>(&mut self, request: &DeleteRequest, sink: &mut S) -> Result<u64, Refusal>
+        ensures made { IfOk result (λ n. (fault_of_delete self.old.store request.now ≡ None) × (self.new ≡ after_delete self.old request.now)) }
+        ensures counted { IfOk result (λ n. n ≡ length (live_in self.old.store request.now.range)) }
+        ensures quiet { self.old.store.watches ≡ [] }
+        ensures told { OnOk result (IsTold S.takes (added_by self.old.store (Call.delete request.now)) sink.old sink.new) }
+        ensures refused { IfErr result (λ e. IsRefusal e (fault_of_delete self.old.store request.now)) }
+        ensures err { OnErr result ((self.new ≡ self.old) × (sink.new ≡ sink.old)) }
+    {
+        let versions = match self.versions_of_delete(request) {
+            Ok(versions) => versions,
+            Err(refusal) => return Err(refusal),
+        };
+        let deleted = versions.len() as u64;
+        if deleted > 0 && self.append(versions, sink).is_err() {
+            return Err(Refusal::Memory);
+        }
+        Ok(deleted)
+    }
+
+    /// The tombstones that a delete adds, or its first refusal.
+    fn versions_of_delete(&self, request: &DeleteRequest) -> Result<Vec<Version>, Refusal>
+        ensures made { IfOk result (λ vs. (fault_of_delete self.now.store request.now ≡ None) × (vs.items ≡ added_by_delete self.now.store request.now)) }
+        ensures quiet { self.now.store.watches ≡ [] }
+        ensures refused { IfErr result (λ e. IsRefusal e (fault_of_delete self.now.store request.now)) }
+    {
+        let main = self.tables.revision() + 1;
+        if request.range.key.is_empty() {
+            return Err(Refusal::NoKey);
+        }
+        let Ok(live) = self.tables.view().live(self.alloc, &request.range) else {
+            return Err(Refusal::Memory);
+        };
+        if !live.is_empty() && self.is_spent() {
+            return Err(Refusal::RevisionsSpent);
+        }
+        match tombstones(self.alloc, main, &live) {
+            Ok(versions) => Ok(versions),
+            Err(_) => Err(Refusal::Memory),
+        }
+    }
+
+    /// What the keys of a range held before a revision, where it is asked for.
+    pub(crate) fn values_before(
+        &self,
+        revision: u64,
+        range: &KeyRange,
+        asked: bool,
+    ) -> Result<Vec<KvRef<'_>>, AllocError>
+        ensures { IfOk result (λ kvs. map kv_view kvs.items ≡ if_asked asked (live self.now.store.versions (end_of (revision - 1)) range.now)) }
+    {
+        if asked {
+            let place = end_of(revision.saturating_sub(1));
+            self.tables.view_at(place).live(self.alloc, range)
+        } else {
+            Ok(Vec::new(self.alloc))
+        }
+    }
+}
