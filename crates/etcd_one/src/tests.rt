@@ -1,3 +1,4 @@
-//! The worked rows of the first path, bad lines, bad arguments, and readers and writers that fail.
+//! Worked rows, bad lines, bad arguments, and readers and writers that fail.
+mod ranges;
 mod rows;
 mod streams;

@@ -1,7 +1,6 @@
 //! One command or one request on a core, from bytes to bytes.
-ghost use Rattle.std.specs.Prelude.{◌≡◌, ◌++◌, IfOk};
-ghost use Rattle.kv_model.specs.Answers.{answered, fault, response_to};
-ghost use Rattle.kv_model.specs.Built.{IsBuilt};
+ghost use Rattle.std.specs.Prelude.{◌≡◌, IfOk};
+ghost use Rattle.kv_model.specs.Answers.{answered, response_to};
 ghost use Rattle.kv_model.specs.Calls.{call_of};
 ghost use Rattle.kv_model.specs.Requests.{request_of};
 ghost use Rattle.kv_model.specs.Stands.{StandsFor};
@@ -15,7 +14,7 @@ ghost use Rattle.json_gateway.specs.Outcomes.{Declines, Dismisses, Ends, Settles
 use crate::outcome::{Outcome, Reply, Settled};
 use gateway_read::bad::Bad;
 use gateway_read::read;
-use gateway_text::{Wording, put_text, range_text, refusal_text, refusal_wording};
+use gateway_text::{Wording, delete_text, put_text, range_text, refusal_text, refusal_wording};
 use kv_model::call::Command;
 use kv_model::ids::Ids;
 use kv_model::refusal::Refusal;
@@ -28,7 +27,6 @@ use std::alloc::{AllocError, Global};
 /// The answer is written after the command is done: where no memory is found for it and the command changed the
 /// store, the outcome is `Lost`, and where it changed nothing, `Memory`.
 pub fn perform(alloc: Global, core: &mut Core, command: &Command, ids: &Ids) -> Outcome
-    requires { IsBuilt (call_of command.now) }
     ensures { (w : World) → StandsFor core.old.store w → Ends result core.old core.new w
         (response_to ids.now (perform_in w (call_of command.now)).0) (perform_in w (call_of command.now)).1
         (λ l. IsChange w (call_of command.now) l (made_in w (call_of command.now))) }
@@ -100,6 +98,11 @@ pub fn text(alloc: Global, answer: &Answer<'_>, ids: &Ids) -> Result<Vec<u8>, Al
     match answer {
         Answer::Range(reply) => range_text(alloc, reply, ids),
         Answer::Put { revision, previous } => put_text(alloc, *revision, *previous, ids),
+        Answer::Delete {
+            revision,
+            deleted,
+            previous,
+        } => delete_text(alloc, *revision, *deleted, previous, ids),
     }
 }
 
@@ -142,22 +145,11 @@ fn bad_wording(bad: Bad) -> Wording<'static>
     ensures { wording_view result ≡ fault_of_reading bad }
 {
     match bad {
-        Bad::NotJson => worded(400, 3, "gateway: body is not a JSON object", ""),
-        Bad::BadField(field) => worded(400, 3, "gateway: bad field ", field.snake()),
-        Bad::BadBase64(field) => worded(400, 3, "gateway: bad base64 in ", field.snake()),
-        Bad::NoPath => worded(404, 5, "gateway: no such path", ""),
-        Bad::TooLong => worded(400, 3, "gateway: body too long", ""),
-        Bad::Memory => worded(500, 13, "etcdserver: out of memory", ""),
-    }
-}
-
-fn worded(status: u16, code: u16, text: &'static str, name: &'static str) -> Wording<'static>
-    ensures { wording_view result ≡ fault status code (text.now ++ name.now) }
-{
-    Wording {
-        status,
-        code,
-        text,
-        name,
+        Bad::NotJson => Wording::not_json(),
+        Bad::BadField(field) => Wording::bad_field(field.snake()),
+        Bad::BadBase64(field) => Wording::bad_base64(field.snake()),
+        Bad::NoPath => Wording::no_path(),
+        Bad::TooLong => Wording::too_long(),
+        Bad::Memory => refusal_wording(Refusal::Memory),
     }
 }

@@ -18,11 +18,14 @@ const PUT: &[u8] = b"{\"key\":\"Zm9v\",\"value\":\"YmFy\"}";
 const PUT_REPLY: &[u8] =
     b"{\"header\":{\"cluster_id\":\"1\",\"member_id\":\"1\",\"raft_term\":\"1\",\"revision\":\"2\"}}";
 
+const DELETE_REPLY: &[u8] =
+    b"{\"deleted\":\"1\",\"header\":{\"cluster_id\":\"1\",\"member_id\":\"1\",\"raft_term\":\"1\",\"revision\":\"3\"}}";
+
 const RANGE_REPLY: &[u8] =
     b"{\"count\":\"1\",\"header\":{\"cluster_id\":\"1\",\"member_id\":\"1\",\"raft_term\":\"1\",\"revision\":\"2\"},\"kvs\":[{\"create_revision\":\"2\",\"key\":\"Zm9v\",\"mod_revision\":\"2\",\"value\":\"YmFy\",\"version\":\"1\"}]}";
 
 #[test]
-fn a_put_and_a_range_as_bytes(rt: HostRuntime) -> Result<(), Fail> {
+fn a_put_a_range_and_a_delete_as_bytes(rt: HostRuntime) -> Result<(), Fail> {
     let events = [
         WireEvent::Post {
             path: b"/v3/kv/put",
@@ -33,12 +36,16 @@ fn a_put_and_a_range_as_bytes(rt: HostRuntime) -> Result<(), Fail> {
             body: b"{\"key\":\"Zm9v\"}",
         },
         WireEvent::Post {
+            path: b"/v3/kv/deleterange",
+            body: b"{\"key\":\"Zm9v\"}",
+        },
+        WireEvent::Post {
             path: b"/v3/nothing",
             body: b"{}",
         },
     ];
     let run = run_wire(rt.alloc(), events.as_slice(), &ONES)?;
-    assert_eq!(rt; run.outcomes.len(), 3);
+    assert_eq!(rt; run.outcomes.len(), 4);
     let WireOutcome::Posted(first) = &run.outcomes[0];
     assert_eq!(rt; first.settled.wire(), (200, PUT_REPLY));
     assert_eq!(rt; first.raised, Some(2));
@@ -47,7 +54,10 @@ fn a_put_and_a_range_as_bytes(rt: HostRuntime) -> Result<(), Fail> {
     assert_eq!(rt; second.settled.wire(), (200, RANGE_REPLY));
     assert_eq!(rt; second.raised, None);
     let WireOutcome::Posted(third) = &run.outcomes[2];
-    assert_eq!(rt; third.settled.wire().0, 404);
+    assert_eq!(rt; third.settled.wire(), (200, DELETE_REPLY));
+    assert_eq!(rt; third.raised, Some(3));
+    let WireOutcome::Posted(fourth) = &run.outcomes[3];
+    assert_eq!(rt; fourth.settled.wire().0, 404);
     Ok(())
 }
 
@@ -90,6 +100,13 @@ fn the_text_of_an_answer(rt: HostRuntime) -> Result<(), Fail> {
     };
     let body = text(rt.alloc(), &answer, &ONES)?;
     assert_eq!(rt; body.as_slice(), PUT_REPLY);
+    let answer = Answer::Delete {
+        revision: 3,
+        deleted: 1,
+        previous: Vec::new(rt.alloc()),
+    };
+    let body = text(rt.alloc(), &answer, &ONES)?;
+    assert_eq!(rt; body.as_slice(), DELETE_REPLY);
     Ok(())
 }
 

@@ -14,9 +14,6 @@ const AT_2: &str =
 const FOO_AT_2: &str =
     "200 {\"count\":\"1\",\"header\":{\"cluster_id\":\"1\",\"member_id\":\"1\",\"raft_term\":\"1\",\"revision\":\"2\"},\"kvs\":[{\"create_revision\":\"2\",\"key\":\"Zm9v\",\"mod_revision\":\"2\",\"value\":\"YmFy\",\"version\":\"1\"}]}\n";
 
-const BAD_LIMIT: &str =
-    "400 {\"code\":3,\"error\":\"gateway: bad field limit\",\"message\":\"gateway: bad field limit\"}\n";
-
 const NO_KEY: &str =
     "400 {\"code\":3,\"error\":\"etcdserver: key is not provided\",\"message\":\"etcdserver: key is not provided\"}\n";
 
@@ -37,7 +34,7 @@ fn joined(alloc: Global, pieces: &[(&str, usize)]) -> Result<Vec<u8>, Fail> {
 }
 
 /// Whether a script is answered by these replies.
-fn answers(
+pub(super) fn answers(
     alloc: Global,
     script: &[(&str, usize)],
     replies: &[(&str, usize)],
@@ -86,17 +83,20 @@ fn names_of_fields(rt: HostRuntime) -> Result<(), Fail> {
 #[test]
 fn base64_and_json(rt: HostRuntime) -> Result<(), Fail> {
     let script = "POST /v3/kv/put {\"key\":\"/+8=\"}\n\
-POST /v3/kv/range {\"key\":\"_-8\"}\n\
+POST /v3/kv/range {\"key\":\"_-8\",\"limit\":\"10\"}\n\
+POST /v3/kv/range {\"key\":\"_-8\",\"limit\":10}\n\
 POST /v3/kv/range {\"key\":\"Zm9\"}\n\
 POST /v3/kv/range {\"key\":\"Zm9v\"\n\
-POST /v3/kv/range {\"key\":\"Zm9v\",\"limit\":1.5}\n\
-POST /v3/nothing {}\n";
-    let replies =
-        "200 {\"count\":\"1\",\"header\":{\"cluster_id\":\"1\",\"member_id\":\"1\",\"raft_term\":\"1\",\"revision\":\"2\"},\"kvs\":[{\"create_revision\":\"2\",\"key\":\"/+8=\",\"mod_revision\":\"2\",\"version\":\"1\"}]}\n\
+POST /v3/kv/range {\"key\":\"Zm9v\",\"limit\":1.5}\n";
+    let replies = "200 {\"header\":{\"cluster_id\":\"1\",\"member_id\":\"1\",\"raft_term\":\"1\",\"revision\":\"2\"}}\n\
+200 {\"count\":\"1\",\"header\":{\"cluster_id\":\"1\",\"member_id\":\"1\",\"raft_term\":\"1\",\"revision\":\"2\"},\"kvs\":[{\"create_revision\":\"2\",\"key\":\"/+8=\",\"mod_revision\":\"2\",\"version\":\"1\"}]}\n\
+200 {\"count\":\"1\",\"header\":{\"cluster_id\":\"1\",\"member_id\":\"1\",\"raft_term\":\"1\",\"revision\":\"2\"},\"kvs\":[{\"create_revision\":\"2\",\"key\":\"/+8=\",\"mod_revision\":\"2\",\"version\":\"1\"}]}\n\
 400 {\"code\":3,\"error\":\"gateway: bad base64 in key\",\"message\":\"gateway: bad base64 in key\"}\n\
-400 {\"code\":3,\"error\":\"gateway: body is not a JSON object\",\"message\":\"gateway: body is not a JSON object\"}\n";
-    let wanted = [(AT_2, 1), (replies, 1), (BAD_LIMIT, 1), (NO_PATH, 1)];
-    assert!(rt; answers(rt.alloc(), &[(script, 1)], &wanted)?);
+400 {\"code\":3,\"error\":\"gateway: body is not a JSON object\",\"message\":\"gateway: body is not a JSON object\"}\n\
+400 {\"code\":3,\"error\":\"gateway: bad field limit\",\"message\":\"gateway: bad field limit\"}\n";
+    let wanted = [(replies, 1), (NO_PATH, 1)];
+    let script = [(script, 1), ("POST /v3/nothing {}\n", 1)];
+    assert!(rt; answers(rt.alloc(), &script, &wanted)?);
     Ok(())
 }
 
