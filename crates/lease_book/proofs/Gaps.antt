@@ -1,15 +1,13 @@
 -- The least number that is no ID.
-use Rattle.std.proofs.Common.{◌≡◌, ◌≢◌, ℕ, zero, suc, ◌+◌, ◌≤◌, ◌<◌, ℤ, pos, negsuc, ◌<ℤ◌, ◌≤ℤ◌, ◌⊎◌, inl, inr, Bool, true, false, cond, not, ◌||◌, List, [], ◌∷◌, ◌++◌, length, refl, sym, ap, ◌∙◌, subst, Option, None, Some, arith, add-one}
+use Rattle.std.proofs.Common.{◌≡◌, ◌≢◌, ℕ, zero, suc, ◌+◌, ◌≤◌, ◌<◌, ℤ, pos, negsuc, ◌<ℤ◌, ◌≤ℤ◌, ◌⊎◌, inl, inr, Bool, true, false, cond, not, ◌||◌, List, [], ◌∷◌, ◌++◌, length, refl, sym, ap, ◌∙◌, Some, arith, add-one}
 use Rattle.std.specs.Prelude.{find, int_lt, unwrap_or}
-use Rattle.std.specs.List.{AllByRecursion}
 use Rattle.std.specs.Ordering.{int_eq}
 use Rattle.std.proofs.lemmas.Int.{ints, by_lt_z}
 use Rattle.std.proofs.lemmas.Bool.{cases_lt}
 use Rattle.std.proofs.lemmas.Bool.Decides.{Decides-int_eq}
 use Rattle.kv_model.specs.Leases.{Lease, has_id, is_granted, count_from, least_free}
 use Rattle.lease_book.specs.Entries.{IsAscending, positives, gap, IsAbove}
-use Rattle.lease_book.proofs.Order.{AreSides, IsBelow, IsBehind, int_eq-self, below_differs, above_differs, int_lt-true, int_lt-false, each_implies, is_granted-others, others_behind}
-use Rattle.lease_book.proofs.Sums.{positives_few}
+use Rattle.lease_book.proofs.Order.{AreSides, IsBelow, IsBehind, int_eq-self, below_differs, above_differs, int_lt-true, each_implies, is_granted-others, others_behind}
 
 -- ---- one step
 

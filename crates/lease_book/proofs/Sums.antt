@@ -5,7 +5,7 @@ use Rattle.std.proofs.lemmas.Int.{ints}
 use Rattle.lease_book.proofs.Order.{int_lt-true, int_lt-false}
 use Rattle.std.proofs.lemmas.Bool.{lt-ltb, le-ltb, ne_eqb}
 use Rattle.std.proofs.lemmas.Bool.Decides.{nat_tests}
-use Rattle.kv_model.specs.Leases.{Lease, sooner, due}
+use Rattle.kv_model.specs.Leases.{Lease, sooner}
 use Rattle.lease_book.specs.Entries.{positives, earliest, first_of}
 
 pub length-sides : (l : List Lease) (x : Lease) (r : List Lease) → length (l ++ x ∷ r) ≡ length l + length r + 1

@@ -1,10 +1,10 @@
 -- A lease as the book keeps it, and facts about lists of leases.
-use Rattle.std.specs.Prelude.{◌≡◌, ℕ, suc, ◌+◌, ◌≤◌, ℤ, pos, ◌<ℤ◌, int_lt, List, [], ◌∷◌, length, Option, None, Some, if◌then◌else◌}
+use Rattle.std.specs.Prelude.{◌≡◌, ℕ, suc, ◌+◌, pos, ◌<ℤ◌, int_lt, List, [], ◌∷◌, length, Option, None, Some, if◌then◌else◌}
 use Rattle.std.specs.List.{AllByRecursion}
 use Rattle.std.specs.Ordering.{int_eq}
 use Rattle.lease_book.specs.declared.entry.Entry.{Entry}
 use Rattle.lease_book.specs.declared.tree.Sums.{Sums}
-use Rattle.kv_model.specs.Leases.{Lease, sooner, most_leases}
+use Rattle.kv_model.specs.Leases.{Lease, sooner}
 
 abbrev pub lease_of : Entry → Lease
 lease_of e = record { id = e.id; ttl = e.ttl; deadline = e.deadline }

@@ -1,5 +1,5 @@
 -- What a node of the tree of leases stands for, and what it keeps of it.
-use Rattle.std.specs.Prelude.{◌≡◌, ℕ, ◌+◌, ◌*◌, ◌<◌, ◌≤◌, List, [], ◌∷◌, ◌++◌, length, Option, None, Some}
+use Rattle.std.specs.Prelude.{ℕ, ◌+◌, ◌*◌, ◌<◌, ◌≤◌, List, [], ◌∷◌, ◌++◌, length}
 use Rattle.kv_model.specs.Leases.{Lease, most_leases}
 use Rattle.lease_book.specs.declared.tree.Node.{Node}
 use Rattle.lease_book.specs.declared.tree.Link.{Link}

@@ -1,8 +1,6 @@
 use Rattle.std.proofs.Common.{◌∷◌, arith}
 use Rattle.lease_book.specs.Entries.{lease_of}
 use Rattle.lease_book.proofs.Sums.{positives_few, length-sides, positives-append, earliest-append}
-use Rattle.lease_book.proofs.Gaps.{gap-left}
-use Rattle.lease_book.proofs.Changes.{length-map}
 use Rattle.lease_book.proofs.tree.sums_of.Goals as goal
 
 pub overflow_add-result-3 : goal.overflow_add-result-3

@@ -1,7 +1,6 @@
-use Rattle.std.proofs.Common.{◌≡◌, ◌<ℤ◌, ◌∙◌, sym, arith}
+use Rattle.std.proofs.Common.{◌≡◌, ◌<ℤ◌, arith}
 use Rattle.std.specs.Int.{w64}
 use Rattle.std.proofs.lemmas.Int.{ints, to_z-of_z}
-use Rattle.lease_book.specs.Entries.{lease_of}
 use Rattle.lease_book.proofs.Order.{lease_at-left, lease_at-right, lease_at-here}
 use Rattle.lease_book.proofs.Nodes.{at_node}
 use Rattle.lease_book.proofs.tree.Tree.+get.Goals as goal

@@ -1,4 +1,4 @@
-use Rattle.std.proofs.Common.{◌≡◌, ℕ, ◌<ℤ◌, ◌≤ℤ◌, ◌∙◌, refl, arith}
+use Rattle.std.proofs.Common.{ℕ, ◌<ℤ◌, ◌≤ℤ◌, ◌∙◌, refl, arith}
 use Rattle.std.proofs.lemmas.Int.{ints}
 use Rattle.kv_model.specs.Leases.{insert_lease}
 use Rattle.lease_book.specs.Entries.{lease_of}

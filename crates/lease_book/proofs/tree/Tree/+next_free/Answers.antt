@@ -1,6 +1,6 @@
-use Rattle.std.proofs.Common.{◌≡◌, ◌≢◌, ◌+◌, ◌<◌, length, pos, ◌<ℤ◌, ◌≤ℤ◌, sym, arith, rules}
+use Rattle.std.proofs.Common.{◌≡◌, ◌≢◌, ◌+◌, ◌<◌, length, pos, ◌<ℤ◌, ◌≤ℤ◌, arith, rules}
 use Rattle.std.proofs.lemmas.Int.{ints}
-use Rattle.lease_book.specs.Entries.{lease_of, IsAbove}
+use Rattle.lease_book.specs.Entries.{lease_of}
 use Rattle.lease_book.proofs.Gaps.{above_left, above_right, above_later, descends_low, descends_full, descends_left}
 use Rattle.lease_book.proofs.Nodes.{at_node}
 use Rattle.lease_book.proofs.Sums.{positives_few, length-sides}

@@ -1,7 +1,6 @@
 use Rattle.std.proofs.Common.{◌≡◌, ℕ, ◌<ℤ◌, ◌∙◌, refl, sym, arith}
 use Rattle.std.specs.Int.{w64}
 use Rattle.std.proofs.lemmas.Int.{ints, to_z-of_z}
-use Rattle.lease_book.specs.Entries.{lease_of}
 use Rattle.lease_book.proofs.Nodes.{IsWithout, at_node, without_left, without_right, without_here, without_last}
 use Rattle.lease_book.proofs.tree.Tree.+remove.Goals as goal
 use Rattle.lease_book.proofs.tree.Tree.+remove.Goals.{Joined-id-node, then-id-node, else-id-node+then-node-id, else-id-node+else-node-id+in-Some}

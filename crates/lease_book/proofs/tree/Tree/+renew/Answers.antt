@@ -1,10 +1,9 @@
-use Rattle.std.proofs.Common.{◌≡◌, ℕ, ◌<ℤ◌, [], ◌∙◌, ap, refl, sym, arith}
+use Rattle.std.proofs.Common.{◌≡◌, ℕ, ◌<ℤ◌, ◌∙◌, refl, arith}
 use Rattle.std.specs.Int.{w64}
 use Rattle.std.proofs.lemmas.Int.{ints, to_z-of_z}
 use Rattle.kv_model.specs.Leases.{renewed as set_anew}
 use Rattle.lease_book.specs.Entries.{lease_of}
 use Rattle.lease_book.proofs.Order.{int_eq-self}
-use Rattle.lease_book.specs.Trees.{leases_in}
 use Rattle.lease_book.proofs.Nodes.{IsRenewed, at_node, renewed_left, renewed_right, renewed_here}
 use Rattle.lease_book.proofs.tree.Tree.+renew.Goals as goal
 use Rattle.lease_book.proofs.tree.Tree.+renew.Goals.{Joined-id-node, then-id-node, else-id-node+then-node-id, else-id-node+else-node-id}
