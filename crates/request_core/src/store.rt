@@ -82,14 +82,17 @@ impl Core {
         }
     }
 
-    /// Does one command, on what the core stands for.
+    /// Does one command, on what the core stands for. A refused command leaves the core as it was.
     ///
-    /// The refusals come in the order of the etcd documentation's checks of a request; want of memory may come in
-    /// place of any later one. A refused command leaves the core as it was.
+    /// The refusals come in the order of the etcd documentation's checks of a request: `NoKey` where the key is empty; of a
+    /// Range, `Compacted` and `Future` where its revision is below the last compaction or above the present one; of a Put,
+    /// `ValueGiven` and `LeaseGiven` where it keeps what it also gives, `KeyMissing` where it keeps what is not there, and
+    /// `LeaseMissing` where it names a lease; and last `RevisionsSpent` where a change would need a revision above the greatest.
+    /// `Memory` comes where a list or a copy found none, and may come in place of `RevisionsSpent`; a Range takes none here.
     ///
-    /// A Range takes no memory before its answer. A Put is logarithmic in the number of keys and in that of the versions, and
-    /// linear in a value that it keeps. A DeleteRange walks the keys of its range, live or not, and adds a tombstone for each
-    /// that is live, all in one revision. A list may grow.
+    /// A Put takes time logarithmic in the number of keys and in that of the versions, and linear in a value that it keeps, which
+    /// is copied. A DeleteRange walks the keys of its range, live or not, each in such time, and adds a tombstone for each that is
+    /// live, all in one revision. All this is but for the growth of a list.
     pub fn apply<'c>(&mut self, command: &'c Command) -> Result<Receipt<'c>, Refusal>
         ensures accepted { IfOk result (λ r. (w : World) → StandsFor self.old.store w
             → Accepts self.new r w (perform w (call_of command.now)).0 (perform w (call_of command.now)).1) }
@@ -125,8 +128,10 @@ impl Core {
         }
     }
 
-    /// The answer of a receipt, on the state that it left. `AllocError` comes where the list of an answer finds no
-    /// memory.
+    /// The answer of a receipt, on the state that it left. It lends keys and values from the core and copies none.
+    ///
+    /// `AllocError` comes where the list of an answer, or the sort of a Range, found no memory; so never to a Put. What a delete
+    /// showed is read at the end of the revision before its own.
     pub fn answer<'a>(&'a self, receipt: &Receipt<'_>) -> Result<Answer<'a>, AllocError>
         requires { IsReadable receipt.now self.now }
         ensures { IfOk result (λ a. answer_view a ≡ answer_of receipt.now self.now) }
