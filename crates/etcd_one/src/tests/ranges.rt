@@ -12,7 +12,8 @@ POST /v3/kv/put {\"key\":\"Yg==\",\"value\":\"Mg==\"}\n\
 POST /v3/kv/range {\"key\":\"AA==\",\"range_end\":\"AA==\",\"limit\":\"1\"}\n\
 POST /v3/kv/range {\"key\":\"AA==\",\"range_end\":\"AA==\",\"sort_order\":\"DESCEND\",\"sort_target\":\"VERSION\",\"keys_only\":true}\n\
 POST /v3/kv/range {\"key\":\"Yg==\",\"range_end\":\"YQ==\"}\n";
-    let replies = "200 {\"header\":{\"cluster_id\":\"1\",\"member_id\":\"1\",\"raft_term\":\"1\",\"revision\":\"2\"}}\n\
+    let replies =
+        "200 {\"header\":{\"cluster_id\":\"1\",\"member_id\":\"1\",\"raft_term\":\"1\",\"revision\":\"2\"}}\n\
 200 {\"header\":{\"cluster_id\":\"1\",\"member_id\":\"1\",\"raft_term\":\"1\",\"revision\":\"3\"}}\n\
 200 {\"header\":{\"cluster_id\":\"1\",\"member_id\":\"1\",\"raft_term\":\"1\",\"revision\":\"4\"}}\n\
 200 {\"header\":{\"cluster_id\":\"1\",\"member_id\":\"1\",\"raft_term\":\"1\",\"revision\":\"5\"}}\n\
@@ -33,7 +34,8 @@ POST /v3/kv/range {\"key\":\"YQ==\",\"revision\":\"2\"}\n\
 POST /v3/kv/range {\"key\":\"YQ==\",\"revision\":\"3\"}\n\
 POST /v3/kv/range {\"key\":\"YQ==\",\"revision\":\"4\"}\n\
 POST /v3/kv/range {\"key\":\"YQ==\",\"revision\":\"5\"}\n";
-    let replies = "200 {\"header\":{\"cluster_id\":\"1\",\"member_id\":\"1\",\"raft_term\":\"1\",\"revision\":\"2\"}}\n\
+    let replies =
+        "200 {\"header\":{\"cluster_id\":\"1\",\"member_id\":\"1\",\"raft_term\":\"1\",\"revision\":\"2\"}}\n\
 200 {\"deleted\":\"1\",\"header\":{\"cluster_id\":\"1\",\"member_id\":\"1\",\"raft_term\":\"1\",\"revision\":\"3\"}}\n\
 200 {\"header\":{\"cluster_id\":\"1\",\"member_id\":\"1\",\"raft_term\":\"1\",\"revision\":\"4\"}}\n\
 200 {\"count\":\"1\",\"header\":{\"cluster_id\":\"1\",\"member_id\":\"1\",\"raft_term\":\"1\",\"revision\":\"4\"},\"kvs\":[{\"create_revision\":\"2\",\"key\":\"YQ==\",\"mod_revision\":\"2\",\"value\":\"MQ==\",\"version\":\"1\"}]}\n\
@@ -57,7 +59,8 @@ POST /v3/kv/range {\"key\":\"AA==\",\"range_end\":\"AA==\",\"count_only\":true}\
 POST /v3/kv/deleterange {\"key\":\"YQ==\",\"range_end\":\"Yw==\",\"prev_kv\":true}\n\
 POST /v3/kv/range {\"key\":\"AA==\",\"range_end\":\"AA==\",\"count_only\":true,\"revision\":\"5\"}\n\
 POST /v3/kv/put {\"key\":\"Yw==\",\"prev_kv\":true,\"ignore_value\":true}\n";
-    let replies = "200 {\"header\":{\"cluster_id\":\"1\",\"member_id\":\"1\",\"raft_term\":\"1\",\"revision\":\"2\"}}\n\
+    let replies =
+        "200 {\"header\":{\"cluster_id\":\"1\",\"member_id\":\"1\",\"raft_term\":\"1\",\"revision\":\"2\"}}\n\
 200 {\"header\":{\"cluster_id\":\"1\",\"member_id\":\"1\",\"raft_term\":\"1\",\"revision\":\"3\"}}\n\
 200 {\"header\":{\"cluster_id\":\"1\",\"member_id\":\"1\",\"raft_term\":\"1\",\"revision\":\"4\"}}\n\
 200 {\"header\":{\"cluster_id\":\"1\",\"member_id\":\"1\",\"raft_term\":\"1\",\"revision\":\"5\"}}\n\

@@ -88,7 +88,8 @@ POST /v3/kv/range {\"key\":\"_-8\",\"limit\":10}\n\
 POST /v3/kv/range {\"key\":\"Zm9\"}\n\
 POST /v3/kv/range {\"key\":\"Zm9v\"\n\
 POST /v3/kv/range {\"key\":\"Zm9v\",\"limit\":1.5}\n";
-    let replies = "200 {\"header\":{\"cluster_id\":\"1\",\"member_id\":\"1\",\"raft_term\":\"1\",\"revision\":\"2\"}}\n\
+    let replies =
+        "200 {\"header\":{\"cluster_id\":\"1\",\"member_id\":\"1\",\"raft_term\":\"1\",\"revision\":\"2\"}}\n\
 200 {\"count\":\"1\",\"header\":{\"cluster_id\":\"1\",\"member_id\":\"1\",\"raft_term\":\"1\",\"revision\":\"2\"},\"kvs\":[{\"create_revision\":\"2\",\"key\":\"/+8=\",\"mod_revision\":\"2\",\"version\":\"1\"}]}\n\
 200 {\"count\":\"1\",\"header\":{\"cluster_id\":\"1\",\"member_id\":\"1\",\"raft_term\":\"1\",\"revision\":\"2\"},\"kvs\":[{\"create_revision\":\"2\",\"key\":\"/+8=\",\"mod_revision\":\"2\",\"version\":\"1\"}]}\n\
 400 {\"code\":3,\"error\":\"gateway: bad base64 in key\",\"message\":\"gateway: bad base64 in key\"}\n\
