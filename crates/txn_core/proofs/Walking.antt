@@ -1,5 +1,5 @@
 -- The walk over a transaction, step by step.
-use Rattle.std.proofs.Common.{◌≡◌, ℕ, zero, suc, ◌+◌, ◌<◌, ◌≤◌, List, [], ◌∷◌, length, map, drop, get_or, Bool, true, false, cond, nat_le, Option, None, Some, is_some, refl, sym, ◌∙◌, ap, subst, arith, rules, add-one, drop-cons, true≢false}
+use Rattle.std.proofs.Common.{◌≡◌, ℕ, zero, suc, ◌+◌, ◌<◌, ◌≤◌, List, [], ◌∷◌, length, drop, get_or, true, false, nat_le, Option, None, Some, is_some, refl, sym, ◌∙◌, ap, subst, arith, rules, add-one, drop-cons, true≢false}
 use Rattle.std.specs.Option.{option_or}
 use Rattle.std.proofs.lemmas.Bool.Decides.{nat_tests}
 use Rattle.kv_model.specs.declared.call.RangeQuery.{RangeQuery}
@@ -8,11 +8,11 @@ use Rattle.kv_model.specs.declared.call.DeleteRequest.{DeleteRequest}
 use Rattle.kv_model.specs.declared.call.Compare.{Compare}
 use Rattle.kv_model.specs.declared.call.Operation.{Operation, fold-roll-Operation, out-Operation, roll-Operation, roll-out-Operation, the_lemmas}
 use Rattle.kv_model.specs.declared.call.Operation.TheVariants.{Range, Put, Delete}
-use Rattle.kv_model.specs.declared.call.Operation.TheOpen.{Operation-F, Txn-F}
+use Rattle.kv_model.specs.declared.call.Operation.TheOpen.{Operation-F}
 use Rattle.kv_model.specs.declared.call.Txn.{Txn, out-Txn, fold_out-Txn}
 use Rattle.kv_model.specs.declared.refusal.Refusal.{Refusal}
 use Rattle.kv_model.specs.declared.refusal.Refusal.TheVariants.{NoKey, TooDeep}
-use Rattle.kv_model.specs.Calls.{Ops, then, joined, op_step, txn_step, op_view, txn_view, ops_view}
+use Rattle.kv_model.specs.Calls.{Ops, then, op_step, txn_step, op_view, txn_view, ops_view}
 use Rattle.kv_model.specs.Lists.{is_empty}
 use Rattle.kv_model.specs.Ranges.{refuse_if}
 use Rattle.kv_model.specs.Txns.{most_depth, row_length, put_fault, compares_fault, size_fault, walk_fault}

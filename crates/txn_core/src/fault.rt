@@ -79,11 +79,7 @@ fn operation_fault(operation: &Operation, depth: u8) -> Option<Refusal>
 }
 
 /// The fault of a transaction itself: its sizes, and then its compares.
-fn own_fault(
-    compares: &[Compare],
-    success: &[Operation],
-    failure: &[Operation],
-) -> Option<Refusal>
+fn own_fault(compares: &[Compare], success: &[Operation], failure: &[Operation]) -> Option<Refusal>
     ensures { result ≡ option_or (txns.size_fault (length compares.now) (length success.now) (length failure.now)) (txns.compares_fault compares.now) }
 {
     let size = size_fault(compares.len(), success.len(), failure.len());
@@ -98,7 +94,10 @@ fn size_fault(compares: usize, success: usize, failure: usize) -> Option<Refusal
     ensures { result ≡ txns.size_fault compares success failure }
 {
     let most = MOST_OPERATIONS;
-    refuse_if(compares > most || success > most || failure > most, Refusal::TooManyOps)
+    refuse_if(
+        compares > most || success > most || failure > most,
+        Refusal::TooManyOps,
+    )
 }
 
 /// The fault of compares.
@@ -138,9 +137,5 @@ fn is_empty(bytes: &Bytes) -> bool
 fn refuse_if(test: bool, fault: Refusal) -> Option<Refusal>
     ensures { result ≡ ranges.refuse_if test fault }
 {
-    if test {
-        Some(fault)
-    } else {
-        None
-    }
+    if test { Some(fault) } else { None }
 }

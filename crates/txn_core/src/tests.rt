@@ -66,8 +66,14 @@ fn eight_lie_in_one_another(rt: HostRuntime) -> Result<(), Fail> {
 
 #[test]
 fn sizes_come_before_compares(rt: HostRuntime) -> Result<(), Fail> {
-    assert_eq!(rt; walk_fault(&compares(rt.alloc(), 128)?), Some(Refusal::NoKey));
-    assert_eq!(rt; walk_fault(&compares(rt.alloc(), 129)?), Some(Refusal::TooManyOps));
+    assert_eq!(rt;
+        walk_fault(&compares(rt.alloc(), 128)?),
+        Some(Refusal::NoKey)
+    );
+    assert_eq!(rt;
+        walk_fault(&compares(rt.alloc(), 129)?),
+        Some(Refusal::TooManyOps)
+    );
     Ok(())
 }
 

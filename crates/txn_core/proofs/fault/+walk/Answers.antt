@@ -1,7 +1,4 @@
-use Rattle.std.proofs.Common.{◌≡◌, ◌+◌, ◌<◌, ◌≤◌, length, drop, true, false, is_some, sym, ◌∙◌, ap, arith, rules}
-use Rattle.kv_model.specs.Calls.{ops_view}
-use Rattle.kv_model.specs.Txns.{most_depth, walk_fault}
-use Rattle.kv_model.specs.declared.call.Txn.{out-Txn}
+use Rattle.std.proofs.Common.{◌≡◌, sym, ◌∙◌, arith, rules}
 use Rattle.txn_core.proofs.Walking.{own_fault, too_deep, own_first, success_first, failure_last, row_fault-here, row_fault-later, row_fault-end, op_view-Range, op_view-Put, op_view-Delete, walk_fault-range, walk_fault-put, walk_fault-delete}
 use Rattle.txn_core.proofs.fault.+walk.Goals as goal
 
