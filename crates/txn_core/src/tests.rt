@@ -1,0 +1,88 @@
+//! Each fault once, in the order that the walk finds them.
+use super::walk_fault;
+use bytes::Bytes;
+use kv_model::call::{Compare, Operand, Operation, PutRequest, Relation, Txn};
+use kv_model::refusal::Refusal;
+use kv_model::version::KeyRange;
+use std::alloc::{AllocError, Global};
+use std::test::Fail;
+
+fn empty(alloc: Global) -> Txn {
+    Txn {
+        compare: Vec::new(alloc),
+        success: Vec::new(alloc),
+        failure: Vec::new(alloc),
+    }
+}
+
+/// A transaction as the only operation on success of another, so many times.
+fn nested(alloc: Global, times: u8) -> Result<Txn, AllocError> {
+    let mut txn = empty(alloc);
+    for _ in 0..times {
+        let mut outer = empty(alloc);
+        outer.success.push(Operation::Inner(txn))?;
+        txn = outer;
+    }
+    Ok(txn)
+}
+
+/// A transaction with so many compares of an empty key.
+fn compares(alloc: Global, count: u8) -> Result<Txn, AllocError> {
+    let mut txn = empty(alloc);
+    for _ in 0..count {
+        let range = KeyRange {
+            key: Bytes::new(),
+            end: Bytes::new(),
+        };
+        txn.compare.push(Compare {
+            range,
+            relation: Relation::IsEqual,
+            operand: Operand::OfVersion(0),
+        })?;
+    }
+    Ok(txn)
+}
+
+/// A transaction that puts a value on failure, and is to keep the old one.
+fn failing(alloc: Global, value: Bytes) -> Result<Txn, AllocError> {
+    let mut txn = empty(alloc);
+    txn.failure.push(Operation::Put(PutRequest {
+        key: Bytes::from_static(b"x"),
+        value,
+        lease: 0,
+        prev_kv: false,
+        ignore_value: true,
+        ignore_lease: false,
+    }))?;
+    Ok(txn)
+}
+
+#[test]
+fn eight_lie_in_one_another(rt: HostRuntime) -> Result<(), Fail> {
+    assert_eq!(rt; walk_fault(&nested(rt.alloc(), 7)?), None);
+    assert_eq!(rt; walk_fault(&nested(rt.alloc(), 8)?), Some(Refusal::TooDeep));
+    Ok(())
+}
+
+#[test]
+fn sizes_come_before_compares(rt: HostRuntime) -> Result<(), Fail> {
+    assert_eq!(rt;
+        walk_fault(&compares(rt.alloc(), 128)?),
+        Some(Refusal::NoKey)
+    );
+    assert_eq!(rt;
+        walk_fault(&compares(rt.alloc(), 129)?),
+        Some(Refusal::TooManyOps)
+    );
+    Ok(())
+}
+
+#[test]
+fn branches_that_do_not_run_count(rt: HostRuntime) -> Result<(), Fail> {
+    assert_eq!(rt; walk_fault(&failing(rt.alloc(), Bytes::new())?), None);
+    assert_eq!(rt;
+        walk_fault(&failing(rt.alloc(), Bytes::from_static(b"1"))?),
+        Some(Refusal::ValueGiven)
+    );
+    Ok(())
+}
