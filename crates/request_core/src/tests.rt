@@ -137,6 +137,7 @@ fn a_delete_of_two_keys(rt: HostRuntime) -> Result<(), Fail> {
     assert_eq!(rt; before[1].modified, 5);
     assert_eq!(rt; before[1].value, b"2".as_slice());
     assert_eq!(rt; before[1].version, 2);
+    drop(before);
     assert_eq!(rt; core.status().revision, 6);
     assert_eq!(rt; core.status().versions, 6);
     assert_eq!(rt; core.stamp(), 5);
@@ -165,6 +166,7 @@ fn a_put_that_keeps_the_value(rt: HostRuntime) -> Result<(), Fail> {
     assert_eq!(rt; kvs.len(), 3);
     assert_eq!(rt; kvs[2].value, b"1".as_slice());
     assert_eq!(rt; kvs[2].version, 2);
+    drop(kvs);
     assert_eq!(rt; refused(&mut core, &keep(b"d", 0)), Some(Refusal::KeyMissing));
     assert_eq!(rt; refused(&mut core, &keep(b"c", 7)), Some(Refusal::LeaseMissing));
     Ok(())
@@ -188,6 +190,7 @@ fn a_delete_of_nothing(rt: HostRuntime) -> Result<(), Fail> {
     let (count, before) = deleted(&mut core, &delete(b"d", b""))?;
     assert_eq!(rt; count, 0);
     assert_eq!(rt; before.len(), 0);
+    drop(before);
     assert_eq!(rt; core.status().revision, 5);
     assert_eq!(rt; core.stamp(), 4);
     Ok(())
