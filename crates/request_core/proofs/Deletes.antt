@@ -1,5 +1,5 @@
 -- What a DeleteRange does, in each world that the core stands for.
-use Rattle.std.proofs.Common.{◌≡◌, ◌≢◌, ℕ, zero, suc, ◌+◌, ◌-◌, ◌<◌, ◌≤◌, ◌^◌, ◌&&◌, List, [], ◌∷◌, ◌++◌, length, Bool, true, false, cond, not, nat_lt, Option, None, Some, Err, refl, sym, ◌∙◌, ap, subst, arith, append_assoc, append-nil, lt-ltb}
+use Rattle.std.proofs.Common.{◌≡◌, ◌≢◌, ℕ, suc, ◌+◌, ◌-◌, ◌<◌, ◌≤◌, ◌^◌, ◌&&◌, List, [], ◌∷◌, ◌++◌, length, Bool, true, false, cond, not, nat_lt, Option, None, Some, Err, refl, sym, ◌∙◌, ap, subst, arith, append_assoc, append-nil, lt-ltb}
 use Rattle.std.specs.Option.{option_or}
 use Rattle.kv_model.specs.declared.refusal.Refusal.{Refusal}
 use Rattle.kv_model.specs.declared.refusal.Refusal.TheVariants.{RevisionsSpent}
@@ -10,7 +10,7 @@ use Rattle.kv_model.specs.Lists.{is_empty}
 use Rattle.kv_model.specs.History.{KeyValue, now_after, end_of}
 use Rattle.kv_model.specs.Ranges.{live, keys_of, refuse_if}
 use Rattle.kv_model.specs.Calls.{Call}
-use Rattle.kv_model.specs.Told.{Answer, Reply}
+use Rattle.kv_model.specs.Told.{Reply}
 use Rattle.kv_model.specs.Txns.{extend_all, deletes_of, if_asked}
 use Rattle.kv_model.specs.World.{World, changed}
 use Rattle.kv_model.specs.Step.{last_main, made_in, perform}
@@ -57,7 +57,7 @@ live-before s d r =
     let back : s.store.revision + 1 - 1 ≡ s.store.revision = omega arith in
     ap (λ n. live (s.store.versions ++ added_by_delete s.store d) (end_of n) r) back
     ∙ live-same (s.store.versions ++ added_by_delete s.store d) s.store.versions (end_of s.store.revision) r
-        (λ k. value_at-behind s.store.versions (added_by_delete s.store d) (end_of s.store.revision) k (behind-before s.store.revision 0 (live_in s.store d.range)))
+    (λ k. value_at-behind s.store.versions (added_by_delete s.store d) (end_of s.store.revision) k (behind-before s.store.revision 0 (live_in s.store d.range)))
 
 and-true : (b c : Bool) → c ≡ true → (b && c) ≡ b
 and-true true c e = e

@@ -1,5 +1,5 @@
 -- What is kept stays counted as it grows, and what a put and a delete add are the versions of the next revision.
-use Rattle.std.proofs.Common.{◌≡◌, ◌≢◌, ℕ, zero, suc, ◌+◌, ◌<◌, ◌≤◌, ◌^◌, ◌%◌, ◌&&◌, List, [], ◌∷◌, ◌++◌, length, map, take, get_or, Bool, true, false, nat_lt, Option, None, Some, option_and_then, refl, sym, ◌∙◌, ap, subst, arith, eq-eqb, lt-ltb}
+use Rattle.std.proofs.Common.{◌≡◌, ℕ, zero, suc, ◌+◌, ◌<◌, ◌≤◌, ◌^◌, ◌%◌, ◌&&◌, List, [], ◌∷◌, ◌++◌, length, map, take, get_or, true, Option, None, Some, option_and_then, refl, sym, ap, subst, arith, eq-eqb, lt-ltb}
 use Rattle.std.specs.Option.{MatchOption}
 use Rattle.std.specs.List.{AllByRecursion}
 use Rattle.kv_model.specs.declared.version.Rev.{Rev}
@@ -16,7 +16,7 @@ use Rattle.kv_model.specs.Txns.{next_body, put_action}
 use Rattle.kv_model.proofs.PlaceLaws.{each-map, each-append}
 use Rattle.range_view.specs.declared.reply.KvRef.{KvRef}
 use Rattle.range_view.specs.Replies.{kv_view}
-use Rattle.range_view.specs.Stored.{Stored, goes_on, is_next, appended}
+use Rattle.range_view.specs.Stored.{Stored, goes_on, appended}
 use Rattle.range_view.proofs.Growing.{next-revision}
 use Rattle.request_core.specs.Writing.{CanCount, IsCountedTo, IsHeldTo, AreNext, next_rev, next_version, tombstone, tombstones}
 use Rattle.request_core.specs.State.{IsSound, core_state, with_versions}

@@ -1,14 +1,13 @@
 -- What a Put does, in each world that the core stands for.
-use Rattle.std.proofs.Common.{◌≡◌, ◌+◌, ◌-◌, ◌<◌, List, [], ◌∷◌, ◌++◌, Option, None, Some, Err, refl, sym, ◌∙◌, ap, subst, arith}
+use Rattle.std.proofs.Common.{◌≡◌, ◌+◌, ◌-◌, [], ◌∷◌, ◌++◌, Option, None, Some, Err, refl, sym, ◌∙◌, ap, subst, arith}
 use Rattle.std.specs.Option.{option_or}
 use Rattle.kv_model.specs.declared.refusal.Refusal.{Refusal}
 use Rattle.kv_model.specs.declared.refusal.Refusal.TheVariants.{RevisionsSpent}
 use Rattle.kv_model.specs.declared.call.PutRequest.{PutRequest}
-use Rattle.kv_model.specs.declared.version.Version.{Version}
-use Rattle.kv_model.specs.History.{KeyValue, value_at, end_of}
+use Rattle.kv_model.specs.History.{value_at, end_of}
 use Rattle.kv_model.specs.Ranges.{refuse_if}
 use Rattle.kv_model.specs.Calls.{Call}
-use Rattle.kv_model.specs.Told.{Answer, Reply}
+use Rattle.kv_model.specs.Told.{Reply}
 use Rattle.kv_model.specs.Txns.{put_fault, previous_value}
 use Rattle.kv_model.specs.World.{World, changed}
 use Rattle.kv_model.specs.Step.{made_in, perform}

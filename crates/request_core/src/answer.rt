@@ -24,7 +24,10 @@ pub enum Todo<'c> {
     /// The live keys of a range.
     Range(&'c RangeQuery),
     /// What the key held before the put, where that is asked for.
-    Put { key: &'c Bytes, previous: bool },
+    Put {
+        key: &'c Bytes,
+        previous: bool,
+    },
     /// What the deleted keys held before, where that is asked for and some key was deleted.
     Delete {
         range: &'c KeyRange,

@@ -171,11 +171,7 @@ impl Core {
     }
 
     /// Appends the versions of the next revision, once the sink has taken them.
-    fn append<S: Sink>(
-        &mut self,
-        versions: Vec<Version>,
-        sink: &mut S,
-    ) -> Result<(), AllocError>
+    fn append<S: Sink>(&mut self, versions: Vec<Version>, sink: &mut S) -> Result<(), AllocError>
         requires room { self.old.store.revision < last_main }
         requires next { AreNext self.old.store.revision versions.items }
         ensures ok { OnOk result (self.new ≡ with_versions self.old versions.items) }

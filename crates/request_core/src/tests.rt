@@ -96,7 +96,9 @@ fn deleted<'a>(core: &'a mut Core, command: &Command) -> Result<(u64, Vec<KvRef<
     let receipt = core.apply(command)?;
     match core.answer(&receipt)? {
         Answer::Delete {
-            deleted, previous, ..
+            deleted,
+            previous,
+            ..
         } => Ok((deleted, previous)),
         _ => Err(Fail::from("no answer to a delete")),
     }
@@ -167,8 +169,14 @@ fn a_put_that_keeps_the_value(rt: HostRuntime) -> Result<(), Fail> {
     assert_eq!(rt; kvs[2].value, b"1".as_slice());
     assert_eq!(rt; kvs[2].version, 2);
     drop(kvs);
-    assert_eq!(rt; refused(&mut core, &keep(b"d", 0)), Some(Refusal::KeyMissing));
-    assert_eq!(rt; refused(&mut core, &keep(b"c", 7)), Some(Refusal::LeaseMissing));
+    assert_eq!(rt;
+        refused(&mut core, &keep(b"d", 0)),
+        Some(Refusal::KeyMissing)
+    );
+    assert_eq!(rt;
+        refused(&mut core, &keep(b"c", 7)),
+        Some(Refusal::LeaseMissing)
+    );
     Ok(())
 }
 
@@ -217,8 +225,14 @@ fn refused_by_sink(core: &mut Core, command: &Command) -> Option<Refusal> {
 fn a_refused_taking_leaves_nothing(rt: HostRuntime) -> Result<(), Fail> {
     let mut core = stored(rt.alloc())?;
     let before = core.status();
-    assert_eq!(rt; refused_by_sink(&mut core, &put(b"a", b"2")), Some(Refusal::Memory));
-    assert_eq!(rt; refused_by_sink(&mut core, &delete(b"a", b"c")), Some(Refusal::Memory));
+    assert_eq!(rt;
+        refused_by_sink(&mut core, &put(b"a", b"2")),
+        Some(Refusal::Memory)
+    );
+    assert_eq!(rt;
+        refused_by_sink(&mut core, &delete(b"a", b"c")),
+        Some(Refusal::Memory)
+    );
     assert_eq!(rt; core.status(), before);
     assert_eq!(rt; ranged(&mut core, &all_at(0))?.count, 3);
     assert_eq!(rt; done(&mut core, &delete(b"a", b"c"))?, 6);

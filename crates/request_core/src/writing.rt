@@ -155,11 +155,7 @@ fn first_body(main: u64, request: &PutRequest) -> Result<Body, AllocError>
 }
 
 /// The tombstones of live keys at a revision, numbered from 0 in the order of the keys, which are copied.
-pub fn tombstones(
-    alloc: Global,
-    main: u64,
-    live: &[KvRef<'_>],
-) -> Result<Vec<Version>, AllocError>
+pub fn tombstones(alloc: Global, main: u64, live: &[KvRef<'_>]) -> Result<Vec<Version>, AllocError>
     ensures { IfOk result (λ vs. vs.items ≡ writing.tombstones main 0 (map kv_view live.now)) }
 {
     let mut versions = Vec::with_capacity(alloc, live.len())?;

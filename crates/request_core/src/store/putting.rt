@@ -103,12 +103,7 @@ impl Core {
     }
 
     /// What a key held before a revision, where it is asked for.
-    pub(crate) fn value_before(
-        &self,
-        revision: u64,
-        key: &Bytes,
-        asked: bool,
-    ) -> Option<KvRef<'_>>
+    pub(crate) fn value_before(&self, revision: u64, key: &Bytes, asked: bool) -> Option<KvRef<'_>>
         ensures { option_map kv_view result ≡ previous_value asked (value_at self.now.store.versions (end_of (revision - 1)) key.now) }
     {
         if asked {

@@ -1,6 +1,5 @@
 -- One tombstone more.
-use Rattle.std.proofs.Common.{◌≡◌, ◌++◌, ◌∷◌, [], List, sym, ◌∙◌, ap, add-one, arith}
-use Rattle.kv_model.specs.declared.version.Version.{Version}
+use Rattle.std.proofs.Common.{◌++◌, ◌∷◌, [], sym, ◌∙◌, add-one, arith}
 use Rattle.request_core.proofs.Kept.{tombstones-more}
 use Rattle.request_core.proofs.writing.tombstones.Goals as goal
 

@@ -1,4 +1,4 @@
-use Rattle.std.proofs.Common.{◌≡◌, ℕ, sym, ◌∙◌, ap}
+use Rattle.std.proofs.Common.{ℕ, sym, ◌∙◌, ap}
 use Rattle.kv_model.specs.Ranges.{RangeReply}
 use Rattle.kv_model.specs.History.{end_of}
 use Rattle.kv_model.specs.Told.{Reply, Answer}

@@ -1,4 +1,4 @@
-use Rattle.std.proofs.Common.{◌≡◌, ◌+◌, ◌<◌, ◌%◌, ◌^◌, sym, ◌∙◌, ap, subst}
+use Rattle.std.proofs.Common.{◌+◌, ◌<◌, ◌%◌, ◌^◌, sym, ◌∙◌, ap, subst}
 use Rattle.kv_model.specs.Step.{last_main}
 use Rattle.range_view.specs.Stored.{Stored, appended, retracted_to}
 use Rattle.range_view.proofs.Growing.{retracted_to-appended}

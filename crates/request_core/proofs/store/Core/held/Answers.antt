@@ -1,4 +1,4 @@
-use Rattle.std.proofs.Common.{◌≡◌, sym, ◌∙◌, ap, subst}
+use Rattle.std.proofs.Common.{sym, ◌∙◌, ap, subst}
 use Rattle.std.specs.Prelude.{option_map}
 use Rattle.kv_model.specs.History.{value_at, end_of}
 use Rattle.range_view.specs.Stored.{Viewed}
