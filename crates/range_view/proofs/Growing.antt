@@ -268,9 +268,9 @@ pub appended-nothing : (s : Stored) (us : List Version) → first_main_of us ≡
 appended-nothing s [] e = λ i. record s { versions = sym (append-nil s.versions) i }
 appended-nothing s (u ∷ us) e = cc
 
-pub blank_tables : (i : Index) (vs : List Version) → i ≡ [] → vs ≡ [] → AreTables i (record { versions = vs; compacted = 0; revision = 1; place = oldest_place })
-blank_tables i vs none empty = record {
-  stored = record { opened = omega arith; rising = subst IsRising (sym empty) tt; upto = subst (IsUpTo 1) (sym empty) tt };
+pub blank_tables : (i : Index) (vs : List Version) (revision : ℕ) → i ≡ [] → vs ≡ [] → 1 ≤ revision → AreTables i (record { versions = vs; compacted = 0; revision = revision; place = oldest_place })
+blank_tables i vs revision none empty opened = record {
+  stored = record { opened = opened; rising = subst IsRising (sym empty) tt; upto = subst (IsUpTo revision) (sym empty) tt };
   agrees = subst (λ xs. Agrees i xs) (sym empty) (subst (λ j. Agrees j []) (sym none) agrees-nothing);
 }
 

@@ -24,8 +24,12 @@ pub record Viewed : Type 0 where
   pub revision : ℕ
   pub place : Rev
 
+-- no version, at a revision
+abbrev pub blank_at : ℕ → Stored
+blank_at revision = record { versions = []; compacted = 0; revision = revision; place = oldest_place }
+
 abbrev pub blank : Stored
-blank = record { versions = []; compacted = 0; revision = 1; place = oldest_place }
+blank = blank_at 1
 
 -- no version is of a later revision
 abbrev pub IsUpTo : ℕ → List Version → Type 0

@@ -1,9 +1,9 @@
 //! What a store keeps: the versions, the index of their keys, and the numbers that stand beside them (etcd: data model).
-ghost use Rattle.std.specs.Prelude.{◌≡◌, ◌<◌, ◌-◌, ◌==◌, ◌&&◌, nat_lt, true, OnOk, OnErr};
+ghost use Rattle.std.specs.Prelude.{◌≡◌, ◌<◌, ◌≤◌, ◌-◌, ◌==◌, ◌&&◌, nat_lt, true, OnOk, OnErr};
 ghost use Rattle.kv_model.specs.History.{end_of};
 ghost use Rattle.kv_model.specs.Stands.{first_main_of};
 ghost use Rattle.version_table.specs.Rising.{retracted};
-ghost use Rattle.range_view.specs.Stored.{IsStored, appended, blank, compacted_at, goes_on, is_next, retracted_to, seen_at};
+ghost use Rattle.range_view.specs.Stored.{IsStored, appended, blank, blank_at, compacted_at, goes_on, is_next, retracted_to, seen_at};
 
 use crate::growth::{add_all, take_back};
 use crate::revision::end_of;
@@ -71,11 +71,19 @@ impl Tables {
     pub fn new(alloc: Global) -> Self
         ensures { result ≡ blank }
     {
+        Tables::at(alloc, 1)
+    }
+
+    /// What a store keeps that has come to a revision, from 1 on, and has no version left. Takes no memory.
+    pub fn at(alloc: Global, revision: u64) -> Self
+        requires { 1 ≤ revision }
+        ensures { result ≡ blank_at revision }
+    {
         Tables {
             table: VersionTable::new(alloc),
             index: KeyIndex::new(alloc),
             compacted: 0,
-            revision: 1,
+            revision,
             place: Rev { main: 0, sub: 0 },
         }
     }
