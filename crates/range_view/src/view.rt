@@ -201,7 +201,12 @@ impl<'a> View<'a> {
     }
 
     /// What the key of a range is at a place, where it is live.
-    fn walk_one(&self, alloc: Global, query: &RangeQuery, place: Rev) -> Result<Found<'a>, AllocError>
+    fn walk_one(
+        &self,
+        alloc: Global,
+        query: &RangeQuery,
+        place: Rev,
+    ) -> Result<Found<'a>, AllocError>
         ensures { IfOk result (λ found. IsFound query.now found (live self.now.versions place (one_key query.now.range.key))) }
     {
         let mut found = Found::new(alloc);
@@ -213,7 +218,12 @@ impl<'a> View<'a> {
     }
 
     /// What the live keys of a range at a place are, by a walk over its keys.
-    fn walk_all(&self, alloc: Global, query: &RangeQuery, place: Rev) -> Result<Found<'a>, AllocError>
+    fn walk_all(
+        &self,
+        alloc: Global,
+        query: &RangeQuery,
+        place: Rev,
+    ) -> Result<Found<'a>, AllocError>
         ensures { IfOk result (λ found. IsFound query.now found (live self.now.versions place query.now.range)) }
     {
         let keys = self.index.keys_in(&query.range)?;

@@ -2,8 +2,6 @@
 use Rattle.std.proofs.Common.{◌≡◌, ◌∙◌, ap, sym, map, List, [], ◌∷◌, ◌++◌, None, Some}
 use Rattle.std.specs.Prelude.{option_map, option_to_list, Option}
 use Rattle.kv_model.specs.History.{KeyValue}
-use Rattle.kv_model.specs.Keys.{one_key}
-use Rattle.kv_model.specs.Ranges.{live}
 use Rattle.kv_model.proofs.KeyLaws.{live-one}
 use Rattle.range_view.specs.declared.reply.KvRef.{KvRef}
 use Rattle.range_view.specs.Replies.{kv_view}
