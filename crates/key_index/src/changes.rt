@@ -22,8 +22,7 @@ pub(crate) fn add(
     if let Some(revisions) = keys.get_mut(key) {
         return revisions.push(mark);
     }
-    let mut revisions = Revisions::new(alloc);
-    revisions.push(mark)?;
+    let revisions = Revisions::one(alloc, mark)?;
     keys.insert(key.clone()?, revisions)?;
     Ok(())
 }

@@ -1,5 +1,5 @@
 //! The revisions of one key, in order (etcd: data model, generations of a key).
-ghost use Rattle.std.specs.Prelude.{◌≡◌, ◌↔◌, List, [], ◌∷◌, ◌++◌, ◌<◌, ◌≤◌, length, drop, option_map, OnOk, OnErr, IsTrue, Some, None};
+ghost use Rattle.std.specs.Prelude.{◌≡◌, ◌↔◌, List, [], ◌∷◌, ◌++◌, ◌<◌, ◌≤◌, length, drop, option_map, IfOk, OnOk, OnErr, IsTrue, Some, None};
 ghost use Rattle.std.specs.List.{slice_get};
 ghost use Rattle.kv_model.specs.Lists.{is_empty};
 ghost use Rattle.kv_model.specs.History.{rev_lt, rev_le};
@@ -38,13 +38,13 @@ impl Model for Revisions {
 }
 
 impl Revisions {
-    /// No revisions.
-    pub(crate) fn new(alloc: Global) -> Self
-        ensures { result ≡ [] }
+    /// One revision, with room for no other: most keys have just one.
+    pub(crate) fn one(alloc: Global, mark: Mark) -> Result<Self, AllocError>
+        ensures { IfOk result (λ r. r ≡ mark ∷ []) }
     {
-        Revisions {
-            marks: VecDeque::new(alloc),
-        }
+        let mut marks = VecDeque::with_capacity(alloc, 1)?;
+        marks.push_back(mark)?;
+        Ok(Revisions { marks })
     }
 
     /// Whether there is no revision.

@@ -1,5 +1,6 @@
 -- The live keys of a range, as a walk over its keys finds them.
-use Rattle.std.proofs.Common.{◌≡◌, ℕ, List, [], ◌∷◌, Bool, true, false, ◌&&◌, cond, Option, None, Some, option_and_then, filter, filter_map, map, refl, sym, ◌∙◌, ap, subst}
+use Rattle.std.proofs.Common.{◌≡◌, ℕ, List, [], ◌∷◌, Bool, true, false, ◌&&◌, cond, Option, None, Some, option_and_then, filter, filter_map, map, length, nat_eq, refl, sym, ◌∙◌, ap, subst, arith}
+use Rattle.std.proofs.lemmas.Bool.Decides.{nat_tests}
 use Rattle.std.specs.Option.{option_or}
 use Rattle.std.specs.List.{AllByRecursion, cons_option}
 use Rattle.std.specs.Cmp.Lexicographic.{bytes_decides}
@@ -10,7 +11,7 @@ use Rattle.kv_model.specs.declared.version.Body.{Body}
 use Rattle.kv_model.specs.declared.version.Body.TheVariants.{Put, Gone}
 use Rattle.kv_model.specs.declared.version.KeyRange.{KeyRange}
 use Rattle.kv_model.specs.Lists.{last_that}
-use Rattle.kv_model.specs.Keys.{key_cmp, same_key, in_range}
+use Rattle.kv_model.specs.Keys.{key_cmp, same_key, in_range, one_key}
 use Rattle.kv_model.specs.History.{KeyValue, latest, value_at, key_value, shown, rev_le}
 use Rattle.kv_model.specs.Laws.{IsStrictlyAscending}
 use Rattle.kv_model.specs.Ranges.{keys, live}
@@ -32,6 +33,14 @@ walked {X} test g (k ∷ ks) = by (test k) (walked test g ks)
 pub live-walked : (vs : List Version) (p : Rev) (r : KeyRange) → live vs p r ≡ filter_map (value_at vs p) (filter (in_range r) (keys vs))
 unfolding live
 live-walked vs p r = walked (in_range r) (value_at vs p) (keys vs)
+
+-- a range without an end is that of its key
+empty-only : (k e : List ℕ) → nat_eq (length e) 0 ≡ true → one_key k ≡ record { key = k; end = e }
+empty-only k [] h = refl
+empty-only k (x ∷ xs) h = absurd (grind (arith, nat_tests))
+
+pub only_key : (r : KeyRange) → nat_eq (length r.end) 0 ≡ true → one_key r.key ≡ r
+only_key r h = empty-only r.key r.end h
 
 -- ---- they stand in the order of their keys
 

@@ -1,5 +1,6 @@
 //! What is kept, read at a place (the etcd documentation's RangeRequest and RangeResponse).
 ghost use Rattle.std.specs.Prelude.{◌≡◌, IfOk, IfErr, MatchOption, option_map, filter_map, map};
+ghost use Rattle.kv_model.specs.Keys.{one_key};
 ghost use Rattle.kv_model.specs.History.{key_value, value_at};
 ghost use Rattle.kv_model.specs.Ranges.{range_reply, read_place, revision_refusal, live};
 ghost use Rattle.version_table.specs.Rising.{IsRising};
@@ -105,7 +106,14 @@ impl<'a> View<'a> {
     pub fn get(&self, key: &Bytes) -> Option<KvRef<'a>>
         ensures { option_map kv_view result ≡ value_at self.now.versions self.now.place key.now }
     {
-        match self.index.at(key, self.place) {
+        self.read(key, self.place)
+    }
+
+    /// What a key holds at a place.
+    fn read(&self, key: &Bytes, place: Rev) -> Option<KvRef<'a>>
+        ensures { option_map kv_view result ≡ value_at self.now.versions place key.now }
+    {
+        match self.index.at(key, place) {
             Some(rev) => held(self.table, rev),
             None => None,
         }
@@ -114,8 +122,32 @@ impl<'a> View<'a> {
     /// The key-values of the live keys of a range at the view's place, in the order of the keys, lent from the table.
     ///
     /// `AllocError` comes where the list of the keys or that of what they hold found no memory. The keys of the range are walked,
-    /// live or not, each in time logarithmic in the versions; no other key is.
+    /// live or not, each in time logarithmic in the versions; no other key is. One key is looked up as by `get`, and no list of
+    /// keys is made.
     pub fn live(&self, alloc: Global, range: &KeyRange) -> Result<Vec<KvRef<'a>>, AllocError>
+        ensures { IfOk result (λ kvs. map kv_view kvs.items ≡ live self.now.versions self.now.place range.now) }
+    {
+        if range.end.is_empty() {
+            self.live_one(alloc, &range.key)
+        } else {
+            self.live_all(alloc, range)
+        }
+    }
+
+    /// The key-value of a key at the view's place, where it is live.
+    fn live_one(&self, alloc: Global, key: &Bytes) -> Result<Vec<KvRef<'a>>, AllocError>
+        ensures { IfOk result (λ kvs. map kv_view kvs.items ≡ live self.now.versions self.now.place (one_key key.now)) }
+    {
+        let mut kvs = Vec::new(alloc);
+        match self.get(key) {
+            Some(kv) => kvs.push(kv)?,
+            None => {}
+        }
+        Ok(kvs)
+    }
+
+    /// The key-values of the live keys of a range at the view's place, by a walk over its keys.
+    fn live_all(&self, alloc: Global, range: &KeyRange) -> Result<Vec<KvRef<'a>>, AllocError>
         ensures { IfOk result (λ kvs. map kv_view kvs.items ≡ live self.now.versions self.now.place range.now) }
     {
         let keys = self.index.keys_in(range)?;
@@ -129,7 +161,8 @@ impl<'a> View<'a> {
     /// it is above the view's; both come before any memory is asked for. `Memory` comes where a list of what is found, or a sort,
     /// found none.
     ///
-    /// The keys of the range are walked, live or not, each in time logarithmic in the versions; no other key is. With a limit,
+    /// The keys of the range are walked, live or not, each in time logarithmic in the versions; no other key is. One key is looked
+    /// up as by `get`, and no list of keys is made. With a limit,
     /// and no other order than that of the keys, no more is collected than the limit asks for; the walk goes on all the same,
     /// since `count` counts every live key of the range. Any other order is sorted, in n log n comparisons of the n that pass
     /// the filters. No value is copied.
@@ -158,6 +191,39 @@ impl<'a> View<'a> {
 
     /// What the live keys of a range at a place are.
     fn walk(&self, alloc: Global, query: &RangeQuery, place: Rev) -> Result<Found<'a>, AllocError>
+        ensures { IfOk result (λ found. IsFound query.now found (live self.now.versions place query.now.range)) }
+    {
+        if query.range.end.is_empty() {
+            self.walk_one(alloc, query, place)
+        } else {
+            self.walk_all(alloc, query, place)
+        }
+    }
+
+    /// What the key of a range is at a place, where it is live.
+    fn walk_one(
+        &self,
+        alloc: Global,
+        query: &RangeQuery,
+        place: Rev,
+    ) -> Result<Found<'a>, AllocError>
+        ensures { IfOk result (λ found. IsFound query.now found (live self.now.versions place (one_key query.now.range.key))) }
+    {
+        let mut found = Found::new(alloc);
+        match self.read(&query.range.key, place) {
+            Some(kv) => found.add(query, kv)?,
+            None => {}
+        }
+        Ok(found)
+    }
+
+    /// What the live keys of a range at a place are, by a walk over its keys.
+    fn walk_all(
+        &self,
+        alloc: Global,
+        query: &RangeQuery,
+        place: Rev,
+    ) -> Result<Found<'a>, AllocError>
         ensures { IfOk result (λ found. IsFound query.now found (live self.now.versions place query.now.range)) }
     {
         let keys = self.index.keys_in(&query.range)?;

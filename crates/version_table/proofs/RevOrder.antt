@@ -1,5 +1,5 @@
 -- The order of revisions.
-use Rattle.std.proofs.Common.{◌≡◌, ℕ, ◌<◌, ◌≤◌, ◌⊎◌, inl, inr, Bool, true, false, ◌&&◌, ◌==◌, refl, arith}
+use Rattle.std.proofs.Common.{◌≡◌, ℕ, ◌<◌, ◌≤◌, ◌⊎◌, inl, inr, Bool, true, false, ◌&&◌, ◌==◌, refl, sym, ◌∙◌, arith}
 use Rattle.std.proofs.lemmas.Bool.Decides.{nat_tests}
 use Rattle.std.specs.Ordering.{is_lt, nat_cmp, ordering_then}
 use Rattle.kv_model.specs.declared.version.Rev.{Rev}
@@ -58,6 +58,15 @@ is_at-before p v h = unequal v.rev.main p.main v.rev.sub p.sub (before_true v.re
 
 pub is_at-behind : (p : Rev) (v : Version) → rev_lt p v.rev ≡ true → is_at p v ≡ false
 is_at-behind p v h = unequal_above v.rev.main p.main v.rev.sub p.sub (before_true p.main v.rev.main p.sub v.rev.sub h)
+
+same_parts : (a b c d : ℕ) → (a == b && c == d) ≡ true → (a ≡ b) × (c ≡ d)
+same_parts a b c d h = grind (arith, nat_tests)
+
+-- what stands before a version stands before the revision that it is at
+pub before-at : (p q : Rev) (v : Version) → is_at p v ≡ true → rev_lt q v.rev ≡ true → rev_lt q p ≡ true
+before-at p q v h g =
+    let same = same_parts v.rev.main p.main v.rev.sub p.sub h in
+    (λ i. is_lt (ordering_then (nat_cmp q.main (sym same.0 i)) (nat_cmp q.sub (sym same.1 i)))) ∙ g
 
 asym : (a b c d : ℕ) → (a < b) ⊎ ((a ≡ b) × (c < d)) → (o : Bool) → is_lt (ordering_then (nat_cmp b a) (nat_cmp d c)) ≡ o → o ≡ false
 asym a b c d h false e = refl

@@ -9,7 +9,7 @@ use Rattle.kv_model.specs.declared.version.Version.{Version}
 use Rattle.kv_model.specs.History.{rev_lt}
 use Rattle.kv_model.specs.Kept.{is_at}
 use Rattle.version_table.specs.Rising.{IsBehind, IsRising, place, last, is_of, is_newest, retracted}
-use Rattle.version_table.proofs.RevOrder.{rev_lt-trans, rev_lt-not, is_at-before, is_at-behind, before_false, before_first, main_le}
+use Rattle.version_table.proofs.RevOrder.{before-at, rev_lt-trans, rev_lt-not, is_at-before, is_at-behind, before_false, before_first, main_le}
 
 abbrev pub IsAbove : Rev → List Version → Type 0
 IsAbove p vs = AllByRecursion (λ w. rev_lt p w.rev ≡ true) vs
@@ -95,6 +95,18 @@ find-place p (v ∷ vs) r = by (rev_lt v.rev p) refl (find-place p vs r.1)
         → cond (is_at p v) (Some v) (find (is_at p) vs) ≡ held p (slice_get (v ∷ vs) (cond b (suc (place p vs)) zero))
     by true e rest = ap (λ b. cond b (Some v) (find (is_at p) vs)) (is_at-before p v e) ∙ rest
     by false e rest = ap (λ o. cond (is_at p v) (Some v) o) (none-above p vs (above-not p v vs e r.0))
+
+above-get : (p : Rev) (vs : List Version) (i : ℕ) (v : Version) → IsAbove p vs → slice_get vs i ≡ Some v → rev_lt p v.rev ≡ true
+above-get p [] i v a e = cc
+above-get p (w ∷ ws) zero v a e = let same : w ≡ v = cc in subst (λ u. rev_lt p u.rev ≡ true) same a.0
+above-get p (w ∷ ws) (suc i) v a e = above-get p ws i v a.1 e
+
+-- a version at the revision is the one that is found, since no other is
+pub find-at : (p : Rev) (vs : List Version) (i : ℕ) (v : Version) → IsRising vs → slice_get vs i ≡ Some v → is_at p v ≡ true → find (is_at p) vs ≡ Some v
+find-at p [] i v r e h = cc
+find-at p (w ∷ ws) zero v r e h = let same : w ≡ v = cc in ap (λ b. cond b (Some w) (find (is_at p) ws)) (ap (is_at p) same ∙ h) ∙ ap Some same
+find-at p (w ∷ ws) (suc i) v r e h =
+    ap (λ b. cond b (Some w) (find (is_at p) ws)) (is_at-before p w (before-at p w.rev v h (above-get w.rev ws i v r.0 e))) ∙ find-at p ws i v r.1 e h
 
 pub next-place : (p : Rev) (vs : List Version) → find (λ v. not (rev_lt v.rev p)) vs ≡ slice_get vs (place p vs)
 next-place p [] = refl

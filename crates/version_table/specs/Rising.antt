@@ -1,5 +1,5 @@
 -- Versions in the order of their revisions, and the ways to change such a list.
-use Rattle.std.specs.Prelude.{◌≡◌, ℕ, List, [], ◌∷◌, Bool, true, false, not, zero, suc, ◌==◌, Option, None, Some, filter, if◌then◌else◌, ⊤}
+use Rattle.std.specs.Prelude.{◌≡◌, ℕ, ◌-◌, List, [], ◌∷◌, Bool, true, false, not, zero, suc, ◌==◌, Option, None, Some, filter, if◌then◌else◌, ⊤}
 use Rattle.std.specs.List.{AllByRecursion, remove}
 use Rattle.kv_model.specs.declared.version.Rev.{Rev}
 use Rattle.kv_model.specs.declared.version.Version.{Version}
@@ -19,6 +19,11 @@ IsRising (v ∷ vs) = AllByRecursion (λ w. rev_lt v.rev w.rev ≡ true) vs × I
 abbrev pub place : Rev → List Version → ℕ
 place p [] = zero
 place p (v ∷ vs) = if rev_lt v.rev p then suc (place p vs) else zero
+
+-- where a revision stands behind the first version, if each main revision between has one version
+abbrev pub guess : Rev → Option Version → ℕ
+guess p None = zero
+guess p (Some v) = p.main - v.rev.main
 
 abbrev pub last : List Version → Option Version
 last vs = last_that (λ _. true) vs

@@ -3,7 +3,7 @@ ghost use Rattle.std.specs.Prelude.{◌≡◌, ◌↔◌, List, [], ◌∷◌, �
 ghost use Rattle.std.specs.List.{find, slice_get};
 ghost use Rattle.kv_model.specs.History.{rev_lt};
 ghost use Rattle.kv_model.specs.Kept.{is_at, without_rev};
-ghost use Rattle.version_table.specs.Rising.{IsBehind, IsRising, is_of, last, place, retracted, without_index};
+ghost use Rattle.version_table.specs.Rising.{IsBehind, IsRising, guess, is_of, last, place, retracted, without_index};
 
 use kv_model::version::{Rev, Version};
 use std::alloc::{AllocError, Global};
@@ -102,15 +102,19 @@ impl VersionTable {
         remove_at(&mut self.versions, rev);
     }
 
-    /// The version at a revision. Takes no memory, and logarithmic time.
+    /// The version at a revision. Takes no memory.
+    ///
+    /// Constant time where the table has one version of each main revision from its first one to this: it looks first at
+    /// the index that the revision then has. Elsewhere, as behind a command of several changes or behind trimmed versions,
+    /// logarithmic time.
     pub fn get(&self, rev: Rev) -> Option<&Version>
         ensures value { option_copied result ≡ find (is_at rev) self.now }
         ensures rising { IsRising self.now }
     {
         let versions = self.as_slice();
-        match place_of(versions, rev) {
-            Some(place) => version_at(versions, place),
-            None => None,
+        match version_if(versions, guess(versions, rev), rev) {
+            Some(version) => Some(version),
+            None => search(versions, rev),
         }
     }
 
@@ -160,6 +164,38 @@ fn rev_at(versions: &[Version], place: usize) -> Option<Rev>
     ensures { result ≡ option_map (λ v. v.rev) (slice_get versions.now place) }
 {
     version_at(versions, place).map(|version| version.rev)
+}
+
+/// The index at which a revision stands where each main revision from that of the first version on has one version.
+fn guess(versions: &[Version], rev: Rev) -> usize
+    ensures { result ≡ guess rev (slice_get versions.now 0) }
+{
+    match version_at(versions, 0) {
+        Some(first) => rev.main.saturating_sub(first.rev.main) as usize,
+        None => 0,
+    }
+}
+
+/// The version at an index, where it is at the revision: none of the others, which rise, is.
+fn version_if(versions: &[Version], place: usize, rev: Rev) -> Option<&Version>
+    requires { IsRising versions.now }
+    ensures { IfSome result (λ v. find (is_at rev) versions.now ≡ Some v.now) }
+{
+    match version_at(versions, place) {
+        Some(version) if version.rev == rev => Some(version),
+        _ => None,
+    }
+}
+
+/// The version at a revision. It halves.
+fn search(versions: &[Version], rev: Rev) -> Option<&Version>
+    requires { IsRising versions.now }
+    ensures { option_copied result ≡ find (is_at rev) versions.now }
+{
+    match place_of(versions, rev) {
+        Some(place) => version_at(versions, place),
+        None => None,
+    }
 }
 
 /// How many of the versions, which rise, stand before a revision. It halves.

@@ -1,21 +1,13 @@
--- What the keys of the range hold by the index is what is live.
-use Rattle.std.proofs.Common.{◌≡◌, ◌∙◌, ap, sym, subst, map, filter_map, List}
+-- A range without an end is that of its key.
+use Rattle.std.proofs.Common.{◌∙◌, sym, subst}
 use Rattle.std.specs.Prelude.{IfOk}
-use Rattle.kv_model.specs.History.{KeyValue}
+use Rattle.kv_model.specs.declared.version.KeyRange.{KeyRange}
 use Rattle.kv_model.specs.Ranges.{live}
-use Rattle.version_table.proofs.Changes.{find-latest}
-use Rattle.key_index.specs.Agrees.{read_entry}
-use Rattle.key_index.specs.Lent.{entry_of}
-use Rattle.key_index.proofs.Walks.{live-agrees}
 use Rattle.range_view.specs.Selecting.{IsFound}
+use Rattle.range_view.proofs.Live.{only_key}
 use Rattle.range_view.proofs.view.View.walk.Goals as goal
 
-pub returns : goal.returns
-returns c =
-    let vs = c.self.inside.table.now in
-    let q = c.args.query.now in
-    let seen : filter_map (read_entry vs c.args.place) (map entry_of c.deref.result.now) ≡ live vs c.args.place q.range =
-    ap (λ xs. filter_map (read_entry vs c.args.place) (map entry_of xs)) c.deref.ensures.value
-    ∙ ap (filter_map (read_entry vs c.args.place)) c.in_ok-keys.ensures.keys
-    ∙ sym (live-agrees c.self.inside.index.now vs c.args.place q.range c.self.invariant.agrees (find-latest vs c.self.invariant.rising)) in
-    rw (← c.self.view_is) (subst (λ (kvs : List KeyValue). IfOk c.collect.result (λ found. IsFound q found kvs)) seen c.collect.ensures)
+pub returns-then-is_empty : goal.returns-then-is_empty
+returns-then-is_empty c =
+    subst (λ (r : KeyRange). IfOk c.walk_one.result (λ found. IsFound c.args.query.now found (live c.args.self.now.versions c.args.place r)))
+    (only_key c.args.query.now.range (sym c.is_empty.ensures ∙ c.if-is_empty.true)) c.walk_one.ensures
