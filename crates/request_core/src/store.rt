@@ -196,3 +196,15 @@ fn batch_of(alloc: Global, versions: &[Version]) -> Result<Op, AllocError>
 {
     Ok(Op::Batch(Vec::from_clones(alloc, versions)?))
 }
+
+#[cfg(test)]
+impl Core {
+    /// A core that keeps no version, at the last revision but one.
+    pub(crate) fn at_last_but_one(alloc: Global) -> Self {
+        Core {
+            alloc,
+            tables: Tables::at(alloc, LAST_MAIN - 1),
+            stamp: 0,
+        }
+    }
+}

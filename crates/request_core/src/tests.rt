@@ -1,6 +1,6 @@
 //! What no clause says: that calls succeed with ample memory, and what a sink that refuses leaves.
 use crate::answer::{Answer, Status};
-use crate::store::Core;
+use crate::store::{Core, LAST_MAIN};
 use bytes::Bytes;
 use kv_model::call::{Command, DeleteRequest, PutRequest, RangeQuery, SortOrder, SortTarget};
 use kv_model::feed::{Op, Sink};
@@ -201,6 +201,23 @@ fn a_delete_of_nothing(rt: HostRuntime) -> Result<(), Fail> {
     drop(before);
     assert_eq!(rt; core.status().revision, 5);
     assert_eq!(rt; core.stamp(), 4);
+    Ok(())
+}
+
+/// At the last revision but one a change is accepted, and the next one is refused.
+#[test]
+fn the_greatest_revision(rt: HostRuntime) -> Result<(), Fail> {
+    let mut core = Core::at_last_but_one(rt.alloc());
+    assert_eq!(rt; done(&mut core, &put(b"a", b"1"))?, LAST_MAIN);
+    assert_eq!(rt;
+        refused(&mut core, &put(b"a", b"2")),
+        Some(Refusal::RevisionsSpent)
+    );
+    assert_eq!(rt;
+        refused(&mut core, &delete(b"a", b"")),
+        Some(Refusal::RevisionsSpent)
+    );
+    assert_eq!(rt; Refusal::RevisionsSpent.number(), 17);
     Ok(())
 }
 
