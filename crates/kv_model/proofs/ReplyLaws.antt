@@ -1,35 +1,24 @@
 -- What the operations of a transaction are answered, read in a good part and in the whole history, both with its changes.
-use Rattle.std.proofs.Common.{◌≡◌, ◌≤◌, ◌<◌, ◌≢◌, ℕ, zero, suc, ◌+◌, ◌-◌, ℤ, List, [], ◌∷◌, ◌++◌, length, Bool, true, false, cond, Option, None, Some, refl, sym, ◌∙◌, ap, subst, arith}
-use Rattle.std.specs.Prelude.{pos, negsuc, ⊤}
-use Rattle.std.specs.Option.{option_or}
-use Rattle.kv_model.specs.declared.version.Rev.{Rev}
+use Rattle.std.proofs.Common.{◌≡◌, ◌≤◌, ℕ, zero, suc, ◌+◌, ◌-◌, ℤ, List, ◌++◌, length, Bool, true, None, refl, sym, ◌∙◌, ap, subst, arith}
+use Rattle.std.specs.Prelude.{pos, negsuc}
 use Rattle.kv_model.specs.declared.version.Version.{Version}
 use Rattle.kv_model.specs.declared.version.KeyRange.{KeyRange}
 use Rattle.kv_model.specs.declared.call.RangeQuery.{RangeQuery}
-use Rattle.kv_model.specs.declared.refusal.Refusal.{Refusal}
 use Rattle.kv_model.specs.History.{Mutation, IsHistory, now, dress, value_at, end_of, rev_le}
 use Rattle.kv_model.specs.Ranges.{live, range_reply, reply_from, read_place, revision_refusal}
 use Rattle.kv_model.specs.Txns.{Path, Replies, place_before, previous_value, if_asked, changes_of, replies_of, put_refusal}
-use Rattle.kv_model.specs.Plans.{planned_refusal}
+use Rattle.kv_model.specs.Plans.{planned_refusal, ReadsKept}
 use Rattle.kv_model.specs.Questions.{IsKept, IsGood}
 use Rattle.kv_model.proofs.KeyLaws.{live-same}
-use Rattle.kv_model.proofs.PlaceLaws.{AreBy, each-map, each-part, each-dressed, mains-by, now-above, rev_le-before, value_at-by, value_at-grows}
-use Rattle.kv_model.proofs.GoodLaws.{or-none, or-none-first, read-kept, now-kept, good-value_now, good-value_at}
+use Rattle.kv_model.proofs.PlaceLaws.{AreBy, each-map, each-part, each-dressed, mains-by, rev_le-before, value_at-by, value_at-grows}
+use Rattle.kv_model.proofs.GoodLaws.{or-none, or-none-first, read-kept, good-value_now, good-value_at}
 
 -- at these places two lists hold the same: at the end of each kept revision, and within the next
 pub record SeesSame (c n : ℕ) (us vs : List Version) : Type 0 where
   pub kept : (r : ℕ) → IsKept c n r → (k : List ℕ) → value_at us (end_of r) k ≡ value_at vs (end_of r) k
   pub within : (sub : ℕ) (k : List ℕ) → value_at us (record { main = n + 1; sub = sub }) k ≡ value_at vs (record { main = n + 1; sub = sub }) k
 
--- each Range of the path reads a revision that is kept, or none of its own
-abbrev pub ReadsKept : ℕ → ℕ → Path → Type 0
-ReadsKept c n Path.end = ⊤
-ReadsKept c n (Path.range q rest) = (revision_refusal c n q.revision ≡ None) × ReadsKept c n rest
-ReadsKept c n (Path.put p rest) = ReadsKept c n rest
-ReadsKept c n (Path.delete d rest) = ReadsKept c n rest
-ReadsKept c n (Path.txn b inner rest) = ReadsKept c n inner × ReadsKept c n rest
-
--- so it is where the path is not refused
+-- each Range of a path that is not refused reads what is kept
 pub not-refused-reads : (granted : ℤ → Bool) (c n : ℕ) (vs : List Version) (q : Path) → planned_refusal granted c n vs q ≡ None → ReadsKept c n q
 unfolding planned_refusal
 not-refused-reads granted c n vs Path.end e = tt

@@ -1,13 +1,12 @@
 -- What a transaction is answered and what it changes, told over a store that stands for the world.
-use Rattle.std.proofs.Common.{◌≡◌, ◌≤◌, ◌<◌, ◌≢◌, ℕ, zero, suc, ◌+◌, ◌^◌, List, [], ◌∷◌, ◌++◌, length, Bool, true, false, cond, Option, None, Some, Result, Ok, Err, refl, sym, ◌∙◌, ap, subst, arith}
-use Rattle.std.specs.Option.{option_or}
+use Rattle.std.proofs.Common.{◌≡◌, ◌≤◌, ℕ, ◌+◌, ◌^◌, List, [], ◌++◌, length, Option, None, Some, Err, refl, sym, ◌∙◌, ap, subst, arith}
 use Rattle.kv_model.specs.declared.version.Version.{Version}
 use Rattle.kv_model.specs.declared.call.Compare.{Compare}
 use Rattle.kv_model.specs.declared.refusal.Refusal.{Refusal}
-use Rattle.kv_model.specs.History.{Mutation, IsBatch, now, dress, value_at, end_of}
+use Rattle.kv_model.specs.History.{Mutation, IsBatch, value_at, end_of}
 use Rattle.kv_model.specs.Calls.{Call, Ops}
 use Rattle.kv_model.specs.Txns.{Path, path_of, effect, run_refusal, replies_of, static_fault, extend_all, added_by}
-use Rattle.kv_model.specs.Plans.{planned, planned_refusal}
+use Rattle.kv_model.specs.Plans.{ReadsKept}
 use Rattle.kv_model.specs.Leases.{is_granted}
 use Rattle.kv_model.specs.Told.{Reply}
 use Rattle.kv_model.specs.World.{World, revision, versions, changed}
@@ -20,7 +19,7 @@ use Rattle.kv_model.proofs.SameLaws.{effect-same, run_refusal-same, path_of-same
 use Rattle.kv_model.proofs.PlanLaws.{NoClash, effect-planned, refusal-planned}
 use Rattle.kv_model.proofs.PlanBatch.{HasKeys, planned-batch}
 use Rattle.kv_model.proofs.PathLaws.{path-checked}
-use Rattle.kv_model.proofs.ReplyLaws.{ReadsKept, not-refused-reads, same-replies, good-sees}
+use Rattle.kv_model.proofs.ReplyLaws.{not-refused-reads, same-replies, good-sees}
 use Rattle.kv_model.proofs.StandsLaws.{value_stands, value_now_stands, store-given, grown_stands}
 use Rattle.kv_model.proofs.StandsCommands.{store-one}
 

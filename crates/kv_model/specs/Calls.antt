@@ -6,7 +6,7 @@ use Rattle.kv_model.specs.declared.call.DeleteRequest.{DeleteRequest}
 use Rattle.kv_model.specs.declared.call.Compare.{Compare}
 use Rattle.kv_model.specs.declared.call.Watched.{Watched}
 use Rattle.kv_model.specs.declared.call.Command.{Command}
-use Rattle.kv_model.specs.declared.call.Command.TheVariants.{Range, Put, Delete}
+use Rattle.kv_model.specs.declared.call.Command.TheVariants as command
 use Rattle.kv_model.specs.declared.call.Operation.{Operation, fold-Operation}
 use Rattle.kv_model.specs.declared.call.Operation.TheOpen.{Operation-F, Txn-F}
 use Rattle.kv_model.specs.declared.call.Txn.{Txn, fold-Txn}
@@ -64,8 +64,22 @@ txn_view = fold-Txn Ops Ops op_step txn_step
 abbrev pub ops_view : List Operation → Ops
 ops_view os = joined (map op_view os)
 
+-- the call that a row of one operation asks for
+abbrev pub as_call : Ops → Call
+as_call Ops.no_ops = Call.txn [] Ops.no_ops Ops.no_ops
+as_call (Ops.range q rest) = Call.range q
+as_call (Ops.put p rest) = Call.put p
+as_call (Ops.delete d rest) = Call.delete d
+as_call (Ops.txn cs s f rest) = Call.txn cs s f
+
 -- a command of the program, as plain data
 abbrev pub call_of : Command → Call
-call_of (Range q) = Call.range q
-call_of (Put p) = Call.put p
-call_of (Delete d) = Call.delete d
+call_of (command.Range q) = Call.range q
+call_of (command.Put p) = Call.put p
+call_of (command.Delete d) = Call.delete d
+call_of (command.Txn t) = as_call (txn_view t)
+call_of (command.Grant ttl id) = Call.grant ttl id
+call_of (command.Revoke id) = Call.revoke id
+call_of (command.KeepAlive id) = Call.keep_alive id
+call_of (command.TimeToLive id keys) = Call.time_to_live id keys
+call_of command.Leases = Call.leases

@@ -1,6 +1,6 @@
 -- The changes of a transaction in which nothing clashes, told from the state before it: a key that is put is touched by
 -- nothing else, and a delete takes what no earlier delete has taken.
-use Rattle.std.specs.Prelude.{ℕ, ◌+◌, ℤ, List, [], ◌∷◌, ◌++◌, length, filter, Bool, not, Option, None}
+use Rattle.std.specs.Prelude.{◌≡◌, ℕ, ℤ, List, [], ◌∷◌, ◌++◌, length, filter, Bool, not, Option, None, ⊤}
 use Rattle.std.specs.Option.{option_or}
 use Rattle.std.specs.List.{list_any}
 use Rattle.kv_model.specs.declared.version.Version.{Version}
@@ -41,3 +41,11 @@ planned_refusal granted c now vs (Path.range q rest) = option_or (revision_refus
 planned_refusal granted c now vs (Path.put p rest) = option_or (put_refusal granted vs p) (planned_refusal granted c now vs rest)
 planned_refusal granted c now vs (Path.delete d rest) = planned_refusal granted c now vs rest
 planned_refusal granted c now vs (Path.txn b inner rest) = option_or (planned_refusal granted c now vs inner) (planned_refusal granted c now vs rest)
+
+-- each Range of the path reads a revision that is kept, or none of its own
+abbrev pub ReadsKept : ℕ → ℕ → Path → Type 0
+ReadsKept c n Path.end = ⊤
+ReadsKept c n (Path.range q rest) = (revision_refusal c n q.revision ≡ None) × ReadsKept c n rest
+ReadsKept c n (Path.put p rest) = ReadsKept c n rest
+ReadsKept c n (Path.delete d rest) = ReadsKept c n rest
+ReadsKept c n (Path.txn b inner rest) = ReadsKept c n inner × ReadsKept c n rest

@@ -25,7 +25,7 @@ use Rattle.kv_model.specs.declared.call.Operand.{Operand}
 use Rattle.kv_model.specs.declared.call.Operand.TheVariants.{OfVersion, OfCreate, OfMod, OfValue, OfLease}
 use Rattle.kv_model.specs.Lists.{is_empty}
 use Rattle.kv_model.specs.Keys.{same_key}
-use Rattle.kv_model.specs.Calls.{Call, Ops, joined}
+use Rattle.kv_model.specs.Calls.{Call, Ops, joined, as_call}
 
 -- why a request is not read
 pub data Bad : Type 0 where
@@ -145,14 +145,6 @@ abbrev pub each : {X : Type 0} → (Data → Read X) → Items → Read (List X)
 each f Items.no_items = Ok []
 each f (Items.item d ds) = f d >>= λ x. each f ds >>= λ xs. Ok (x ∷ xs)
 
--- a field that is read in its place and has no effect yet: a value that is not its default is refused
-abbrev pub unbuilt : {X : Type 0} → (X → Bool) → List ℕ → Read X → Read X
-unbuilt is_default name (Ok x) = if is_default x then Ok x else Err (bad_field name)
-unbuilt is_default name (Err e) = Err e
-
-abbrev pub is_zero : ℤ → Bool
-is_zero n = int_eq n (pos 0)
-
 -- ---- enums
 
 abbrev pub sort_orders : List (List ℕ × SortOrder)
@@ -222,7 +214,7 @@ unfoldable pub put_request : Members → Read PutRequest
 put_request ms = do
   key ← bytes_field (codes "key") ms
   value ← bytes_field (codes "value") ms
-  lease ← unbuilt is_zero (codes "lease") (integer_field (codes "lease") ms)
+  lease ← integer_field (codes "lease") ms
   prev_kv ← truth_field (codes "prev_kv") ms
   ignore_value ← truth_field (codes "ignore_value") ms
   ignore_lease ← truth_field (codes "ignore_lease") ms
@@ -281,6 +273,9 @@ branch txn name ms = do
   Ok (joined ops)
 
 -- A transaction, as a row of one. Transactions nest to this depth at most; a body that `serde_json` reads nests to 127, and each transaction takes three levels.
+abbrev pub most_nested : ℕ
+most_nested = 127
+
 unfoldable pub txn_request : ℕ → Members → Read Ops
 txn_request zero ms = Err not_json
 txn_request (suc depth) ms = do
@@ -289,13 +284,6 @@ txn_request (suc depth) ms = do
   success ← branch (txn_request depth) (codes "success") ms
   failure ← branch (txn_request depth) (codes "failure") ms
   Ok (Ops.txn compares success failure Ops.no_ops)
-
-abbrev pub as_call : Ops → Call
-as_call Ops.no_ops = Call.txn [] Ops.no_ops Ops.no_ops
-as_call (Ops.range q rest) = Call.range q
-as_call (Ops.put p rest) = Call.put p
-as_call (Ops.delete d rest) = Call.delete d
-as_call (Ops.txn cs s f rest) = Call.txn cs s f
 
 abbrev pub filter_request : Data → Read Filter
 filter_request d = some_or (bad_field (codes "filters")) (enum_of filters d)
@@ -346,6 +334,15 @@ abbrev pub paths : List (List ℕ × (Members → Read Call))
 paths = (codes "/v3/kv/range", λ ms. range_query ms >>= λ q. Ok (Call.range q))
     ∷ (codes "/v3/kv/put", λ ms. put_request ms >>= λ p. Ok (Call.put p))
     ∷ (codes "/v3/kv/deleterange", λ ms. delete_request ms >>= λ d. Ok (Call.delete d))
+    ∷ (codes "/v3/kv/txn", λ ms. txn_request most_nested ms >>= λ t. Ok (as_call t))
+    ∷ (codes "/v3/lease/grant", grant_request)
+    ∷ (codes "/v3/lease/revoke", id_request Call.revoke)
+    ∷ (codes "/v3/kv/lease/revoke", id_request Call.revoke)
+    ∷ (codes "/v3/lease/keepalive", id_request Call.keep_alive)
+    ∷ (codes "/v3/lease/timetolive", time_to_live_request)
+    ∷ (codes "/v3/kv/lease/timetolive", time_to_live_request)
+    ∷ (codes "/v3/lease/leases", λ ms. Ok Call.leases)
+    ∷ (codes "/v3/kv/lease/leases", λ ms. Ok Call.leases)
     ∷ []
 
 abbrev pub longest_body : ℕ

@@ -6,10 +6,10 @@ use Rattle.std.specs.Fmt.{digits}
 use Rattle.base64.specs.Rfc4648.{encode_symbols}
 use Rattle.base64.specs.Decode.{groups_error, groups_bytes, scan_steps}
 use Rattle.kv_model.specs.World.{World, opening}
-use Rattle.kv_model.specs.Requests.{request_of, range_query, put_request, delete_request, decoded}
+use Rattle.kv_model.specs.Requests.{request_of, range_query, put_request, delete_request, compare_request, txn_request, grant_request, time_to_live_request, decoded}
 use Rattle.kv_model.specs.declared.ids.Ids.{Ids}
-use Rattle.kv_model.specs.Answers.{Response, bytes_text, header, key_value_text, range_text, put_text, delete_text, reply_text, fault_text}
-use Rattle.kv_model.specs.Wire.{reply_to}
+use Rattle.kv_model.specs.Answers.{Response, bytes_text, header, key_value_text, range_text, put_text, delete_text, txn_text, short_header, response, responses, header_alone, result_text, lease_text, reply_text, fault_text}
+use Rattle.kv_model.specs.Wire.{WireEvent, wire_step, reply_to}
 use Rattle.kv_model.specs.OnLiterals.{model_on_literals}
 
 abbrev pub ones : Ids
@@ -17,7 +17,7 @@ ones = record { cluster = 1; member = 1 }
 
 -- an `unfolding` line that names this opens the definitions of requests and answers
 unfoldable pub wire_on_literals : ⊤
-unfolding request_of range_query put_request delete_request decoded bytes_text header key_value_text range_text put_text delete_text reply_text fault_text
+unfolding request_of range_query put_request delete_request compare_request txn_request grant_request time_to_live_request decoded bytes_text header key_value_text range_text put_text delete_text txn_text short_header response responses header_alone result_text lease_text reply_text fault_text
 wire_on_literals = tt
 
 -- what is answered to requests in turn
@@ -53,10 +53,22 @@ pub alphabets : posts opening ((codes "/v3/kv/put", codes "{\"key\":\"/+8=\"}") 
 unfolding model_on_literals wire_on_literals serde_json_on_literals is_utf8 chars digits encode_symbols groups_error groups_bytes scan_steps
 alphabets = refl
 
-pub not_built_yet : posts opening ((codes "/v3/kv/put", codes "{\"key\":\"Zm9v\",\"lease\":\"1\"}") ∷ (codes "/v3/kv/put", codes "{\"key\":\"Zm9v\",\"lease\":\"0\"}") ∷ [])
-    ≡ record { status = 400; body = codes "{\"code\":3,\"error\":\"gateway: bad field lease\",\"message\":\"gateway: bad field lease\"}" } ∷ ok (codes "{\"header\":{\"cluster_id\":\"1\",\"member_id\":\"1\",\"raft_term\":\"1\",\"revision\":\"2\"}}") ∷ []
+pub within_a_transaction : posts opening ((codes "/v3/kv/txn", codes "{\"success\":[{\"request_put\":{\"key\":\"eA==\",\"value\":\"MQ==\"}},{\"request_range\":{\"key\":\"AA==\",\"range_end\":\"AA==\"}},{\"request_put\":{\"key\":\"eQ==\",\"value\":\"Mg==\"}},{\"request_range\":{\"key\":\"AA==\",\"range_end\":\"AA==\"}}]}") ∷ [])
+    ≡ ok (codes "{\"header\":{\"cluster_id\":\"1\",\"member_id\":\"1\",\"raft_term\":\"1\",\"revision\":\"2\"},\"responses\":[{\"response_put\":{\"header\":{\"revision\":\"2\"}}},{\"response_range\":{\"count\":\"1\",\"header\":{\"revision\":\"2\"},\"kvs\":[{\"create_revision\":\"2\",\"key\":\"eA==\",\"mod_revision\":\"2\",\"value\":\"MQ==\",\"version\":\"1\"}]}},{\"response_put\":{\"header\":{\"revision\":\"2\"}}},{\"response_range\":{\"count\":\"2\",\"header\":{\"revision\":\"2\"},\"kvs\":[{\"create_revision\":\"2\",\"key\":\"eA==\",\"mod_revision\":\"2\",\"value\":\"MQ==\",\"version\":\"1\"},{\"create_revision\":\"2\",\"key\":\"eQ==\",\"mod_revision\":\"2\",\"value\":\"Mg==\",\"version\":\"1\"}]}}],\"succeeded\":true}") ∷ []
 unfolding model_on_literals wire_on_literals serde_json_on_literals is_utf8 chars digits encode_symbols groups_error groups_bytes scan_steps
-not_built_yet = refl
+within_a_transaction = refl
+
+pub nested : posts opening ((codes "/v3/kv/txn", codes "{\"success\":[{\"request_put\":{\"key\":\"eA==\"}},{\"request_txn\":{\"compare\":[{\"key\":\"eA==\",\"target\":\"VERSION\",\"result\":\"EQUAL\",\"version\":\"0\"}],\"success\":[{\"request_put\":{\"key\":\"eQ==\",\"value\":\"MQ==\"}}],\"failure\":[{\"request_put\":{\"key\":\"eQ==\",\"value\":\"Mg==\"}}]}}]}")
+    ∷ (codes "/v3/kv/txn", codes "{\"success\":[{\"request_put\":{\"key\":\"eA==\"}},{\"request_txn\":{\"compare\":[{\"key\":\"eA==\",\"target\":\"VERSION\",\"result\":\"EQUAL\",\"version\":\"0\"}],\"success\":[{\"request_put\":{\"key\":\"eA==\",\"value\":\"MQ==\"}}],\"failure\":[{\"request_put\":{\"key\":\"eA==\",\"value\":\"Mg==\"}}]}}]}") ∷ [])
+    ≡ ok (codes "{\"header\":{\"cluster_id\":\"1\",\"member_id\":\"1\",\"raft_term\":\"1\",\"revision\":\"2\"},\"responses\":[{\"response_put\":{\"header\":{\"revision\":\"2\"}}},{\"response_txn\":{\"header\":{\"revision\":\"2\"},\"responses\":[{\"response_put\":{\"header\":{\"revision\":\"2\"}}}],\"succeeded\":true}}],\"succeeded\":true}")
+    ∷ record { status = 400; body = codes "{\"code\":3,\"error\":\"etcdserver: duplicate key given in txn request\",\"message\":\"etcdserver: duplicate key given in txn request\"}" } ∷ []
+unfolding model_on_literals wire_on_literals serde_json_on_literals is_utf8 chars digits encode_symbols groups_error groups_bytes scan_steps
+nested = refl
+
+pub nine_deep : posts opening ((codes "/v3/kv/txn", codes "{\"success\":[{\"request_txn\":{\"success\":[{\"request_txn\":{\"success\":[{\"request_txn\":{\"success\":[{\"request_txn\":{\"success\":[{\"request_txn\":{\"success\":[{\"request_txn\":{\"success\":[{\"request_txn\":{\"success\":[{\"request_txn\":{\"success\":[]}}]}}]}}]}}]}}]}}]}}]}}]}") ∷ [])
+    ≡ record { status = 400; body = codes "{\"code\":3,\"error\":\"etcdserver: too many operations in txn request\",\"message\":\"etcdserver: too many operations in txn request\"}" } ∷ []
+unfolding model_on_literals wire_on_literals serde_json_on_literals is_utf8 chars digits encode_symbols groups_error groups_bytes scan_steps
+nine_deep = refl
 
 pub no_such_path : posts opening ((codes "/v3/nothing", codes "{}") ∷ (codes "/v3/kv/put", codes "{\"key\":\"YQ==\",\"ignore_value\":true}") ∷ [])
     ≡ record { status = 404; body = codes "{\"code\":5,\"error\":\"gateway: no such path\",\"message\":\"gateway: no such path\"}" } ∷ record { status = 400; body = codes "{\"code\":3,\"error\":\"etcdserver: key not found\",\"message\":\"etcdserver: key not found\"}" } ∷ []
@@ -96,3 +108,50 @@ pub old_revisions : posts opening ((codes "/v3/kv/put", codes "{\"key\":\"YQ==\"
     ∷ record { status = 400; body = codes "{\"code\":11,\"error\":\"etcdserver: mvcc: required revision is a future revision\",\"message\":\"etcdserver: mvcc: required revision is a future revision\"}" } ∷ []
 unfolding model_on_literals wire_on_literals serde_json_on_literals is_utf8 chars digits encode_symbols groups_error groups_bytes scan_steps
 old_revisions = refl
+
+-- ---- runs with moments and expiries
+
+pub data Wired : Type 0 where
+  post : List ℕ → List ℕ → Wired
+  moment : ℕ → Wired
+  expire : Wired
+
+pub data Said : Type 0 where
+  reply : Response → Said
+  quiet : Said
+
+abbrev pub wired : World → Wired → Said × World
+wired w (Wired.post path body) = (Said.reply (reply_to ones w path body).0, (reply_to ones w path body).1)
+wired w (Wired.moment m) = (Said.quiet, (wire_step ones w (WireEvent.moment m)).1)
+wired w Wired.expire = (Said.quiet, (wire_step ones w WireEvent.expire).1)
+
+abbrev pub run_wired : World → List Wired → List Said
+run_wired w [] = []
+run_wired w (e ∷ es) = (wired w e).0 ∷ run_wired (wired w e).1 es
+
+pub a_lease : run_wired opening (Wired.moment 1000
+    ∷ Wired.post (codes "/v3/lease/grant") (codes "{\"TTL\":\"10\",\"ID\":\"7\"}")
+    ∷ Wired.post (codes "/v3/kv/put") (codes "{\"key\":\"YQ==\",\"value\":\"MQ==\",\"lease\":\"7\"}")
+    ∷ Wired.post (codes "/v3/kv/put") (codes "{\"key\":\"Yg==\",\"value\":\"MQ==\",\"lease\":\"7\"}")
+    ∷ Wired.post (codes "/v3/kv/put") (codes "{\"key\":\"Yg==\",\"value\":\"MQ==\"}")
+    ∷ Wired.post (codes "/v3/kv/put") (codes "{\"key\":\"Yw==\",\"value\":\"MQ==\",\"lease\":\"7\"}")
+    ∷ Wired.post (codes "/v3/lease/timetolive") (codes "{\"ID\":\"7\",\"keys\":true}")
+    ∷ Wired.moment 11000
+    ∷ Wired.expire
+    ∷ Wired.post (codes "/v3/lease/keepalive") (codes "{\"ID\":\"7\"}")
+    ∷ Wired.post (codes "/v3/lease/timetolive") (codes "{\"ID\":\"7\"}")
+    ∷ Wired.post (codes "/v3/lease/revoke") (codes "{\"ID\":\"7\"}") ∷ [])
+    ≡ Said.quiet
+    ∷ Said.reply (record { status = 200; body = codes "{\"ID\":\"7\",\"TTL\":\"10\",\"header\":{\"cluster_id\":\"1\",\"member_id\":\"1\",\"raft_term\":\"1\",\"revision\":\"1\"}}" })
+    ∷ Said.reply (record { status = 200; body = codes "{\"header\":{\"cluster_id\":\"1\",\"member_id\":\"1\",\"raft_term\":\"1\",\"revision\":\"2\"}}" })
+    ∷ Said.reply (record { status = 200; body = codes "{\"header\":{\"cluster_id\":\"1\",\"member_id\":\"1\",\"raft_term\":\"1\",\"revision\":\"3\"}}" })
+    ∷ Said.reply (record { status = 200; body = codes "{\"header\":{\"cluster_id\":\"1\",\"member_id\":\"1\",\"raft_term\":\"1\",\"revision\":\"4\"}}" })
+    ∷ Said.reply (record { status = 200; body = codes "{\"header\":{\"cluster_id\":\"1\",\"member_id\":\"1\",\"raft_term\":\"1\",\"revision\":\"5\"}}" })
+    ∷ Said.reply (record { status = 200; body = codes "{\"ID\":\"7\",\"TTL\":\"10\",\"grantedTTL\":\"10\",\"header\":{\"cluster_id\":\"1\",\"member_id\":\"1\",\"raft_term\":\"1\",\"revision\":\"5\"},\"keys\":[\"YQ==\",\"Yw==\"]}" })
+    ∷ Said.quiet
+    ∷ Said.quiet
+    ∷ Said.reply (record { status = 200; body = codes "{\"result\":{\"ID\":\"7\",\"header\":{\"cluster_id\":\"1\",\"member_id\":\"1\",\"raft_term\":\"1\",\"revision\":\"6\"}}}" })
+    ∷ Said.reply (record { status = 200; body = codes "{\"ID\":\"7\",\"TTL\":\"-1\",\"header\":{\"cluster_id\":\"1\",\"member_id\":\"1\",\"raft_term\":\"1\",\"revision\":\"6\"}}" })
+    ∷ Said.reply (record { status = 404; body = codes "{\"code\":5,\"error\":\"etcdserver: requested lease not found\",\"message\":\"etcdserver: requested lease not found\"}" }) ∷ []
+unfolding model_on_literals wire_on_literals serde_json_on_literals is_utf8 chars digits encode_symbols groups_error groups_bytes scan_steps
+a_lease = refl

@@ -111,4 +111,16 @@ pub enum Command {
     Put(PutRequest),
     /// Deletes the live keys of a range.
     Delete(DeleteRequest),
+    /// Compares, and does one of two lists of operations as one change.
+    Txn(Txn),
+    /// Grants a lease of `ttl` seconds under an ID, where 0 asks for a free one.
+    Grant { ttl: i64, id: i64 },
+    /// Revokes a lease and deletes its keys.
+    Revoke { id: i64 },
+    /// Renews a lease.
+    KeepAlive { id: i64 },
+    /// Asks how long a lease still has and, where `keys` says so, for its keys.
+    TimeToLive { id: i64, keys: bool },
+    /// Asks for the IDs of all leases.
+    Leases,
 }
