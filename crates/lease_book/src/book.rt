@@ -81,6 +81,13 @@ impl LeaseBook {
         self.clock
     }
 
+    /// The clock, in milliseconds: the greatest moment so far, at first 0. Takes no memory. Constant time.
+    pub fn clock(&self) -> u64
+        ensures { result ≡ self.now.clock }
+    {
+        self.clock
+    }
+
     /// Whether a lease has the ID. Takes no memory. Logarithmic time.
     pub fn is_granted(&self, id: i64) -> bool
         ensures { result ≡ is_granted self.now.leases id }
