@@ -27,3 +27,24 @@ pub struct RangeReply<'a> {
     /// The revision of the store that was read.
     pub revision: u64,
 }
+
+/// What an operation of a transaction is answered (the etcd documentation's ResponseOp).
+#[derive(Debug, Drop)]
+pub enum OpReply<'a> {
+    Range(RangeReply<'a>),
+    /// What the key held before the put; `None` where that is not asked for.
+    Put(Option<KvRef<'a>>),
+    Delete {
+        /// How many keys were deleted.
+        deleted: u64,
+        /// What they held before, in the order of the keys; empty where that is not asked for.
+        previous: Vec<KvRef<'a>>,
+    },
+    /// A transaction within.
+    Inner {
+        /// Whether its compares held.
+        succeeded: bool,
+        /// The answers to the operations of the branch that ran, in order.
+        replies: Vec<OpReply<'a>>,
+    },
+}

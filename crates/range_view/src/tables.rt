@@ -131,6 +131,13 @@ impl Tables {
         )
     }
 
+    /// What is kept, seen at a place by a transaction that began at a revision: no Range of it reads a later revision.
+    pub fn view_before(&self, revision: u64, place: Rev) -> View<'_>
+        ensures { result ≡ record { versions = self.now.versions; compacted = self.now.compacted; revision = revision; place = place } }
+    {
+        View::new(&self.table, &self.index, self.compacted, revision, place)
+    }
+
     /// What is kept, seen at the end of the present revision.
     pub fn view(&self) -> View<'_>
         ensures { result ≡ seen_at (end_of self.now.revision) self.now }

@@ -98,6 +98,13 @@ fn modified(least: i64, greatest: i64) -> RangeQuery {
     query
 }
 
+/// A Range of every key, with the greatest revision of creation.
+fn created(greatest: i64) -> RangeQuery {
+    let mut query = every(0, 0);
+    query.max_create = greatest;
+    query
+}
+
 fn counted() -> RangeQuery {
     let mut query = every(0, 1);
     query.count_only = true;
@@ -179,6 +186,13 @@ fn reads_intervals(rt: HostRuntime) -> Result<(), Fail> {
         between(b"a", b"b"),
         (b"a", 1, false),
     )?;
+    expect(
+        &rt,
+        rt.alloc(),
+        &tables,
+        between(b"a", b"a\0"),
+        (b"a", 1, false),
+    )?;
     expect(&rt, rt.alloc(), &tables, every(5, 0), (b"abc", 3, false))
 }
 
@@ -188,7 +202,28 @@ fn cuts_and_filters(rt: HostRuntime) -> Result<(), Fail> {
     expect(&rt, rt.alloc(), &tables, every(0, 1), (b"a", 2, true))?;
     expect(&rt, rt.alloc(), &tables, every(0, 2), (b"ab", 2, false))?;
     expect(&rt, rt.alloc(), &tables, counted(), (b"", 2, false))?;
-    expect(&rt, rt.alloc(), &tables, modified(5, 0), (b"a", 2, false))
+    expect(&rt, rt.alloc(), &tables, modified(5, 0), (b"a", 2, false))?;
+    expect(&rt, rt.alloc(), &tables, modified(0, -1), (b"", 2, false))?;
+    expect(&rt, rt.alloc(), &tables, created(3), (b"a", 2, false))
+}
+
+/// The number of the bytes of the values that a Range of keys alone shows.
+fn bytes_of_values(alloc: Global, tables: &Tables) -> Result<usize, Refusal> {
+    let mut query = every(0, 0);
+    query.keys_only = true;
+    let reply = answer(alloc, tables, &query)?;
+    let mut bytes = 0;
+    for kv in &reply.kvs {
+        bytes |= kv.value.len();
+    }
+    Ok(bytes)
+}
+
+#[test]
+fn keys_only_shows_no_values(rt: HostRuntime) -> Result<(), Fail> {
+    let tables = tables(rt.alloc())?;
+    assert!(rt; bytes_of_values(rt.alloc(), &tables) == Ok(0));
+    Ok(())
 }
 
 #[test]
@@ -251,6 +286,30 @@ fn takes_a_revision_back(rt: HostRuntime) -> Result<(), Fail> {
     assert_eq!(rt; tables.revision(), 5);
     assert_eq!(rt; tables.versions().len(), 4);
     assert_eq!(rt; version_at(&tables, 5, b"c"), Some(1));
+    Ok(())
+}
+
+/// Whether tombstones of a and b at two places may come next.
+fn takes(
+    alloc: Global,
+    tables: &Tables,
+    first: (u64, u64),
+    second: (u64, u64),
+) -> Result<bool, AllocError> {
+    let mut versions = Vec::new(alloc);
+    versions.push(tombstone(first.0, first.1, b"a"))?;
+    versions.push(tombstone(second.0, second.1, b"b"))?;
+    Ok(tables.takes(&versions))
+}
+
+#[test]
+fn takes_the_next_revision_alone(rt: HostRuntime) -> Result<(), Fail> {
+    let tables = tables(rt.alloc())?;
+    assert!(rt; tables.takes(&[]));
+    assert!(rt; takes(rt.alloc(), &tables, (7, 0), (7, 1))?);
+    assert!(rt; !takes(rt.alloc(), &tables, (7, 1), (7, 1))?);
+    assert!(rt; !takes(rt.alloc(), &tables, (7, 0), (8, 0))?);
+    assert!(rt; !takes(rt.alloc(), &tables, (8, 0), (8, 1))?);
     Ok(())
 }
 
