@@ -1,1 +1,10 @@
+pub mod Clashing
+pub mod Counting
+pub mod Deciding
+pub mod Making
+pub mod PutCounts
+pub mod Running
+pub mod StaticFaults
+pub mod Stepping
 pub mod Walking
+pub mod Answering

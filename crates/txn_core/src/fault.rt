@@ -127,7 +127,7 @@ fn put_fault(put: &PutRequest) -> Option<Refusal>
     refuse_if(put.ignore_lease && put.lease != 0, Refusal::LeaseGiven)
 }
 
-fn is_empty(bytes: &Bytes) -> bool
+pub(crate) fn is_empty(bytes: &Bytes) -> bool
     ensures { result ≡ lists.is_empty bytes.now }
 {
     bytes.is_empty()

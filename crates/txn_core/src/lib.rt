@@ -1,8 +1,25 @@
-// What a transaction may ask, whatever the state.
+// Transactions: what is refused, which operations run, what they make, and what they are answered.
 #![tactic(auto)]
 
+mod changes;
+mod checking;
+mod clash;
+mod compare;
+mod deleted;
 mod fault;
+mod keys;
+#[cfg(test)]
+mod plan_tests;
+mod planning;
+mod put;
+mod reply;
+pub mod step;
 #[cfg(test)]
 mod tests;
+mod touched;
 
+pub use checking::check;
+pub use clash::{opposite_branches_do_not_clash, puts_are_alone};
 pub use fault::walk_fault;
+pub use planning::plan;
+pub use reply::replies;

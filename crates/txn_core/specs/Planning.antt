@@ -1,0 +1,102 @@
+-- The versions that a transaction makes, and its first refusal, told from what is seen at a place before it.
+use Rattle.std.specs.Prelude.{◌≡◌, ℕ, ◌+◌, ◌≤◌, ℤ, List, [], ◌∷◌, ◌++◌, length, Bool, true, false, ◌&&◌, ◌||◌, is_none, if◌then◌else◌, Option, None, Some, MatchBool, ⊤}
+use Rattle.std.specs.Option.{option_or}
+use Rattle.std.specs.List.{list_any, AllByRecursion}
+use Rattle.kv_model.specs.declared.version.Rev.{Rev}
+use Rattle.kv_model.specs.declared.version.Version.{Version}
+use Rattle.kv_model.specs.declared.version.Body.{Body}
+use Rattle.kv_model.specs.declared.version.Body.TheVariants.{Put, Gone}
+use Rattle.kv_model.specs.declared.call.PutRequest.{PutRequest}
+use Rattle.kv_model.specs.declared.refusal.Refusal.{Refusal}
+use Rattle.kv_model.specs.declared.refusal.Refusal.TheVariants.{Memory, KeyMissing}
+use Rattle.kv_model.specs.Keys.{same_key}
+use Rattle.kv_model.specs.History.{KeyValue, value_at, end_of}
+use Rattle.kv_model.specs.Ranges.{keys_of, live, revision_refusal, refuse_if}
+use Rattle.kv_model.specs.Step.{last_main}
+use Rattle.kv_model.specs.Txns.{Path, path_of, next_body, put_action, put_lease_refusal}
+use Rattle.kv_model.specs.Calls.{Ops}
+use Rattle.kv_model.specs.Leases.{Lease, is_granted}
+use Rattle.range_view.specs.Stored.{Viewed}
+use Rattle.txn_core.specs.Counted.{IsCountedTo}
+
+-- ---- what is deleted so far
+
+abbrev pub is_tombstone : Body → Bool
+is_tombstone (Put create version lease value) = false
+is_tombstone Gone = true
+
+-- the version is a tombstone of the key
+abbrev pub buries : List ℕ → Version → Bool
+buries k v = is_tombstone v.body && same_key v.key k
+
+-- one of the versions is a tombstone of the key
+abbrev pub is_gone : List Version → List ℕ → Bool
+is_gone ws k = list_any (buries k) ws
+
+abbrev pub tombstone : ℕ → ℕ → List ℕ → Version
+tombstone main sub k = record { rev = record { main = main; sub = sub }; key = k; body = Gone }
+
+-- with a tombstone of the key, if there is none yet
+abbrev pub with_grave : ℕ → List Version → List ℕ → List Version
+with_grave main ws k = if is_gone ws k then ws else ws ++ tombstone main (length ws) k ∷ []
+
+-- and of each of some keys
+abbrev pub with_graves : ℕ → List Version → List (List ℕ) → List Version
+with_graves main ws [] = ws
+with_graves main ws (k ∷ ks) = with_graves main (with_grave main ws k) ks
+
+-- ---- what a put makes
+
+-- the version that a put makes of a key that holds this
+abbrev pub put_version : ℕ → ℕ → PutRequest → Option KeyValue → Version
+put_version main sub p held = record { rev = record { main = main; sub = sub }; key = p.key; body = next_body main (put_action p held) held }
+
+-- why a put is refused where its key holds this
+abbrev pub held_refusal : (ℤ → Bool) → PutRequest → Option KeyValue → Option Refusal
+held_refusal granted p held = option_or (refuse_if ((p.ignore_value || p.ignore_lease) && is_none held) KeyMissing) (put_lease_refusal granted p)
+
+-- ---- the operations that run
+
+-- these versions, and behind them those of the path, numbered on
+unfoldable pub made : List Version → Rev → ℕ → List Version → Path → List Version
+made vs p main ws Path.end = ws
+made vs p main ws (Path.range q rest) = made vs p main ws rest
+made vs p main ws (Path.put r rest) = made vs p main (ws ++ put_version main (length ws) r (value_at vs p r.key) ∷ []) rest
+made vs p main ws (Path.delete d rest) = made vs p main (with_graves main ws (keys_of (live vs p d.range))) rest
+made vs p main ws (Path.txn b inner rest) = made vs p main (made vs p main ws inner) rest
+
+-- the first refusal of the operations that run, in order
+unfoldable pub refusal_of : (ℤ → Bool) → ℕ → ℕ → List Version → Rev → Path → Option Refusal
+refusal_of granted c now vs p Path.end = None
+refusal_of granted c now vs p (Path.range q rest) = option_or (revision_refusal c now q.revision) (refusal_of granted c now vs p rest)
+refusal_of granted c now vs p (Path.put r rest) = option_or (held_refusal granted r (value_at vs p r.key)) (refusal_of granted c now vs p rest)
+refusal_of granted c now vs p (Path.delete d rest) = refusal_of granted c now vs p rest
+refusal_of granted c now vs p (Path.txn b inner rest) = option_or (refusal_of granted c now vs p inner) (refusal_of granted c now vs p rest)
+
+abbrev pub is_memory : Refusal → Bool
+is_memory Memory = true
+is_memory _ = false
+
+-- a refusal is the first one, but for want of memory, which may come in its place
+abbrev pub IsRefusal : Refusal → Option Refusal → Type 0
+IsRefusal e first = MatchBool (is_memory e) ⊤ (first ≡ Some e)
+
+-- ---- the same, on a view
+
+abbrev pub path_in : Viewed → Ops → Path
+path_in v ops = path_of v.versions v.revision ops
+
+-- the versions that a path adds to those that are made already
+abbrev pub made_in : Viewed → List Version → Path → List Version
+made_in v ws q = made v.versions v.place (v.revision + 1) ws q
+
+abbrev pub refusal_in : Viewed → List Lease → Path → Option Refusal
+refusal_in v ls q = refusal_of (is_granted ls) v.compacted v.revision v.versions v.place q
+
+-- ---- what a transaction may be planned on
+
+-- the view is of the end of its revision, one more can be counted, and so can one put more of each key
+pub record IsPresent (v : Viewed) : Type 0 where
+  pub present : v.place ≡ end_of v.revision
+  pub countable : v.revision ≤ last_main
+  pub counted : AllByRecursion (λ w. IsCountedTo v.revision w.body) v.versions

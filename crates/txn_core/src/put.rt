@@ -1,0 +1,106 @@
+//! What a put of a transaction makes of its key.
+ghost use Rattle.std.specs.Prelude.{◌≡◌, IfOk, Some, None, option_map, false};
+ghost use Rattle.kv_model.specs.Txns as txns;
+ghost use Rattle.range_view.specs.Replies.{kv_view};
+ghost use Rattle.txn_core.specs.Counted.{CanCount};
+ghost use Rattle.txn_core.specs.Planning as planning;
+
+use bytes::Bytes;
+use kv_model::call::PutRequest;
+use kv_model::refusal::Refusal;
+use kv_model::version::{Body, Rev, Version};
+use range_view::reply::KvRef;
+use std::alloc::{AllocError, Global};
+
+/// Why a put is refused where its key holds this, by whether the lease that it names is granted: `KeyMissing` where it keeps
+/// what is not there, and `LeaseMissing` where it names a lease that is not granted. Takes no memory.
+pub(crate) fn held_refusal(
+    request: &PutRequest,
+    held: Option<KvRef<'_>>,
+    is_granted: bool,
+) -> Option<Refusal>
+    ensures { result ≡ planning.held_refusal (λ _. is_granted) request.now (option_map kv_view held.entry) }
+{
+    if (request.ignore_value || request.ignore_lease) && held.is_none() {
+        Some(Refusal::KeyMissing)
+    } else if request.lease != 0 && !is_granted {
+        Some(Refusal::LeaseMissing)
+    } else {
+        None
+    }
+}
+
+/// The version that a put makes at a place of a key that holds this. It shares the request's key and value; a value that is
+/// kept is copied. The error is want of memory.
+pub(crate) fn put_version(
+    alloc: Global,
+    rev: Rev,
+    request: &PutRequest,
+    held: Option<KvRef<'_>>,
+) -> Result<Version, AllocError>
+    requires { CanCount (option_map kv_view held) }
+    ensures { IfOk result (λ v. v ≡ planning.put_version rev.main rev.sub request.now (option_map kv_view held.entry)) }
+{
+    Ok(Version {
+        rev,
+        key: request.key.clone()?,
+        body: next_body(alloc, rev.main, request, held)?,
+    })
+}
+
+/// What a put makes at a revision of a key that holds this.
+fn next_body(
+    alloc: Global,
+    main: u64,
+    request: &PutRequest,
+    held: Option<KvRef<'_>>,
+) -> Result<Body, AllocError>
+    requires { CanCount (option_map kv_view held) }
+    ensures { IfOk result (λ b. b ≡ txns.next_body main (txns.put_action request.now (option_map kv_view held.entry)) (option_map kv_view held.entry)) }
+{
+    match held {
+        Some(kv) => body_after(alloc, request, kv),
+        None => first_body(main, request),
+    }
+}
+
+/// What a put makes of a key that holds something.
+fn body_after(alloc: Global, request: &PutRequest, kv: KvRef<'_>) -> Result<Body, AllocError>
+    requires { CanCount (Some (kv_view kv)) }
+    ensures { IfOk result (λ b. b ≡ txns.next_body kv.entry.modified (txns.put_action request.now (Some (kv_view kv.entry))) (Some (kv_view kv.entry))) }
+{
+    Ok(Body::Put {
+        create: kv.create,
+        version: kv.version + 1,
+        lease: if request.ignore_lease {
+            kv.lease
+        } else {
+            request.lease
+        },
+        value: if request.ignore_value {
+            Bytes::copy_from_slice(alloc, kv.value)?
+        } else {
+            request.value.clone()?
+        },
+    })
+}
+
+/// What a put makes at a revision of a key that holds nothing.
+fn first_body(main: u64, request: &PutRequest) -> Result<Body, AllocError>
+    ensures { IfOk result (λ b. b ≡ txns.next_body main (txns.put_action request.now None) None) }
+{
+    Ok(Body::Put {
+        create: main,
+        version: 1,
+        lease: if request.ignore_lease {
+            0
+        } else {
+            request.lease
+        },
+        value: if request.ignore_value {
+            Bytes::new()
+        } else {
+            request.value.clone()?
+        },
+    })
+}

@@ -1,0 +1,164 @@
+//! What the operations of a transaction are answered (the etcd documentation's TxnResponse).
+ghost use Rattle.std.specs.Prelude.{◌≡◌, ◌+◌, ◌<◌, ◌^◌, IfOk, map, length, option_map, None};
+ghost use Rattle.kv_model.specs.History.{value_at};
+ghost use Rattle.kv_model.specs.Plans.{ReadsKept};
+ghost use Rattle.kv_model.specs.Ranges as ranges;
+ghost use Rattle.kv_model.specs.Txns as txns;
+ghost use Rattle.range_view.specs.Replies.{kv_view, reply_view, op_reply_view, replies_view};
+ghost use Rattle.txn_core.specs.Steps.{step_view, steps_view};
+
+use crate::step::Step;
+use kv_model::call::{DeleteRequest, PutRequest, RangeQuery};
+use kv_model::version::Rev;
+use range_view::Tables;
+use range_view::reply::{KvRef, OpReply, RangeReply};
+use range_view::revision::end_of;
+use std::alloc::{AllocError, Global};
+
+/// The answers to the operations of a transaction that ran, in their order, read in the tables that have its changes. The
+/// transaction began at the revision `before`, and made its changes at the next; each operation reads what those before it left.
+/// No Range of them is refused at `before`.
+///
+/// `AllocError` comes where a list of answers, or of what one of them shows, found no memory.
+///
+/// A Range costs what `View::range` does, a put what `View::get` does where the key's value before is asked for and nothing where
+/// it is not, and a delete what `View::live` does. Keys and values are lent, and none is copied.
+pub fn replies<'a>(
+    alloc: Global,
+    tables: &'a Tables,
+    before: u64,
+    steps: &[Step<'_>],
+) -> Result<Vec<OpReply<'a>>, AllocError>
+    requires room { before + 1 < 2 ^ 64 }
+    requires reads { ReadsKept tables.now.compacted before (steps_view steps.now) }
+    requires changes { txns.changes_of tables.now.versions (before + 1) 0 (steps_view steps.now) < 2 ^ 64 }
+    ensures { IfOk result (λ rs. replies_view rs.items ≡ txns.replies_of tables.now.versions tables.now.compacted before 0 (steps_view steps.now)) }
+{
+    let (replies, _) = row_replies(alloc, tables, before, 0, steps)?;
+    Ok(replies)
+}
+
+/// The answers to operations in a row, and the number of the next change. The first one stands behind so many changes.
+#[cycle(reply)]
+fn row_replies<'a>(
+    alloc: Global,
+    tables: &'a Tables,
+    before: u64,
+    sub: u64,
+    steps: &[Step<'_>],
+) -> Result<(Vec<OpReply<'a>>, u64), AllocError>
+    requires room { before + 1 < 2 ^ 64 }
+    requires reads { ReadsKept tables.now.compacted before (steps_view steps.now) }
+    requires changes { sub + txns.changes_of tables.now.versions (before + 1) sub (steps_view steps.now) < 2 ^ 64 }
+    ensures replies { IfOk result (λ r. replies_view r.0.items ≡ txns.replies_of tables.now.versions tables.now.compacted before sub (steps_view steps.now)) }
+    ensures next { IfOk result (λ r. r.1 ≡ sub + txns.changes_of tables.now.versions (before + 1) sub (steps_view steps.now)) }
+{
+    let mut replies = Vec::new(alloc);
+    let mut next = sub;
+    for step in steps {
+        let (reply, after) = step_reply(alloc, tables, before, next, step)?;
+        replies.push(reply)?;
+        next = after;
+    }
+    Ok((replies, next))
+}
+
+/// The answer to an operation that stands behind so many changes, and the number of the next one.
+#[cycle(reply)]
+fn step_reply<'a>(
+    alloc: Global,
+    tables: &'a Tables,
+    before: u64,
+    sub: u64,
+    step: &Step<'_>,
+) -> Result<(OpReply<'a>, u64), AllocError>
+    requires room { before + 1 < 2 ^ 64 }
+    requires reads { ReadsKept tables.now.compacted before (step_view step.now txns.Path.end) }
+    requires changes { sub + txns.changes_of tables.now.versions (before + 1) sub (step_view step.now txns.Path.end) < 2 ^ 64 }
+    ensures replies { IfOk result (λ r. (rest : txns.Path) → op_reply_view r.0 (txns.replies_of tables.now.versions tables.now.compacted before r.1 rest)
+        ≡ txns.replies_of tables.now.versions tables.now.compacted before sub (step_view step.now rest)) }
+    ensures next { IfOk result (λ r. r.1 ≡ sub + txns.changes_of tables.now.versions (before + 1) sub (step_view step.now txns.Path.end)) }
+{
+    match step {
+        Step::Range(query) => Ok((
+            OpReply::Range(range_reply(alloc, tables, before, sub, query)?),
+            sub,
+        )),
+        Step::Put(put) => Ok((OpReply::Put(previous(tables, before, sub, put)), sub + 1)),
+        Step::Delete(delete) => {
+            let (deleted, previous) = deleted(alloc, tables, before, sub, delete)?;
+            Ok((OpReply::Delete { deleted, previous }, sub + deleted))
+        }
+        Step::Inner { succeeded, steps } => {
+            let (replies, next) = row_replies(alloc, tables, before, sub, steps)?;
+            let succeeded = *succeeded;
+            Ok((OpReply::Inner { succeeded, replies }, next))
+        }
+    }
+}
+
+/// The answer to a Range that stands behind so many changes, and is not refused.
+fn range_reply<'a>(
+    alloc: Global,
+    tables: &'a Tables,
+    before: u64,
+    sub: u64,
+    query: &RangeQuery,
+) -> Result<RangeReply<'a>, AllocError>
+    requires room { before + 1 < 2 ^ 64 }
+    requires kept { ranges.revision_refusal tables.now.compacted before query.now.revision ≡ None }
+    ensures { IfOk result (λ r. reply_view r ≡ ranges.range_reply tables.now.versions tables.now.compacted before (txns.place_before (before + 1) sub) query.now) }
+{
+    let view = tables.view_before(before, place_before(before, sub));
+    match view.range(alloc, query) {
+        Ok(reply) => Ok(reply),
+        Err(_) => Err(AllocError),
+    }
+}
+
+/// What the key of a put that stands behind so many changes held before it, where that is asked for.
+fn previous<'a>(tables: &'a Tables, before: u64, sub: u64, put: &PutRequest) -> Option<KvRef<'a>>
+    requires { before + 1 < 2 ^ 64 }
+    ensures { option_map kv_view result ≡ txns.previous_value put.now.prev_kv (value_at tables.now.versions (txns.place_before (before + 1) sub) put.now.key) }
+{
+    if !put.prev_kv {
+        return None;
+    }
+    let view = tables.view_before(before, place_before(before, sub));
+    view.get(&put.key)
+}
+
+/// How many keys a delete that stands behind so many changes took, and what they held where that is asked for.
+fn deleted<'a>(
+    alloc: Global,
+    tables: &'a Tables,
+    before: u64,
+    sub: u64,
+    delete: &DeleteRequest,
+) -> Result<(u64, Vec<KvRef<'a>>), AllocError>
+    requires { before + 1 < 2 ^ 64 }
+    ensures count { IfOk result (λ r. r.0 ≡ length (ranges.live tables.now.versions (txns.place_before (before + 1) sub) delete.now.range)) }
+    ensures previous { IfOk result (λ r. map kv_view r.1.items ≡ txns.if_asked delete.now.prev_kv (ranges.live tables.now.versions (txns.place_before (before + 1) sub) delete.now.range)) }
+{
+    let view = tables.view_before(before, place_before(before, sub));
+    let kvs = view.live(alloc, &delete.range)?;
+    let count = kvs.len() as u64;
+    if !delete.prev_kv {
+        return Ok((count, Vec::new(alloc)));
+    }
+    Ok((count, kvs))
+}
+
+/// The place before the change of a number, in the revision after one.
+fn place_before(before: u64, sub: u64) -> Rev
+    requires { before + 1 < 2 ^ 64 }
+    ensures { result ≡ txns.place_before (before + 1) sub }
+{
+    if sub == 0 {
+        return end_of(before);
+    }
+    Rev {
+        main: before + 1,
+        sub: sub - 1,
+    }
+}
