@@ -27,7 +27,7 @@ use Rattle.request_core.proofs.Worlds.{or-none-first, or-none-second, not-spent,
 
 -- ---- deletes in a row make tombstones
 
-deletes-extend : (vs : List Version) (main sub : ℕ) (kvs : List KeyValue) → extend_all vs (deletes_of main sub (keys_of kvs)) ≡ vs ++ tombstones main sub kvs
+pub deletes-extend : (vs : List Version) (main sub : ℕ) (kvs : List KeyValue) → extend_all vs (deletes_of main sub (keys_of kvs)) ≡ vs ++ tombstones main sub kvs
 deletes-extend vs main sub [] = sym (append-nil vs)
 deletes-extend vs main sub (kv ∷ kvs) = deletes-extend (vs ++ tombstone main sub kv.key ∷ []) main (suc sub) kvs ∙ append_assoc vs (tombstone main sub kv.key ∷ []) (tombstones main (suc sub) kvs)
 
@@ -35,7 +35,7 @@ deletes-now : (main sub : ℕ) (ks : List (List ℕ)) → now_after main (delete
 deletes-now main sub [] = refl
 deletes-now main sub (k ∷ ks) = deletes-now main (suc sub) ks
 
-deletes-next : (r main sub : ℕ) (kvs : List KeyValue) → kvs ≢ [] → now_after r (deletes_of main sub (keys_of kvs)) ≡ main
+pub deletes-next : (r main sub : ℕ) (kvs : List KeyValue) → kvs ≢ [] → now_after r (deletes_of main sub (keys_of kvs)) ≡ main
 deletes-next r main sub [] some = absurd (some refl)
 deletes-next r main sub (kv ∷ kvs) some = deletes-now main (suc sub) (keys_of kvs)
 

@@ -1,5 +1,5 @@
 -- What is kept stays counted as it grows, and what a put and a delete add are the versions of the next revision.
-use Rattle.std.proofs.Common.{◌≡◌, ℕ, zero, suc, ◌+◌, ◌<◌, ◌≤◌, ◌^◌, ◌%◌, ◌&&◌, List, [], ◌∷◌, ◌++◌, length, map, take, get_or, true, Option, None, Some, option_and_then, refl, sym, ap, subst, arith, eq-eqb, lt-ltb}
+use Rattle.std.proofs.Common.{◌≡◌, ◌≢◌, ℕ, zero, suc, ◌+◌, ◌<◌, ◌≤◌, ◌^◌, ◌%◌, ◌&&◌, List, [], ◌∷◌, ◌++◌, length, map, take, get_or, true, Option, None, Some, option_and_then, refl, sym, ap, subst, arith, eq-eqb, lt-ltb}
 use Rattle.std.specs.Option.{MatchOption}
 use Rattle.std.specs.List.{AllByRecursion}
 use Rattle.kv_model.specs.declared.version.Rev.{Rev}
@@ -9,12 +9,13 @@ use Rattle.kv_model.specs.declared.version.Body.TheVariants.{Put, Gone}
 use Rattle.kv_model.specs.declared.call.PutRequest.{PutRequest}
 use Rattle.kv_model.specs.Lists.{last_that}
 use Rattle.kv_model.specs.Keys.{same_key}
-use Rattle.kv_model.specs.History.{KeyValue, key_value, shown, value_at, rev_le}
+use Rattle.kv_model.specs.History.{Action, KeyValue, key_value, shown, value_at, rev_le}
 use Rattle.kv_model.specs.Step.{last_main}
 use Rattle.kv_model.specs.Feed.{last_main_or}
 use Rattle.kv_model.specs.Txns.{next_body, put_action}
 use Rattle.kv_model.proofs.PlaceLaws.{each-map, each-append}
 use Rattle.range_view.specs.declared.reply.KvRef.{KvRef}
+use Rattle.lease_book.specs.Book.{Book}
 use Rattle.range_view.specs.Replies.{kv_view}
 use Rattle.range_view.specs.Stored.{Stored, goes_on, appended}
 use Rattle.range_view.proofs.Growing.{next-revision}
@@ -32,7 +33,7 @@ shown-held : (r m : ℕ) (k : List ℕ) (b : Body) → IsCountedTo r b → IsHel
 shown-held r m k (Put create version lease value) h = h
 shown-held r m k Gone h = tt
 
-found-held : (r : ℕ) (o : Option Version) → MatchOption o (Unit {0}) (λ v. IsCountedTo r v.body) → IsHeldTo r (option_and_then key_value o)
+pub found-held : (r : ℕ) (o : Option Version) → MatchOption o (Unit {0}) (λ v. IsCountedTo r v.body) → IsHeldTo r (option_and_then key_value o)
 found-held r None h = tt
 found-held r (Some v) h = shown-held r v.rev.main v.key v.body h
 
@@ -47,9 +48,11 @@ pub can_count : (r : ℕ) (o : Option KeyValue) → r ≤ last_main → IsHeldTo
 can_count r None l h = tt
 can_count r (Some kv) l h = omega arith
 
-put-counted : (r main : ℕ) (p : PutRequest) (o : Option KeyValue) → IsHeldTo r o → IsCountedTo (r + 1) (next_body main (put_action p o) o)
-put-counted r main p None h = omega arith
-put-counted r main p (Some kv) h = omega arith
+-- what a change makes of a key is counted one higher
+pub action-counted : (r main : ℕ) (a : Action) (o : Option KeyValue) → IsHeldTo r o → IsCountedTo (r + 1) (next_body main a o)
+action-counted r main (Action.put value lease) None h = omega arith
+action-counted r main (Action.put value lease) (Some kv) h = omega arith
+action-counted r main Action.delete o h = tt
 
 -- ---- the versions of the next revision
 
@@ -58,7 +61,8 @@ pub put-next : (r : ℕ) (p : PutRequest) (o : Option KeyValue) → IsHeldTo r o
 put-next r p o h = record {
   some = λ e. cc;
   next = ap (λ b. b && true) (eq-eqb (r + 1) (r + 1) refl);
-  counted = (put-counted r (r + 1) p o h, tt);
+  places = (omega arith, tt);
+  counted = (action-counted r (r + 1) (put_action p o) o h, tt);
 }
 
 dead-go_on : (main sub : ℕ) (kvs : List KeyValue) → goes_on (record { main = main; sub = sub }) (tombstones main (suc sub) kvs) ≡ true
@@ -69,14 +73,24 @@ dead-counted : (r main sub : ℕ) (kvs : List KeyValue) → AllByRecursion (λ v
 dead-counted r main sub [] = tt
 dead-counted r main sub (kv ∷ kvs) = (tt, dead-counted r main (suc sub) kvs)
 
+dead-places : (main sub : ℕ) (kvs : List KeyValue) → sub + length kvs ≤ 2 ^ 64 → AllByRecursion (λ v. v.rev.sub < 2 ^ 64) (tombstones main sub kvs)
+dead-places main sub [] l = tt
+dead-places main sub (kv ∷ kvs) l = (omega arith, dead-places main (suc sub) kvs (omega arith))
+
 -- the tombstones of a delete
-pub tombstones-next : (r n : ℕ) (kvs : List KeyValue) → n ≡ length kvs → 0 < n → AreNext r (tombstones (r + 1) 0 kvs)
-tombstones-next r n [] e some = absurd (omega (arith, e, some))
-tombstones-next r n (kv ∷ kvs) e some = record {
+pub tombstones-next : (r n : ℕ) (kvs : List KeyValue) → n ≡ length kvs → n ≤ 2 ^ 64 → 0 < n → AreNext r (tombstones (r + 1) 0 kvs)
+tombstones-next r n [] e few some = absurd (omega (arith, e, some))
+tombstones-next r n (kv ∷ kvs) e few some = record {
   some = λ none. cc;
   next = λ i. eq-eqb (r + 1) (r + 1) refl i && dead-go_on (r + 1) 0 kvs i;
+  places = dead-places (r + 1) 0 (kv ∷ kvs) (omega (arith, e, few));
   counted = dead-counted (r + 1) (r + 1) 0 (kv ∷ kvs);
 }
+
+-- those of some keys, in the form that a revoke cites
+pub some-tombstones-next : (r n : ℕ) (kvs : List KeyValue) (vs : List Version) → vs ≡ tombstones (r + 1) 0 kvs → n ≡ length kvs → n ≤ 2 ^ 64 → vs ≢ [] → AreNext r vs
+some-tombstones-next r n [] vs e counted few some = absurd (some e)
+some-tombstones-next r n (kv ∷ kvs) vs e counted few some = subst (AreNext r) (sym e) (tombstones-next r n (kv ∷ kvs) counted few (omega (arith, counted)))
 
 pub tombstones-length : (main sub : ℕ) (kvs : List KeyValue) → length (tombstones main sub kvs) ≡ length kvs
 tombstones-length main sub [] = refl
@@ -101,10 +115,11 @@ next-main r (v ∷ vs) h = next-revision r v vs h.next
 pub sound-appended : (t : Stored) (vs : List Version) → IsSound t → t.revision < last_main → AreNext t.revision vs → IsSound (appended t vs)
 sound-appended t vs h room n = subst (λ r. IsSound (record t { versions = t.versions ++ vs; revision = r })) (sym (next-main t.revision vs n)) (record {
   fits = omega arith;
+  places = each-append (λ v. v.rev.sub < 2 ^ 64) t.versions vs h.places n.places;
   counted = each-append (λ v. IsCountedTo (t.revision + 1) v.body) t.versions vs
       (each-map (λ v. IsCountedTo t.revision v.body) (λ v. IsCountedTo (t.revision + 1) v.body) (λ v c. counted-more t.revision v.body c) t.versions h.counted) n.counted;
 })
 
 -- a core whose tables grew, one changing call later
-pub grown-state : (t : Stored) (vs : List Version) (stamp : ℕ) → AreNext t.revision vs → core_state (appended t vs) ((stamp + 1) % 2 ^ 64) ≡ with_versions (core_state t stamp) vs
-grown-state t vs stamp n = ap (λ r. core_state (record t { versions = t.versions ++ vs; revision = r }) ((stamp + 1) % 2 ^ 64)) (next-main t.revision vs n)
+pub grown-state : (t : Stored) (b : Book) (vs : List Version) (stamp : ℕ) → AreNext t.revision vs → core_state (appended t vs) b ((stamp + 1) % 2 ^ 64) ≡ with_versions (core_state t b stamp) vs
+grown-state t b vs stamp n = ap (λ r. core_state (record t { versions = t.versions ++ vs; revision = r }) b ((stamp + 1) % 2 ^ 64)) (next-main t.revision vs n)

@@ -1,6 +1,10 @@
 pub mod Back
 pub mod Deletes
 pub mod Kept
+pub mod Leases
+pub mod Planned
 pub mod Puts
 pub mod Ranges
+pub mod Revokes
+pub mod Txns
 pub mod Worlds

@@ -7,6 +7,7 @@ use Rattle.kv_model.specs.declared.call.PutRequest.{PutRequest}
 use Rattle.kv_model.specs.History.{value_at, end_of}
 use Rattle.kv_model.specs.Ranges.{refuse_if}
 use Rattle.kv_model.specs.Calls.{Call}
+use Rattle.kv_model.specs.Leases.{is_granted}
 use Rattle.kv_model.specs.Told.{Reply}
 use Rattle.kv_model.specs.Txns.{put_fault, previous_value}
 use Rattle.kv_model.specs.World.{World, changed}
@@ -23,8 +24,8 @@ use Rattle.request_core.specs.Answers.{Accepts, IsRefusal, answer_of, first_refu
 use Rattle.request_core.proofs.Worlds.{or-none-first, or-none-second, not-spent, spent-by, change_accepted, is_refused}
 
 -- what the key holds last is what it holds at the store's revision
-refusal-held : (s : Store) (w : World) → StandsFor s w → (p : PutRequest) → refusal_of_put s p ≡ option_or (put_fault p) (held_refusal s.leases p (held_in s p.key))
-refusal-held s w h p = ap (λ o. option_or (put_fault p) (held_refusal s.leases p o)) (value_now_is s w h p.key)
+refusal-held : (s : Store) (w : World) → StandsFor s w → (p : PutRequest) → refusal_of_put s p ≡ option_or (put_fault p) (held_refusal (is_granted s.leases p.lease) p (held_in s p.key))
+refusal-held s w h p = ap (λ o. option_or (put_fault p) (held_refusal (is_granted s.leases p.lease) p o)) (value_now_is s w h p.key)
 
 put-grows : (s : CoreState) (w : World) → StandsFor s.store w → (p : PutRequest) → grown s.store (changes_of_put s.store p) ≡ (after_put s p).store
 put-grows s w h p = λ i. record s.store {
@@ -68,4 +69,4 @@ not-made s w p e h None is one = let spent = spent-by s.revision e one in put_sp
 pub put_is_refused : (s : Store) (w : World) (p : PutRequest) (e : Refusal) → StandsFor s w → IsRefusal e (fault_of_put s p)
     → IsRefusal e (first_refusal (perform w (Call.put p)).0)
 put_is_refused s w p e h r = is_refused w (Call.put p) e (fault_of_put s p) r
-    (λ f one. not-made s w p f h (option_or (put_fault p) (held_refusal s.leases p (held_in s p.key))) (refusal-held s w h p) one)
+    (λ f one. not-made s w p f h (option_or (put_fault p) (held_refusal (is_granted s.leases p.lease) p (held_in s p.key))) (refusal-held s w h p) one)

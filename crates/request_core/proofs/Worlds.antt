@@ -10,7 +10,7 @@ use Rattle.kv_model.specs.Ranges.{refuse_if}
 use Rattle.kv_model.specs.Calls.{Call}
 use Rattle.kv_model.specs.Told.{Answer, Reply}
 use Rattle.kv_model.specs.World.{World, revision, changed}
-use Rattle.kv_model.specs.Step.{last_main, made_in, perform}
+use Rattle.kv_model.specs.Step.{last_main, made_in, perform, world_of, answer_of as answer_of_made}
 use Rattle.kv_model.specs.Stands.{StandsFor, grown}
 use Rattle.kv_model.specs.Wire.{raised, number_made}
 use Rattle.kv_model.proofs.StandsLaws.{grown_revision}
@@ -19,10 +19,10 @@ use Rattle.request_core.specs.declared.answer.Receipt.{Receipt}
 use Rattle.request_core.specs.State.{CoreState, is_spent}
 use Rattle.request_core.specs.Answers.{Accepts, IsRefusal, answer_of, first_refusal, is_memory}
 
-raised-not : (n : ℕ) → (r : Option ℕ) → cond (nat_lt n n) r None ≡ None
+pub raised-not : (n : ℕ) → (r : Option ℕ) → cond (nat_lt n n) r None ≡ None
 raised-not n r = ap (λ b. cond b r None) (le-ltb n n (omega arith))
 
-raised-by : (m n : ℕ) → n ≡ m + 1 → cond (nat_lt m n) (Some n) None ≡ Some (m + 1)
+pub raised-by : (m n : ℕ) → n ≡ m + 1 → cond (nat_lt m n) (Some n) None ≡ Some (m + 1)
 raised-by m n e = ap (λ b. cond b (Some n) None) (lt-ltb m n (omega arith)) ∙ ap (λ k. Some k) e
 
 -- ---- the first of two refusals
@@ -65,6 +65,19 @@ change_accepted s new w call r told us h made stands next up unwatched answered 
       stands = subst (λ u. StandsFor new.store u) (sym (ap (λ x. x.1) all)) stands;
       raised = up ∙ ap (λ n. Some (n + 1)) h.revision_is ∙ sym (raised-by (revision w) (revision (changed w us)) grew) ∙ ap (λ u. raised w u) (sym (ap (λ x. x.1) all));
       watch = unwatched ∙ sym (raised-not w.made (Some w.made)) ∙ ap (λ u. number_made w u) (sym (ap (λ x. x.1) all));
+    }
+
+-- a command that is made
+pub made_accepted : (new : CoreState) (w u : World) (call : Call) (r : Receipt) (told : Reply) → made_in w call ≡ Ok (told, u) → StandsFor new.store u
+    → r.raised ≡ raised w u → r.watch ≡ number_made w u → answer_of r new ≡ record { reply = told; revision = revision u }
+    → Accepts new r w (perform w call).0 (perform w call).1
+made_accepted new w u call r told made stands up watch answered =
+    let all : perform w call ≡ (Ok (record { reply = told; revision = revision u }), u) = ap (λ m. (answer_of_made m, world_of w m)) made in
+    record {
+      answers = ap (λ x. x.0) all ∙ ap (λ a. Ok a) (sym answered);
+      stands = subst (λ v. StandsFor new.store v) (sym (ap (λ x. x.1) all)) stands;
+      raised = up ∙ ap (λ v. raised w v) (sym (ap (λ x. x.1) all));
+      watch = watch ∙ ap (λ v. number_made w v) (sym (ap (λ x. x.1) all));
     }
 
 -- a command that changes nothing

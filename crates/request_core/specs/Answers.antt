@@ -1,37 +1,71 @@
 -- What receipts and answers say, in the definitions' terms.
-use Rattle.std.specs.Prelude.{◌≡◌, ℕ, ◌-◌, Bool, true, false, ◌&&◌, nat_lt, MatchBool, Option, None, Some, option_map, map, Result, Ok, Err, ⊤}
+use Rattle.std.specs.Prelude.{◌≡◌, ℕ, ◌+◌, ◌-◌, ◌<◌, ◌^◌, ℤ, pos, negsuc, List, Bool, true, false, ◌&&◌, ◌||◌, nat_lt, is_some, unwrap_or, MatchBool, Option, None, Some, option_map, map, Result, Ok, Err, ⊤}
 use Rattle.kv_model.specs.declared.refusal.Refusal.{Refusal}
 use Rattle.kv_model.specs.declared.refusal.Refusal.TheVariants.{Memory}
 use Rattle.kv_model.specs.History.{value_at, end_of}
 use Rattle.kv_model.specs.Ranges.{range_reply, revision_refusal, live}
-use Rattle.kv_model.specs.Txns.{previous_value, if_asked}
-use Rattle.kv_model.specs.Told.{Reply, Answer as ModelAnswer}
+use Rattle.kv_model.specs.Txns.{Path, previous_value, if_asked, changes_of, replies_of}
+use Rattle.kv_model.specs.Leases.{lease_at}
+use Rattle.kv_model.specs.Plans.{ReadsKept}
+use Rattle.kv_model.specs.Stores.{reply_of_time_to_live, reply_of_leases}
+use Rattle.kv_model.specs.Told.{Reply, Answer as ModelAnswer, Expiry as ModelExpiry}
+use Rattle.lease_book.specs.declared.book.TimeLeft.{TimeLeft}
 use Rattle.kv_model.specs.World.{World}
 use Rattle.kv_model.specs.Stands.{Store, StandsFor}
 use Rattle.kv_model.specs.Wire.{raised, number_made}
-use Rattle.range_view.specs.Replies.{kv_view, reply_view}
+use Rattle.range_view.specs.Replies.{kv_view, reply_view, replies_view}
+use Rattle.txn_core.specs.Steps.{steps_view}
 use Rattle.request_core.specs.declared.answer.Receipt.{Receipt}
 use Rattle.request_core.specs.declared.answer.Todo.{Todo}
 use Rattle.request_core.specs.declared.answer.Todo.TheVariants as todo
 use Rattle.request_core.specs.declared.answer.Answer.{Answer}
 use Rattle.request_core.specs.declared.answer.Answer.TheVariants as answer
+use Rattle.request_core.specs.declared.answer.Expiry.{Expiry}
+use Rattle.request_core.specs.declared.answer.Expiry.TheVariants as expiry
 use Rattle.request_core.specs.State.{CoreState}
+
+-- what is told of a lease's time, the keys beside it
+abbrev pub time_left_view : ℤ → Option TimeLeft → List (List ℕ) → Reply
+time_left_view id None keys = Reply.time_to_live id (negsuc 0) 0 keys
+time_left_view id (Some t) keys = Reply.time_to_live id (pos t.seconds) t.granted keys
 
 -- an answer that lends, as plain data
 abbrev pub answer_view : Answer → ModelAnswer
 answer_view (answer.Range r) = record { reply = Reply.range (reply_view r); revision = r.revision }
 answer_view (answer.Put revision previous) = record { reply = Reply.put (option_map kv_view previous); revision = revision }
 answer_view (answer.Delete revision deleted previous) = record { reply = Reply.delete deleted (map kv_view previous.items); revision = revision }
+answer_view (answer.Txn revision succeeded replies) = record { reply = Reply.txn succeeded (replies_view replies.items); revision = revision }
+answer_view (answer.Grant revision id ttl) = record { reply = Reply.grant id ttl; revision = revision }
+answer_view (answer.Revoke revision) = record { reply = Reply.revoke; revision = revision }
+answer_view (answer.KeepAlive revision id ttl) = record { reply = Reply.keep_alive id ttl; revision = revision }
+answer_view (answer.TimeToLive revision id left keys) = record { reply = time_left_view id left (map (λ k. k.now) keys.items); revision = revision }
+answer_view (answer.Leases revision ids) = record { reply = Reply.leases ids.items; revision = revision }
 
 -- what is read of a store for an answer at the revision
 abbrev pub reply_left : Todo → Store → ℕ → Reply
 reply_left (todo.Range q) s revision = Reply.range (range_reply s.versions s.compacted revision (end_of revision) q.now)
 reply_left (todo.Put key asked) s revision = Reply.put (previous_value asked (value_at s.versions (end_of (revision - 1)) key.now))
 reply_left (todo.Delete range asked deleted) s revision = Reply.delete deleted (if_asked (asked && nat_lt 0 deleted) (live s.versions (end_of (revision - 1)) range.now))
+reply_left (todo.Txn before succeeded steps) s revision = Reply.txn succeeded (replies_of s.versions s.compacted before 0 (steps_view steps.items))
+reply_left (todo.Grant id ttl) s revision = Reply.grant id ttl
+reply_left todo.Revoke s revision = Reply.revoke
+reply_left (todo.KeepAlive id ttl) s revision = Reply.keep_alive id (unwrap_or ttl 0)
+reply_left (todo.TimeToLive id asked) s revision = reply_of_time_to_live s id asked (lease_at s.leases id)
+reply_left todo.Leases s revision = reply_of_leases s
 
 -- the answer that a receipt stands for, on the state that it left
 abbrev pub answer_of : Receipt → CoreState → ModelAnswer
 answer_of r s = record { reply = reply_left r.todo s.store r.revision; revision = r.revision }
+
+-- the command changed something besides the versions
+abbrev pub is_beside : Todo → Bool
+is_beside (todo.Grant id ttl) = true
+is_beside todo.Revoke = true
+is_beside (todo.KeepAlive id ttl) = is_some ttl
+is_beside _ = false
+
+abbrev pub has_changed : Receipt → Bool
+has_changed r = is_some r.raised || is_beside r.todo
 
 -- a command was accepted as the model accepts it in this world, which then is that one
 pub record Accepts (new : CoreState) (r : Receipt) (w : World) (told : Result ModelAnswer Refusal) (after : World) : Type 0 where
@@ -40,11 +74,17 @@ pub record Accepts (new : CoreState) (r : Receipt) (w : World) (told : Result Mo
   pub raised : r.raised ≡ raised w after
   pub watch : r.watch ≡ number_made w after
 
+-- the operations that ran behind a revision can be answered: none of their Ranges is refused, and their changes are numbered
+pub record CanReply (s : Store) (before : ℕ) (q : Path) : Type 0 where
+  pub reads : ReadsKept s.compacted before q
+  pub few : changes_of s.versions (before + 1) 0 q < 2 ^ 64
+  pub fits : before + 1 < 2 ^ 64
+
 -- a Range that is to be read does not ask for a revision that is compacted or in the future
 abbrev pub IsAllowed : Todo → Store → Type 0
 IsAllowed (todo.Range q) s = revision_refusal s.compacted s.revision q.now.revision ≡ None
-IsAllowed (todo.Put key asked) s = ⊤
-IsAllowed (todo.Delete range asked deleted) s = ⊤
+IsAllowed (todo.Txn before succeeded steps) s = CanReply s before (steps_view steps.items)
+IsAllowed _ s = ⊤
 
 -- the state is the one that the receipt's command left
 pub record IsReadable (r : Receipt) (s : CoreState) : Type 0 where
@@ -64,3 +104,9 @@ IsRefusal e first = MatchBool (is_memory e) ⊤ (first ≡ Some e)
 abbrev pub first_refusal : Result ModelAnswer Refusal → Option Refusal
 first_refusal (Ok a) = None
 first_refusal (Err e) = Some e
+
+-- ---- expiry
+
+abbrev pub expiry_view : Expiry → ModelExpiry
+expiry_view expiry.Nothing = ModelExpiry.nothing
+expiry_view (expiry.Expired id revision raised) = ModelExpiry.expired id revision raised

@@ -1,23 +1,28 @@
 -- What a core holds, and how a command changes it.
-use Rattle.std.specs.Prelude.{◌≡◌, ℕ, ◌+◌, ◌-◌, ◌≤◌, ◌%◌, ◌^◌, List, [], ◌∷◌, ◌++◌, Bool, not, ◌&&◌, nat_lt, Option, None, Some, if◌then◌else◌}
+use Rattle.std.specs.Prelude.{◌≡◌, ℕ, ℤ, ◌+◌, ◌-◌, ◌<◌, ◌≤◌, ◌%◌, ◌^◌, List, [], ◌∷◌, ◌++◌, map, Bool, not, ◌&&◌, nat_lt, filter, Option, None, Some, option_map, if◌then◌else◌}
 use Rattle.std.specs.Option.{option_or}
 use Rattle.std.specs.List.{AllByRecursion}
+use Rattle.std.specs.Ordering.{int_eq}
 use Rattle.kv_model.specs.declared.version.Version.{Version}
 use Rattle.kv_model.specs.declared.version.KeyRange.{KeyRange}
 use Rattle.kv_model.specs.declared.call.PutRequest.{PutRequest}
 use Rattle.kv_model.specs.declared.call.DeleteRequest.{DeleteRequest}
 use Rattle.kv_model.specs.declared.refusal.Refusal.{Refusal}
 use Rattle.kv_model.specs.declared.refusal.Refusal.TheVariants.{RevisionsSpent}
-use Rattle.kv_model.specs.Calls.{Call}
+use Rattle.kv_model.specs.Calls.{Call, Ops}
 use Rattle.kv_model.specs.Feed.{Published}
+use Rattle.kv_model.specs.Keys.{all_keys}
+use Rattle.kv_model.specs.Leases.{Lease, is_granted, insert_lease, without_lease, due}
 use Rattle.kv_model.specs.Lists.{is_empty}
 use Rattle.kv_model.specs.Ranges.{live, refuse_if}
 use Rattle.kv_model.specs.Told.{Answer, Reply}
-use Rattle.kv_model.specs.Txns.{put_fault, previous_value, if_asked}
+use Rattle.kv_model.specs.Txns.{put_fault, previous_value, if_asked, static_fault}
+use Rattle.kv_model.specs.Txns as txns
 use Rattle.kv_model.specs.History.{KeyValue, value_at, end_of}
 use Rattle.kv_model.specs.Step.{last_main}
 use Rattle.kv_model.specs.Stands.{Store}
-use Rattle.kv_model.specs.Stores.{refusal_of_delete}
+use Rattle.kv_model.specs.Stores.{path_in, refusal_of_path, changes_of_path, refusal_of_delete, with_leases, granted_lease, refusal_of_revoke, renewed_leases, at_store_moment}
+use Rattle.lease_book.specs.Book.{Book}
 use Rattle.range_view.specs.Stored.{Stored}
 use Rattle.request_core.specs.Writing.{IsCountedTo, held_refusal, next_rev, next_version, tombstones}
 
@@ -26,16 +31,17 @@ pub record CoreState : Type 0 where
   pub store : Store
   pub stamp : ℕ
 
--- a store without leases and watches
-abbrev pub store_of : Stored → Store
-store_of t = record { versions = t.versions; revision = t.revision; compacted = t.compacted; leases = []; clock = 0; watches = []; made = 0 }
+-- a store without watches
+abbrev pub store_of : Stored → Book → Store
+store_of t b = record { versions = t.versions; revision = t.revision; compacted = t.compacted; leases = b.leases; clock = b.clock; watches = []; made = 0 }
 
-abbrev pub core_state : Stored → ℕ → CoreState
-core_state t stamp = record { store = store_of t; stamp = stamp }
+abbrev pub core_state : Stored → Book → ℕ → CoreState
+core_state t b stamp = record { store = store_of t b; stamp = stamp }
 
 -- what is true of the fields of every core
 pub record IsSound (t : Stored) : Type 0 where
   pub fits : t.revision ≤ last_main
+  pub places : AllByRecursion (λ v. v.rev.sub < 2 ^ 64) t.versions
   pub counted : AllByRecursion (λ v. IsCountedTo t.revision v.body) t.versions
 
 -- what a key holds at the store's revision, and what the keys of a range hold
@@ -45,9 +51,17 @@ held_in s k = value_at s.versions (end_of s.revision) k
 abbrev pub live_in : Store → KeyRange → List KeyValue
 live_in s r = live s.versions (end_of s.revision) r
 
+-- the live keys whose last put names the lease, and what they hold
+abbrev pub leased_in : Store → ℤ → List KeyValue
+leased_in s id = filter (λ kv. int_eq kv.lease id) (live_in s all_keys)
+
 -- no revision comes after this one
 abbrev pub is_spent : ℕ → Bool
 is_spent revision = not (nat_lt revision last_main)
+
+-- one changing call later
+abbrev pub stamped : CoreState → CoreState
+stamped s = record s { stamp = (s.stamp + 1) % 2 ^ 64 }
 
 -- with the versions of the next revision
 abbrev pub with_versions : CoreState → List Version → CoreState
@@ -60,7 +74,7 @@ with_versions s vs = record {
 
 -- the first refusal of a put, that of spent revisions last
 abbrev pub fault_of_put : Store → PutRequest → Option Refusal
-fault_of_put s p = option_or (option_or (put_fault p) (held_refusal s.leases p (held_in s p.key))) (refuse_if (is_spent s.revision) RevisionsSpent)
+fault_of_put s p = option_or (option_or (put_fault p) (held_refusal (is_granted s.leases p.lease) p (held_in s p.key))) (refuse_if (is_spent s.revision) RevisionsSpent)
 
 -- the version that a put adds
 abbrev pub added_by_put : Store → PutRequest → Version
@@ -99,12 +113,83 @@ answer_after_delete s d deleted = record {
   revision = s.revision;
 }
 
+-- ---- Txn
+
+-- the first refusal of a transaction, that of spent revisions where it changes something
+abbrev pub fault_of_txn : Store → Ops → Option Refusal
+fault_of_txn s ops = option_or (static_fault ops) (option_or (refusal_of_path s (path_in s ops))
+    (refuse_if (not (is_empty (changes_of_path s (path_in s ops))) && is_spent s.revision) RevisionsSpent))
+
+-- the versions that a transaction adds, each as its key stood before all of them
+abbrev pub added_by_txn : Store → Ops → List Version
+added_by_txn s ops = map (txns.next_version s.versions) (changes_of_path s (path_in s ops))
+
+-- with these versions as the next revision, where there are some
+abbrev pub with_some : CoreState → List Version → CoreState
+with_some s [] = s
+with_some s (v ∷ vs) = with_versions s (v ∷ vs)
+
+-- what an accepted transaction leaves: nothing has changed where it changes no key
+abbrev pub after_txn : CoreState → Ops → CoreState
+after_txn s ops = with_some s (added_by_txn s.store ops)
+
+-- the revision that a command which found one revision raised the store to
+abbrev pub raised_from : ℕ → ℕ → Option ℕ
+raised_from before revision = if nat_lt before revision then Some revision else None
+
+-- ---- leases
+
+-- with these leases
+abbrev pub leased : CoreState → List Lease → CoreState
+leased s ls = record s { store = with_leases s.store ls }
+
+abbrev pub after_grant : CoreState → ℤ → ℤ → CoreState
+after_grant s ttl id = stamped (leased s (insert_lease (granted_lease s.store ttl id) s.store.leases))
+
+-- a renewed lease, where it is granted; else nothing has changed
+abbrev pub after_keep_alive : CoreState → ℤ → CoreState
+after_keep_alive s id = if is_granted s.store.leases id then stamped (leased s (renewed_leases s.store id)) else s
+
+-- the first refusal of a revoke, that of spent revisions where the lease has some key
+abbrev pub fault_of_revoke : Store → ℤ → Option Refusal
+fault_of_revoke s id = option_or (refusal_of_revoke s id) (refuse_if (not (is_empty (leased_in s id)) && is_spent s.revision) RevisionsSpent)
+
+-- the versions that a revoke adds: the tombstones of the lease's keys
+abbrev pub added_by_revoke : Store → ℤ → List Version
+added_by_revoke s id = tombstones (s.revision + 1) 0 (leased_in s id)
+
+-- with these versions as the next revision, where there are some, one changing call later
+abbrev pub with_any : CoreState → List Version → CoreState
+with_any s [] = stamped s
+with_any s (v ∷ vs) = with_versions s (v ∷ vs)
+
+-- what a revoke leaves: neither the lease nor its keys
+abbrev pub after_revoke : CoreState → ℤ → CoreState
+after_revoke s id = leased (with_any s (added_by_revoke s.store id)) (without_lease id s.store.leases)
+
+abbrev pub after_moment : CoreState → ℕ → CoreState
+after_moment s m = stamped (record s { store = at_store_moment s.store m })
+
+-- the lease that expires next
+abbrev pub due_in : Store → Option ℤ
+due_in s = option_map (λ l. l.id) (due s.clock s.leases)
+
+abbrev pub added_by_due : Store → Option ℤ → List Version
+added_by_due s None = []
+added_by_due s (Some id) = added_by_revoke s id
+
+-- the versions that a step of expiry adds
+abbrev pub added_by_expiry : Store → List Version
+added_by_expiry s = added_by_due s (due_in s)
+
 -- ---- what a sink is told
 
 -- the versions that a call adds to the store
 abbrev pub added_by : Store → Call → List Version
 added_by s (Call.put p) = added_by_put s p ∷ []
 added_by s (Call.delete d) = added_by_delete s d
+added_by s (Call.txn compares success failure) = added_by_txn s (Ops.txn compares success failure Ops.no_ops)
+added_by s (Call.revoke id) = added_by_revoke s id
 added_by s _ = []
 
 -- of these versions, from the first state of the sink to the second: one batch, and nothing where there are none

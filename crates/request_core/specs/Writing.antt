@@ -1,5 +1,5 @@
 -- What a put and a delete add to the versions.
-use Rattle.std.specs.Prelude.{◌≡◌, ◌≢◌, ℕ, suc, ◌+◌, ◌<◌, ◌≤◌, ◌^◌, List, [], ◌∷◌, true, ◌&&◌, ◌||◌, is_none, Option, MatchOption, ⊤}
+use Rattle.std.specs.Prelude.{Bool, ◌≡◌, ◌≢◌, ℕ, suc, ◌+◌, ◌<◌, ◌≤◌, ◌^◌, List, [], ◌∷◌, true, ◌&&◌, ◌||◌, is_none, Option, MatchOption, ⊤}
 use Rattle.std.specs.Option.{option_or}
 use Rattle.std.specs.List.{AllByRecursion}
 use Rattle.kv_model.specs.declared.version.Rev.{Rev}
@@ -10,7 +10,6 @@ use Rattle.kv_model.specs.declared.call.PutRequest.{PutRequest}
 use Rattle.kv_model.specs.declared.refusal.Refusal.{Refusal}
 use Rattle.kv_model.specs.declared.refusal.Refusal.TheVariants.{KeyMissing}
 use Rattle.kv_model.specs.History.{KeyValue}
-use Rattle.kv_model.specs.Leases.{Lease, is_granted}
 use Rattle.kv_model.specs.Ranges.{refuse_if}
 use Rattle.kv_model.specs.Txns.{next_body, put_action, put_lease_refusal}
 use Rattle.range_view.specs.Stored.{is_next}
@@ -27,9 +26,9 @@ abbrev pub IsCountedTo : ℕ → Body → Type 0
 IsCountedTo revision (Put create version lease value) = version ≤ revision
 IsCountedTo revision Gone = ⊤
 
--- why a put is refused where its key holds this
-abbrev pub held_refusal : List Lease → PutRequest → Option KeyValue → Option Refusal
-held_refusal leases p held = option_or (refuse_if ((p.ignore_value || p.ignore_lease) && is_none held) KeyMissing) (put_lease_refusal (is_granted leases) p)
+-- why a put is refused where its key holds this, by whether the lease that it names is granted
+abbrev pub held_refusal : Bool → PutRequest → Option KeyValue → Option Refusal
+held_refusal granted p held = option_or (refuse_if ((p.ignore_value || p.ignore_lease) && is_none held) KeyMissing) (put_lease_refusal (λ _. granted) p)
 
 -- the version that a put makes of a key that holds this
 abbrev pub next_version : Rev → PutRequest → Option KeyValue → Version
@@ -47,8 +46,9 @@ abbrev pub tombstones : ℕ → ℕ → List KeyValue → List Version
 tombstones main sub [] = []
 tombstones main sub (kv ∷ kvs) = tombstone main sub kv.key ∷ tombstones main (suc sub) kvs
 
--- there are some versions, they are those of the revision after this one, and they are counted
+-- there are some versions, they are those of the revision after this one, their numbers within it fit 64 bits, and they are counted
 pub record AreNext (revision : ℕ) (vs : List Version) : Type 0 where
   pub some : vs ≢ []
   pub next : is_next revision vs ≡ true
+  pub places : AllByRecursion (λ v. v.rev.sub < 2 ^ 64) vs
   pub counted : AllByRecursion (λ v. IsCountedTo (revision + 1) v.body) vs

@@ -1,8 +1,12 @@
 //! What a command did, and what is answered to it.
+ghost use Rattle.std.specs.Prelude.{◌≡◌};
+
 use bytes::Bytes;
 use kv_model::call::RangeQuery;
 use kv_model::version::KeyRange;
-use range_view::reply::{KvRef, RangeReply};
+use lease_book::TimeLeft;
+use range_view::reply::{KvRef, OpReply, RangeReply};
+use txn_core::step::Step;
 
 /// What an accepted command did, and what is left to read for its answer.
 #[derive(Debug, Drop)]
@@ -16,6 +20,17 @@ pub struct Receipt<'c> {
     /// The number of a watch that the command made.
     pub watch: Option<u64>,
     pub todo: Todo<'c>,
+}
+
+impl Receipt<'_> {
+    ghost use Rattle.request_core.specs.Answers.{has_changed};
+
+    /// Whether the command changed the store. Takes no memory.
+    pub fn has_changed(&self) -> bool
+        ensures { result ≡ has_changed self.now }
+    {
+        self.raised.is_some() || self.todo.is_beside()
+    }
 }
 
 /// What is left to read for an answer.
@@ -34,6 +49,49 @@ pub enum Todo<'c> {
         previous: bool,
         deleted: u64,
     },
+    /// What the operations of a transaction saw.
+    Txn {
+        /// The revision that the transaction found.
+        before: u64,
+        /// Whether all its compares held.
+        succeeded: bool,
+        /// The operations that ran.
+        steps: Vec<Step<'c>>,
+    },
+    /// A granted lease, with its time to live in seconds.
+    Grant {
+        id: i64,
+        ttl: u64,
+    },
+    /// A lease is revoked.
+    Revoke,
+    /// A renewed lease, with its time to live in seconds; `None` where no lease has the ID, and then nothing changed.
+    KeepAlive {
+        id: i64,
+        ttl: Option<u64>,
+    },
+    /// How long a lease still has and, where `keys` says so, its keys.
+    TimeToLive {
+        id: i64,
+        keys: bool,
+    },
+    /// The IDs of all leases.
+    Leases,
+}
+
+impl Todo<'_> {
+    ghost use Rattle.request_core.specs.Answers.{is_beside};
+
+    /// Whether the command changed something besides the versions.
+    fn is_beside(&self) -> bool
+        ensures { result ≡ is_beside self.now }
+    {
+        match self {
+            Todo::Grant { .. } | Todo::Revoke => true,
+            Todo::KeepAlive { ttl, .. } => ttl.is_some(),
+            _ => false,
+        }
+    }
 }
 
 /// The answer to a command, which lends from the core (the etcd documentation's API reference).
@@ -50,6 +108,56 @@ pub enum Answer<'a> {
         deleted: u64,
         /// What they held before, in the order of the keys; empty where that is not asked for.
         previous: Vec<KvRef<'a>>,
+    },
+    Txn {
+        revision: u64,
+        /// Whether all its compares held.
+        succeeded: bool,
+        /// The answers to the operations that ran, in their order.
+        replies: Vec<OpReply<'a>>,
+    },
+    Grant {
+        revision: u64,
+        /// The lease that is granted.
+        id: i64,
+        /// Its time to live, in seconds.
+        ttl: u64,
+    },
+    Revoke {
+        revision: u64,
+    },
+    KeepAlive {
+        revision: u64,
+        id: i64,
+        /// The time to live, in seconds, and 0 where no lease has the ID.
+        ttl: u64,
+    },
+    TimeToLive {
+        revision: u64,
+        id: i64,
+        /// How long the lease still has; `None` where no lease has the ID.
+        left: Option<TimeLeft>,
+        /// The live keys whose last put names the lease, ascending; empty where they are not asked for.
+        keys: Vec<&'a [u8]>,
+    },
+    Leases {
+        revision: u64,
+        /// The IDs of the granted leases, ascending.
+        ids: Vec<i64>,
+    },
+}
+
+/// What a step of expiry did.
+#[derive(Clone, Copy, Debug, PartialEq, Eq)]
+pub enum Expiry {
+    /// No lease is due.
+    Nothing,
+    /// This lease is revoked, and that is the revision after it; `raised` says whether some key was deleted with it, so that
+    /// the revision rose.
+    Expired {
+        id: i64,
+        revision: u64,
+        raised: bool,
     },
 }
 

@@ -3,18 +3,24 @@ ghost use Rattle.kv_model.specs.Feed.{Published, published};
 ghost use Rattle.range_view.specs.Replies.{kv_view, reply_view};
 ghost use Rattle.request_core.specs.Writing.{AreNext, IsHeldTo};
 ghost use Rattle.kv_model.specs.Step.{last_main};
-ghost use Rattle.std.specs.Prelude.{◌≡◌, option_map, ◌<◌, ◌≤◌, length, IfOk, IfErr, OnOk, OnErr};
+ghost use Rattle.kv_model.specs.Wire.{changes_beside};
+ghost use Rattle.std.specs.Prelude.{◌≡◌, false, option_map, ◌<◌, ◌≤◌, length, IfOk, IfErr, OnOk, OnErr};
 
 mod deleting;
+mod expiring;
+mod leasing;
 mod putting;
 mod ranging;
+mod transacting;
 
+use self::leasing::{granted, renewed};
 use crate::answer::{Answer, Receipt, Status, Todo};
 use bytes::Bytes;
 use kv_model::call::Command;
 use kv_model::feed::{NoSink, Op, Sink};
 use kv_model::refusal::Refusal;
 use kv_model::version::Version;
+use lease_book::LeaseBook;
 use range_view::reply::KvRef;
 use range_view::tables::Tables;
 use std::alloc::{AllocError, Global};
@@ -28,6 +34,7 @@ pub const LAST_MAIN: u64 = 9_223_372_036_854_775_807;
 pub struct Core {
     alloc: Global,
     tables: Tables,
+    book: LeaseBook,
     stamp: u64,
 }
 
@@ -36,7 +43,7 @@ impl Model for Core {
 
     ghost Value = { CoreState };
 
-    ghost view = { λ c. core_state c.tables c.stamp };
+    ghost view = { λ c. core_state c.tables c.book c.stamp };
 
     ghost invariant = { λ c. IsSound c.tables };
 }
@@ -47,7 +54,7 @@ impl Core {
     ghost use Rattle.kv_model.specs.Stands.{StandsFor};
     ghost use Rattle.kv_model.specs.Step.{perform};
     ghost use Rattle.request_core.specs.State.{CoreState, IsTold, added_by, held_in, is_spent, with_versions};
-    ghost use Rattle.request_core.specs.Answers.{Accepts, IsRefusal, IsReadable, answer_view, answer_of, first_refusal};
+    ghost use Rattle.request_core.specs.Answers.{Accepts, IsRefusal, IsReadable, answer_view, answer_of, first_refusal, has_changed, is_beside};
 
     /// The store before the first event. Takes no memory.
     pub fn new(alloc: Global) -> Self
@@ -56,6 +63,7 @@ impl Core {
         Core {
             alloc,
             tables: Tables::new(alloc),
+            book: LeaseBook::new(alloc),
             stamp: 0,
         }
     }
@@ -77,7 +85,7 @@ impl Core {
         Status {
             revision: self.tables.revision(),
             compacted: self.tables.compacted(),
-            clock: 0,
+            clock: self.book.clock(),
             versions: self.tables.versions().len() as u64,
         }
     }
@@ -87,17 +95,30 @@ impl Core {
     /// The refusals come in the order of the etcd documentation's checks of a request: `NoKey` where the key is empty; of a
     /// Range, `Compacted` and `Future` where its revision is below the last compaction or above the present one; of a Put,
     /// `ValueGiven` and `LeaseGiven` where it keeps what it also gives, `KeyMissing` where it keeps what is not there, and
-    /// `LeaseMissing` where it names a lease; and last `RevisionsSpent` where a change would need a revision above the greatest.
-    /// `Memory` comes where a list or a copy found none, and may come in place of `RevisionsSpent`; a Range takes none here.
+    /// `LeaseMissing` where it names a lease that is not granted; of a grant, `TtlTooLarge` above 9,000,000,000 seconds,
+    /// `LeaseExists` for an ID in use and `TooManyLeases` where 65,536 are granted; of a revoke, `LeaseMissing`; and last
+    /// `RevisionsSpent` where a change would need a revision above the greatest. `Memory` comes where a list, a copy or the place
+    /// of a lease found none, and may come in place of `RevisionsSpent`; a Range, a keepalive, a time to live and the list of
+    /// leases take none here.
+    ///
+    /// A Txn is first refused for what hangs on it alone, also in branches that do not run, and a transaction before its parts:
+    /// `TooDeep` where it lies in eight others, `TooManyOps` where it has more than 128 compares or operations of a branch, and
+    /// `NoKey`, `ValueGiven` and `LeaseGiven` as each by itself; then `DuplicateKey` where operations that can run together put
+    /// one key, or put a key and delete it; then, of the operations that run, in their order, `Compacted`, `Future`, `KeyMissing`
+    /// and `LeaseMissing`; and `RevisionsSpent` last. `Memory` may come in place of all from `DuplicateKey` on.
     ///
     /// A Put takes time logarithmic in the number of keys and in that of the versions, and linear in a value that it keeps, which
     /// is copied. A DeleteRange walks the keys of its range, live or not, each in such time, and adds a tombstone for each that is
-    /// live, all in one revision. All this is but for the growth of a list.
+    /// live, all in one revision. A Txn sorts its keys for the check, and takes for each compare and each operation that runs the
+    /// time of a read or a write by itself; all its changes stand in one revision. All this is but for the growth of a list. A
+    /// grant and a keepalive are logarithmic in the number of leases. A revoke walks all keys of the store, and deletes those of
+    /// the lease in one revision.
     pub fn apply<'c>(&mut self, command: &'c Command) -> Result<Receipt<'c>, Refusal>
         ensures accepted { IfOk result (λ r. (w : World) → StandsFor self.old.store w
             → Accepts self.new r w (perform w (call_of command.now)).0 (perform w (call_of command.now)).1) }
         ensures readable { IfOk result (λ r. IsReadable r self.new) }
-        ensures unraised { IfOk result (λ r. r.raised ≡ None → self.new ≡ self.old) }
+        ensures unchanged { IfOk result (λ r. has_changed r ≡ false → self.new ≡ self.old) }
+        ensures beside { IfOk result (λ r. (w : World) → StandsFor self.old.store w → is_beside r.todo ≡ changes_beside w (call_of command.now)) }
         ensures refused { IfErr result (λ e. (w : World) → StandsFor self.old.store w
             → IsRefusal e (first_refusal (perform w (call_of command.now)).0)) }
         ensures err { OnErr result (self.new ≡ self.old) }
@@ -115,7 +136,8 @@ impl Core {
         ensures accepted { IfOk result (λ r. (w : World) → StandsFor self.old.store w
             → Accepts self.new r w (perform w (call_of command.now)).0 (perform w (call_of command.now)).1) }
         ensures readable { IfOk result (λ r. IsReadable r self.new) }
-        ensures unraised { IfOk result (λ r. r.raised ≡ None → self.new ≡ self.old) }
+        ensures unchanged { IfOk result (λ r. has_changed r ≡ false → self.new ≡ self.old) }
+        ensures beside { IfOk result (λ r. (w : World) → StandsFor self.old.store w → is_beside r.todo ≡ changes_beside w (call_of command.now)) }
         ensures told { OnOk result (IsTold S.takes (added_by self.old.store (call_of command.now)) sink.old sink.new) }
         ensures refused { IfErr result (λ e. (w : World) → StandsFor self.old.store w
             → IsRefusal e (first_refusal (perform w (call_of command.now)).0)) }
@@ -125,13 +147,20 @@ impl Core {
             Command::Range(query) => self.apply_range(query),
             Command::Put(request) => self.apply_put(request, sink),
             Command::Delete(request) => self.apply_delete(request, sink),
+            Command::Txn(txn) => self.apply_txn(txn, sink),
+            Command::Grant { ttl, id } => self.apply_grant(*ttl, *id),
+            Command::Revoke { id } => self.apply_revoke(*id, sink),
+            Command::KeepAlive { id } => Ok(self.apply_keep_alive(*id)),
+            Command::TimeToLive { id, keys } => Ok(self.apply_time_to_live(*id, *keys)),
+            Command::Leases => Ok(self.apply_leases()),
         }
     }
 
     /// The answer of a receipt, on the state that it left. It lends keys and values from the core and copies none.
     ///
-    /// `AllocError` comes where the list of an answer, or the sort of a Range, found no memory; so never to a Put. What a delete
-    /// showed is read at the end of the revision before its own.
+    /// `AllocError` comes where the list of an answer, or the sort of a Range, found no memory; so never to a Put, a grant, a revoke
+    /// or a keepalive. What a delete showed is read at the end of the revision before its own, and each operation of a transaction
+    /// is read before its own changes. The keys of a lease take a walk over all keys of the store.
     pub fn answer<'a>(&'a self, receipt: &Receipt<'_>) -> Result<Answer<'a>, AllocError>
         requires { IsReadable receipt.now self.now }
         ensures { IfOk result (λ a. answer_view a ≡ answer_of receipt.now self.now) }
@@ -150,6 +179,25 @@ impl Core {
                 revision: receipt.revision,
                 deleted: *deleted,
                 previous: self.values_before(receipt.revision, range, *previous && *deleted > 0)?,
+            }),
+            Todo::Txn {
+                before,
+                succeeded,
+                steps,
+            } => Ok(Answer::Txn {
+                revision: receipt.revision,
+                succeeded: *succeeded,
+                replies: self.replies(*before, steps)?,
+            }),
+            Todo::Grant { id, ttl } => Ok(granted(receipt.revision, *id, *ttl)),
+            Todo::Revoke => Ok(Answer::Revoke {
+                revision: receipt.revision,
+            }),
+            Todo::KeepAlive { id, ttl } => Ok(renewed(receipt.revision, *id, *ttl)),
+            Todo::TimeToLive { id, keys } => self.time_to_live(receipt.revision, *id, *keys),
+            Todo::Leases => Ok(Answer::Leases {
+                revision: receipt.revision,
+                ids: self.book.ids()?,
             }),
         }
     }
@@ -199,11 +247,12 @@ fn batch_of(alloc: Global, versions: &[Version]) -> Result<Op, AllocError>
 
 #[cfg(test)]
 impl Core {
-    /// A core that keeps no version, at the last revision but one.
+    /// A core that keeps no version and no lease, at the last revision but one.
     pub(crate) fn at_last_but_one(alloc: Global) -> Self {
         Core {
             alloc,
             tables: Tables::at(alloc, LAST_MAIN - 1),
+            book: LeaseBook::new(alloc),
             stamp: 0,
         }
     }

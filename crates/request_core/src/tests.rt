@@ -21,18 +21,6 @@ fn put(key: &'static [u8], value: &'static [u8]) -> Command {
     })
 }
 
-/// A put that keeps the value, and shows what was there.
-fn keep(key: &'static [u8], lease: i64) -> Command {
-    Command::Put(PutRequest {
-        key: Bytes::from_static(key),
-        value: Bytes::new(),
-        lease,
-        prev_kv: true,
-        ignore_value: true,
-        ignore_lease: false,
-    })
-}
-
 fn between(key: &'static [u8], end: &'static [u8]) -> KeyRange {
     KeyRange {
         key: Bytes::from_static(key),
@@ -79,15 +67,6 @@ fn ranged<'a>(core: &'a mut Core, command: &Command) -> Result<RangeReply<'a>, F
     match core.answer(&receipt)? {
         Answer::Range(reply) => Ok(reply),
         _ => Err(Fail::from("no answer to a range")),
-    }
-}
-
-/// What a put found before it.
-fn replaced<'a>(core: &'a mut Core, command: &Command) -> Result<KvRef<'a>, Fail> {
-    let receipt = core.apply(command)?;
-    match core.answer(&receipt)? {
-        Answer::Put { previous, .. } => Ok(previous.ok_or("nothing before")?),
-        _ => Err(Fail::from("no answer to a put")),
     }
 }
 
@@ -143,64 +122,6 @@ fn a_delete_of_two_keys(rt: HostRuntime) -> Result<(), Fail> {
     assert_eq!(rt; core.status().revision, 6);
     assert_eq!(rt; core.status().versions, 6);
     assert_eq!(rt; core.stamp(), 5);
-    Ok(())
-}
-
-/// A read at the revision before a delete still finds the keys, and one in the future is refused.
-#[test]
-fn ranges_at_revisions(rt: HostRuntime) -> Result<(), Fail> {
-    let mut core = stored(rt.alloc())?;
-    done(&mut core, &delete(b"a", b"c"))?;
-    assert_eq!(rt; ranged(&mut core, &all_at(5))?.count, 3);
-    assert_eq!(rt; ranged(&mut core, &all_at(0))?.count, 1);
-    assert_eq!(rt; ranged(&mut core, &all_at(2))?.revision, 6);
-    assert_eq!(rt; refused(&mut core, &all_at(7)), Some(Refusal::Future(6)));
-    Ok(())
-}
-
-#[test]
-fn a_put_that_keeps_the_value(rt: HostRuntime) -> Result<(), Fail> {
-    let mut core = stored(rt.alloc())?;
-    let before = replaced(&mut core, &keep(b"c", 0))?;
-    assert_eq!(rt; before.value, b"1".as_slice());
-    assert_eq!(rt; before.modified, 4);
-    let kvs = ranged(&mut core, &all_at(0))?.kvs;
-    assert_eq!(rt; kvs.len(), 3);
-    assert_eq!(rt; kvs[2].value, b"1".as_slice());
-    assert_eq!(rt; kvs[2].version, 2);
-    drop(kvs);
-    assert_eq!(rt;
-        refused(&mut core, &keep(b"d", 0)),
-        Some(Refusal::KeyMissing)
-    );
-    assert_eq!(rt;
-        refused(&mut core, &keep(b"c", 7)),
-        Some(Refusal::LeaseMissing)
-    );
-    Ok(())
-}
-
-#[test]
-fn a_put_after_a_delete_begins_anew(rt: HostRuntime) -> Result<(), Fail> {
-    let mut core = stored(rt.alloc())?;
-    done(&mut core, &delete(b"b", b""))?;
-    done(&mut core, &put(b"b", b"3"))?;
-    let kvs = ranged(&mut core, &all_at(0))?.kvs;
-    assert_eq!(rt; kvs.len(), 3);
-    assert_eq!(rt; kvs[1].create, 7);
-    assert_eq!(rt; kvs[1].version, 1);
-    Ok(())
-}
-
-#[test]
-fn a_delete_of_nothing(rt: HostRuntime) -> Result<(), Fail> {
-    let mut core = stored(rt.alloc())?;
-    let (count, before) = deleted(&mut core, &delete(b"d", b""))?;
-    assert_eq!(rt; count, 0);
-    assert_eq!(rt; before.len(), 0);
-    drop(before);
-    assert_eq!(rt; core.status().revision, 5);
-    assert_eq!(rt; core.stamp(), 4);
     Ok(())
 }
 

@@ -13,20 +13,21 @@ use kv_model::version::{Body, Rev, Version};
 use range_view::reply::KvRef;
 use std::alloc::{AllocError, Global};
 
-/// The first refusal of a put whose key holds this, if there is one; where no lease is granted, and that of spent revisions
-/// comes last.
+/// The first refusal of a put whose key holds this, if there is one, by whether the lease that it names is granted; that of
+/// spent revisions comes last.
 pub fn fault_of_put(
     request: &PutRequest,
     held: Option<KvRef<'_>>,
+    is_granted: bool,
     is_spent: bool,
 ) -> Option<Refusal>
-    ensures { result ≡ option_or (option_or (txns.put_fault request.now) (writing.held_refusal [] request.now (option_map kv_view held.entry)))
+    ensures { result ≡ option_or (option_or (txns.put_fault request.now) (writing.held_refusal is_granted request.now (option_map kv_view held.entry)))
         (refuse_if is_spent Refusal.RevisionsSpent) }
 {
     if let Some(refusal) = put_fault(request) {
         return Some(refusal);
     }
-    if let Some(refusal) = held_refusal(request, held) {
+    if let Some(refusal) = held_refusal(request, held, is_granted) {
         return Some(refusal);
     }
     if is_spent {
@@ -51,13 +52,13 @@ fn put_fault(request: &PutRequest) -> Option<Refusal>
     }
 }
 
-/// Why a put is refused where its key holds this, and no lease is granted.
-fn held_refusal(request: &PutRequest, held: Option<KvRef<'_>>) -> Option<Refusal>
-    ensures { result ≡ writing.held_refusal [] request.now (option_map kv_view held.entry) }
+/// Why a put is refused where its key holds this, by whether the lease that it names is granted.
+fn held_refusal(request: &PutRequest, held: Option<KvRef<'_>>, is_granted: bool) -> Option<Refusal>
+    ensures { result ≡ writing.held_refusal is_granted request.now (option_map kv_view held.entry) }
 {
     if (request.ignore_value || request.ignore_lease) && held.is_none() {
         Some(Refusal::KeyMissing)
-    } else if request.lease != 0 {
+    } else if request.lease != 0 && !is_granted {
         Some(Refusal::LeaseMissing)
     } else {
         None

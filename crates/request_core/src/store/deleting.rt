@@ -3,7 +3,7 @@ ghost use Rattle.kv_model.specs.History.{end_of};
 ghost use Rattle.kv_model.specs.Ranges.{live};
 ghost use Rattle.kv_model.specs.Txns.{if_asked};
 ghost use Rattle.range_view.specs.Replies.{kv_view};
-ghost use Rattle.std.specs.Prelude.{◌≡◌, map, ◌-◌, [], length, IfOk, IfErr, OnOk, OnErr, None};
+ghost use Rattle.std.specs.Prelude.{◌≡◌, false, map, ◌-◌, [], length, IfOk, IfErr, OnOk, OnErr, None};
 
 use super::Core;
 use crate::answer::{Receipt, Todo};
@@ -22,7 +22,7 @@ impl Core {
     ghost use Rattle.kv_model.specs.Stands.{StandsFor};
     ghost use Rattle.kv_model.specs.Step.{perform};
     ghost use Rattle.request_core.specs.State.{IsTold, added_by, fault_of_delete, added_by_delete, after_delete, answer_after_delete, live_in, raised_by_delete};
-    ghost use Rattle.request_core.specs.Answers.{Accepts, IsRefusal, IsReadable, answer_of, first_refusal};
+    ghost use Rattle.request_core.specs.Answers.{Accepts, IsRefusal, IsReadable, answer_of, first_refusal, is_beside};
 
     /// A DeleteRange appends the tombstones of the live keys of its range at the next revision, and nothing where none is live.
     pub(crate) fn apply_delete<'c, S: Sink>(
@@ -33,6 +33,7 @@ impl Core {
         ensures accepted { IfOk result (λ r. (w : World) → StandsFor self.old.store w
             → Accepts self.new r w (perform w (Call.delete request.now)).0 (perform w (Call.delete request.now)).1) }
         ensures readable { IfOk result (λ r. IsReadable r self.new) }
+        ensures beside { IfOk result (λ r. is_beside r.todo ≡ false) }
         ensures unraised { IfOk result (λ r. r.raised ≡ None → self.new ≡ self.old) }
         ensures told { OnOk result (IsTold S.takes (added_by self.old.store (Call.delete request.now)) sink.old sink.new) }
         ensures refused { IfErr result (λ e. (w : World) → StandsFor self.old.store w
@@ -49,6 +50,7 @@ impl Core {
         ensures answers { answer_of result self.now ≡ answer_after_delete self.now.store request.now deleted }
         ensures raised { (result.raised ≡ raised_by_delete deleted self.now.store.revision) × (result.watch ≡ None) }
         ensures readable { IsReadable result self.now }
+        ensures beside { is_beside result.todo ≡ false }
     {
         let revision = self.tables.revision();
         Receipt {

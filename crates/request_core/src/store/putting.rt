@@ -3,7 +3,7 @@ ghost use Rattle.kv_model.specs.History.{end_of, value_at};
 ghost use Rattle.kv_model.specs.Txns.{previous_value};
 ghost use Rattle.range_view.specs.Replies.{kv_view};
 ghost use Rattle.request_core.specs.Writing.{AreNext};
-ghost use Rattle.std.specs.Prelude.{◌≡◌, option_map, ◌+◌, ◌-◌, [], ◌∷◌, IfOk, IfErr, OnOk, OnErr, None, Some};
+ghost use Rattle.std.specs.Prelude.{◌≡◌, false, option_map, ◌+◌, ◌-◌, [], ◌∷◌, IfOk, IfErr, OnOk, OnErr, None, Some};
 
 use super::Core;
 use crate::answer::{Receipt, Todo};
@@ -22,7 +22,7 @@ impl Core {
     ghost use Rattle.kv_model.specs.Stands.{StandsFor};
     ghost use Rattle.kv_model.specs.Step.{perform};
     ghost use Rattle.request_core.specs.State.{IsTold, added_by, fault_of_put, added_by_put, after_put, answer_after_put, held_in};
-    ghost use Rattle.request_core.specs.Answers.{Accepts, IsRefusal, IsReadable, answer_of, first_refusal};
+    ghost use Rattle.request_core.specs.Answers.{Accepts, IsRefusal, IsReadable, answer_of, first_refusal, is_beside};
 
     /// A Put appends one version at the next revision.
     pub(crate) fn apply_put<'c, S: Sink>(
@@ -33,6 +33,7 @@ impl Core {
         ensures accepted { IfOk result (λ r. (w : World) → StandsFor self.old.store w
             → Accepts self.new r w (perform w (Call.put request.now)).0 (perform w (Call.put request.now)).1) }
         ensures readable { IfOk result (λ r. IsReadable r self.new) }
+        ensures beside { IfOk result (λ r. is_beside r.todo ≡ false) }
         ensures raised { IfOk result (λ r. r.raised ≡ Some (self.old.store.revision + 1)) }
         ensures told { OnOk result (IsTold S.takes (added_by self.old.store (Call.put request.now)) sink.old sink.new) }
         ensures refused { IfErr result (λ e. (w : World) → StandsFor self.old.store w
@@ -49,6 +50,7 @@ impl Core {
         ensures answers { answer_of result self.now ≡ answer_after_put self.now.store request.now }
         ensures raised { (result.raised ≡ Some self.now.store.revision) × (result.watch ≡ None) }
         ensures readable { IsReadable result self.now }
+        ensures beside { is_beside result.todo ≡ false }
     {
         let revision = self.tables.revision();
         Receipt {
@@ -93,7 +95,8 @@ impl Core {
             sub: 0,
         };
         let held = self.held(&request.key);
-        if let Some(refusal) = fault_of_put(request, held, self.is_spent()) {
+        let is_granted = self.book.is_granted(request.lease);
+        if let Some(refusal) = fault_of_put(request, held, is_granted, self.is_spent()) {
             return Err(refusal);
         }
         match put_versions(self.alloc, rev, request, held) {

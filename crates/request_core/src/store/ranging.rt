@@ -2,7 +2,7 @@
 ghost use Rattle.kv_model.specs.History.{end_of};
 ghost use Rattle.kv_model.specs.Ranges.{range_reply, revision_refusal};
 ghost use Rattle.range_view.specs.Replies.{reply_view};
-ghost use Rattle.std.specs.Prelude.{◌≡◌, IfOk, IfErr, None};
+ghost use Rattle.std.specs.Prelude.{◌≡◌, false, IfOk, IfErr, None};
 
 use super::Core;
 use crate::answer::{Receipt, Todo};
@@ -18,13 +18,14 @@ impl Core {
     ghost use Rattle.kv_model.specs.Stands.{StandsFor};
     ghost use Rattle.kv_model.specs.Step.{perform};
     ghost use Rattle.kv_model.specs.Stores.{refusal_of_range, reply_of_range};
-    ghost use Rattle.request_core.specs.Answers.{Accepts, IsRefusal, IsReadable, answer_of, first_refusal};
+    ghost use Rattle.request_core.specs.Answers.{Accepts, IsRefusal, IsReadable, answer_of, first_refusal, is_beside};
 
     /// A Range changes nothing, and takes no memory before its answer.
     pub(crate) fn apply_range<'c>(&self, query: &'c RangeQuery) -> Result<Receipt<'c>, Refusal>
         ensures accepted { IfOk result (λ r. (w : World) → StandsFor self.now.store w
             → Accepts self.now r w (perform w (Call.range query.now)).0 (perform w (Call.range query.now)).1) }
         ensures readable { IfOk result (λ r. IsReadable r self.now) }
+        ensures beside { IfOk result (λ r. is_beside r.todo ≡ false) }
         ensures refused { IfErr result (λ e. (w : World) → StandsFor self.now.store w
             → IsRefusal e (first_refusal (perform w (Call.range query.now)).0)) }
     {
@@ -49,6 +50,7 @@ impl Core {
         ensures answers { answer_of result self.now ≡ record { reply = reply_of_range self.now.store query.now; revision = self.now.store.revision } }
         ensures unraised { (result.raised ≡ None) × (result.watch ≡ None) }
         ensures readable { IsReadable result self.now }
+        ensures beside { is_beside result.todo ≡ false }
     {
         Receipt {
             stamp: self.stamp,

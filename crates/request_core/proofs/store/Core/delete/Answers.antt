@@ -1,4 +1,4 @@
-use Rattle.std.proofs.Common.{◌+◌, sym, ◌∙◌, ap, subst, length}
+use Rattle.std.proofs.Common.{◌+◌, ◌≤◌, ◌^◌, sym, ◌∙◌, ap, subst, length, rules}
 use Rattle.request_core.specs.Writing.{AreNext}
 use Rattle.request_core.specs.State.{live_in}
 use Rattle.request_core.proofs.Kept.{tombstones-next, tombstones-length}
@@ -9,7 +9,8 @@ append-requires-clause-next g c =
     let s = c.args.self.now.store in
     let kvs = live_in s c.args.request.now.range in
     let counted = c.len-deleted.ensures ∙ c.in-Ok.versions.ok.0 ∙ ap length c.in-Ok.ensures.made.1 ∙ tombstones-length (s.revision + 1) 0 kvs in
-    subst (AreNext s.revision) (sym c.in-Ok.ensures.made.1) (tombstones-next s.revision c.len-deleted.result kvs counted c.if-deleted-gt0.true)
+    let few : c.len-deleted.result ≤ 2 ^ 64 = search rules in
+    subst (AreNext s.revision) (sym c.in-Ok.ensures.made.1) (tombstones-next s.revision c.len-deleted.result kvs counted few c.if-deleted-gt0.true)
 
 pub returns-clause-counted : goal.returns-clause-counted
 returns-clause-counted g c =

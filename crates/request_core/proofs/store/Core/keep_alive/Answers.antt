@@ -1,0 +1,8 @@
+use Rattle.std.proofs.Common.{◌≡◌, sym, ◌∙◌, rules}
+use Rattle.std.proofs.lemmas.Int.{to_z-of_z}
+use Rattle.std.specs.Int.{w64}
+use Rattle.request_core.proofs.Leases.{none-granted}
+use Rattle.request_core.proofs.store.Core.keep_alive.Goals as goal
+
+pub returns-then-not-is_granted-clause-ttl : goal.returns-then-not-is_granted-clause-ttl
+returns-then-not-is_granted-clause-ttl c = none-granted c.args.self.now.store.leases c.args.id (search rules)

@@ -1,0 +1,89 @@
+//! The clock, and expiry.
+ghost use Rattle.kv_model.specs.Told.{Expiry as ModelExpiry};
+ghost use Rattle.request_core.specs.Answers.{is_memory};
+ghost use Rattle.std.specs.Prelude.{◌≡◌, MatchBool, ⊤, nat_lt, if◌then◌else◌, IfOk, IfErr, OnOk, OnErr, Some};
+
+use super::Core;
+use crate::answer::Expiry;
+use kv_model::feed::{NoSink, Sink};
+use kv_model::refusal::Refusal;
+
+impl Core {
+    ghost use Rattle.kv_model.specs.World.{World, at_moment};
+    ghost use Rattle.kv_model.specs.Stands.{StandsFor};
+    ghost use Rattle.kv_model.specs.Step.{expire};
+    ghost use Rattle.request_core.specs.State.{IsTold, added_by_expiry, added_by_revoke, after_moment, due_in};
+    ghost use Rattle.request_core.specs.Answers.{expiry_view};
+
+    /// Hands in the present moment, in milliseconds, and answers the clock: the greatest moment so far. An earlier one leaves
+    /// the clock, and one above 2^62 counts as 2^62. Takes no memory. Constant time.
+    pub fn moment(&mut self, now: u64) -> u64
+        ensures clock { result ≡ self.new.store.clock }
+        ensures made { self.new ≡ after_moment self.old now }
+        ensures stands { (w : World) → StandsFor self.old.store w → StandsFor self.new.store (at_moment w now) × (result ≡ (at_moment w now).clock) }
+    {
+        self.stamp = self.stamp.wrapping_add(1);
+        self.book.moment(now)
+    }
+
+    /// One step of expiry: revokes the lease that is due first, by deadline and then by ID, and deletes its keys in one revision.
+    ///
+    /// Refused as `RevisionsSpent` where the lease has keys and no revision comes after the present one, and as `Memory`; the
+    /// core is then as it was. Finding that no lease is due takes constant time; else the cost is that of a revoke.
+    pub fn expire(&mut self) -> Result<Expiry, Refusal>
+        ensures expired { IfOk result (λ e. (w : World) → StandsFor self.old.store w → (expiry_view e ≡ (expire w).0) × StandsFor self.new.store (expire w).1) }
+        ensures refused { IfErr result (λ e. MatchBool (is_memory e) ⊤ ((e ≡ Refusal.RevisionsSpent) × ((w : World) → StandsFor self.old.store w → (expire w).0 ≡ ModelExpiry.spent))) }
+        ensures err { OnErr result (self.new ≡ self.old) }
+    {
+        self.expire_over(&mut NoSink)
+    }
+
+    /// One step of expiry that hands the tombstones to a sink before they stand, in one batch. A sink that finds no memory
+    /// refuses the step.
+    pub(crate) fn expire_over<S: Sink>(&mut self, sink: &mut S) -> Result<Expiry, Refusal>
+        ensures expired { IfOk result (λ e. (w : World) → StandsFor self.old.store w → (expiry_view e ≡ (expire w).0) × StandsFor self.new.store (expire w).1) }
+        ensures told { OnOk result (IsTold S.takes (added_by_expiry self.old.store) sink.old sink.new) }
+        ensures refused { IfErr result (λ e. MatchBool (is_memory e) ⊤ ((e ≡ Refusal.RevisionsSpent) × ((w : World) → StandsFor self.old.store w → (expire w).0 ≡ ModelExpiry.spent))) }
+        ensures err { OnErr result ((self.new ≡ self.old) × (sink.new ≡ sink.old)) }
+    {
+        match self.book.due() {
+            Some(id) => self.expire_lease(id, sink),
+            None => Ok(Expiry::Nothing),
+        }
+    }
+
+    /// Revokes the lease that is due.
+    fn expire_lease<S: Sink>(&mut self, id: i64, sink: &mut S) -> Result<Expiry, Refusal>
+        requires { due_in self.old.store ≡ Some id }
+        ensures expired { IfOk result (λ e. (w : World) → StandsFor self.old.store w → (expiry_view e ≡ (expire w).0) × StandsFor self.new.store (expire w).1) }
+        ensures told { OnOk result (IsTold S.takes (added_by_revoke self.old.store id) sink.old sink.new) }
+        ensures refused { IfErr result (λ e. MatchBool (is_memory e) ⊤ ((e ≡ Refusal.RevisionsSpent) × ((w : World) → StandsFor self.old.store w → (expire w).0 ≡ ModelExpiry.spent))) }
+        ensures err { OnErr result ((self.new ≡ self.old) × (sink.new ≡ sink.old)) }
+    {
+        match self.revoke(id, sink) {
+            Ok(deleted) => Ok(self.expired(id, deleted)),
+            Err(refusal) => Err(refusal_of_expiry(refusal)),
+        }
+    }
+
+    /// That a lease was revoked with so many keys.
+    fn expired(&self, id: i64, deleted: u64) -> Expiry
+        ensures { expiry_view result ≡ ModelExpiry.expired id self.now.store.revision (nat_lt 0 deleted) }
+    {
+        Expiry::Expired {
+            id,
+            revision: self.tables.revision(),
+            raised: deleted > 0,
+        }
+    }
+}
+
+/// Why a step of expiry is refused where the revoke is: the lease that is due is granted, so it wants memory, or a revision.
+fn refusal_of_expiry(refusal: Refusal) -> Refusal
+    ensures { result ≡ (if is_memory refusal then Refusal.Memory else Refusal.RevisionsSpent) }
+{
+    match refusal {
+        Refusal::Memory => Refusal::Memory,
+        _ => Refusal::RevisionsSpent,
+    }
+}
