@@ -13,7 +13,7 @@ use Rattle.kv_model.specs.Requests as requests
 use Rattle.kv_model.specs.Keys.{same_key}
 use Rattle.kv_model.specs.Requests.{Read, ◌>>=◌}
 use Rattle.gateway_read.specs.declared.requests.Request.{Request}
-use Rattle.gateway_read.specs.declared.requests.Request.TheVariants.{Range, Put, Delete}
+use Rattle.gateway_read.specs.declared.requests.Request.TheVariants.{Range, Put, Delete, Txn, Grant, Revoke, KeepAlive, TimeToLive, Leases}
 use Rattle.gateway_read.specs.Parts.{filtered, call_read}
 
 pub range_query-filtered : (ms : Members) {key end : List ℕ} {limit revision : ℤ} {order : SortOrder} {target : SortTarget}
@@ -61,7 +61,10 @@ named_value-map f (e ∷ table) name = ap (cond (same_key e.0 name) (Some (f e.1
 
 -- what each path asks for
 abbrev pub known_paths : List (List ℕ × Request)
-known_paths = (codes "/v3/kv/range", Range) ∷ (codes "/v3/kv/put", Put) ∷ (codes "/v3/kv/deleterange", Delete) ∷ []
+known_paths = (codes "/v3/kv/range", Range) ∷ (codes "/v3/kv/put", Put) ∷ (codes "/v3/kv/deleterange", Delete) ∷ (codes "/v3/kv/txn", Txn)
+    ∷ (codes "/v3/lease/grant", Grant) ∷ (codes "/v3/lease/revoke", Revoke) ∷ (codes "/v3/kv/lease/revoke", Revoke) ∷ (codes "/v3/lease/keepalive", KeepAlive)
+    ∷ (codes "/v3/lease/timetolive", TimeToLive) ∷ (codes "/v3/kv/lease/timetolive", TimeToLive)
+    ∷ (codes "/v3/lease/leases", Leases) ∷ (codes "/v3/kv/lease/leases", Leases) ∷ []
 
 by_path : (path body : List ℕ) → requests.request_of path body
     ≡ (requests.some_or requests.no_path (option_map call_read (requests.named_value known_paths path)) >>= λ reader. requests.object_of body >>= reader)

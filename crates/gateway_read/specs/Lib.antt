@@ -1,5 +1,5 @@
 pub mod Compares
 pub mod Fields
-pub mod Leases
 pub mod Parts
 pub mod Reading
+pub mod Transactions

@@ -2,10 +2,10 @@
 use Rattle.std.specs.Prelude.{Ok, codes}
 use Rattle.serde_json.specs.Data.{Members}
 use Rattle.kv_model.specs.declared.call.RangeQuery.{RangeQuery}
-use Rattle.kv_model.specs.Calls.{Call}
-use Rattle.kv_model.specs.Requests.{Read, ◌>>=◌, truth_field, integer_field, range_query, put_request, delete_request}
+use Rattle.kv_model.specs.Calls.{Call, as_call}
+use Rattle.kv_model.specs.Requests.{Read, ◌>>=◌, truth_field, integer_field, range_query, put_request, delete_request, txn_request, most_nested, grant_request, id_request, time_to_live_request}
 use Rattle.gateway_read.specs.declared.requests.Request.{Request}
-use Rattle.gateway_read.specs.declared.requests.Request.TheVariants.{Range, Put, Delete}
+use Rattle.gateway_read.specs.declared.requests.Request.TheVariants.{Range, Put, Delete, Txn, Grant, Revoke, KeepAlive, TimeToLive, Leases}
 
 -- the last seven fields of a Range, over a query that has the others
 unfoldable pub filtered : RangeQuery → Members → Read RangeQuery
@@ -32,3 +32,9 @@ abbrev pub call_read : Request → Members → Read Call
 call_read Range ms = range_query ms >>= λ q. Ok (Call.range q)
 call_read Put ms = put_request ms >>= λ p. Ok (Call.put p)
 call_read Delete ms = delete_request ms >>= λ d. Ok (Call.delete d)
+call_read Txn ms = txn_request most_nested ms >>= λ t. Ok (as_call t)
+call_read Grant ms = grant_request ms
+call_read Revoke ms = id_request Call.revoke ms
+call_read KeepAlive ms = id_request Call.keep_alive ms
+call_read TimeToLive ms = time_to_live_request ms
+call_read Leases ms = Ok Call.leases

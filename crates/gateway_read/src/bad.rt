@@ -3,7 +3,7 @@ ghost use Rattle.std.specs.Prelude.{◌≡◌};
 ghost use Rattle.gateway_read.specs.Reading.{number_of};
 
 use crate::field::Field;
-use std::alloc::AllocError;
+use std::alloc::{AllocError, AllocFailed};
 use thiserror::Error;
 
 /// Why a request is refused before it reaches the store. Its display is the text of the refusal.
@@ -12,7 +12,7 @@ pub enum Bad {
     /// The body is no JSON object: not UTF-8, no JSON text (RFC 8259), nested deeper than 127, or of another kind.
     #[error("gateway: body is not a JSON object")]
     NotJson,
-    /// The field's value is not of its kind, does not fit it, or asks for what is not built.
+    /// The field's value is not of its kind, or does not fit it.
     #[error("gateway: bad field {}", .0.snake())]
     BadField(Field),
     /// The field's text is no base64 (RFC 4648, sections 4 and 5).
@@ -51,6 +51,16 @@ impl From<AllocError> for Bad {
     ghost from_gives = { λ _ e. e ≡ Memory };
 
     fn from(_refused: AllocError) -> Self {
+        Self::Memory
+    }
+}
+
+impl<T: Drop> From<AllocFailed<T>> for Bad {
+    ghost use Rattle.gateway_read.specs.declared.bad.Bad.TheVariants.{Memory};
+
+    ghost from_gives = { λ _ e. e ≡ Memory };
+
+    fn from(_refused: AllocFailed<T>) -> Self {
         Self::Memory
     }
 }

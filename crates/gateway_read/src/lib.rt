@@ -16,19 +16,28 @@ pub mod comparing;
 mod deleting;
 pub mod field;
 mod kinds;
-pub mod leasing;
+mod leasing;
 mod members;
 mod requests;
 mod sorting;
 mod symbols;
 #[cfg(test)]
 mod tests;
-mod unbuilt;
+mod transacting;
 
-const PATHS: [(&str, Request); 3] = [
+const PATHS: [(&str, Request); 12] = [
     ("/v3/kv/range", Request::Range),
     ("/v3/kv/put", Request::Put),
     ("/v3/kv/deleterange", Request::Delete),
+    ("/v3/kv/txn", Request::Txn),
+    ("/v3/lease/grant", Request::Grant),
+    ("/v3/lease/revoke", Request::Revoke),
+    ("/v3/kv/lease/revoke", Request::Revoke),
+    ("/v3/lease/keepalive", Request::KeepAlive),
+    ("/v3/lease/timetolive", Request::TimeToLive),
+    ("/v3/kv/lease/timetolive", Request::TimeToLive),
+    ("/v3/lease/leases", Request::Leases),
+    ("/v3/kv/lease/leases", Request::Leases),
 ];
 
 /// The command that a POST of this body to this path asks for (the etcd documentation, "gRPC gateway").

@@ -1,7 +1,7 @@
 //! The fields of an object, each by its kind. An absent field is at its kind's default, and so is one that is null.
 ghost use Rattle.std.specs.Prelude.{◌≡◌, map, option_map};
 ghost use Rattle.serde_json.specs.Find as find;
-ghost use Rattle.serde_json.specs.View.{view, members_view};
+ghost use Rattle.serde_json.specs.View.{view, members_view, items_view};
 ghost use Rattle.kv_model.specs.Requests as requests;
 ghost use Rattle.gateway_read.specs.Fields.{snake_of};
 ghost use Rattle.gateway_read.specs.Reading.{Gives};
@@ -21,7 +21,7 @@ fn member<'v>(object: &'v Map<String, Value>, name: &str) -> Option<&'v Value>
 }
 
 /// The value under a name of the field, the snake one first, unless it is null.
-fn given<'v>(object: &'v Map<String, Value>, field: Field) -> Option<&'v Value>
+pub(crate) fn given<'v>(object: &'v Map<String, Value>, field: Field) -> Option<&'v Value>
     ensures { option_map (λ v. view v.now) result
         ≡ requests.given (snake_of field) (members_view object.now.entries) }
 {
@@ -85,5 +85,22 @@ pub(crate) fn enum_field<T: Copy>(
     match given(object, field) {
         None => Ok(default),
         Some(value) => kinds::enum_of(table, value).ok_or(Bad::BadField(field)),
+    }
+}
+
+/// A list. The default is an empty one.
+pub(crate) fn list_field<'v>(
+    object: &'v Map<String, Value>,
+    field: Field,
+) -> Result<&'v [Value], Bad>
+    ensures { Gives (λ values. items_view values.now) result
+        (requests.list_field (snake_of field) (members_view object.now.entries)) }
+{
+    match given(object, field) {
+        None => Ok(&[]),
+        Some(value) => match value.as_array() {
+            Some(values) => Ok(values),
+            None => Err(Bad::BadField(field)),
+        },
     }
 }

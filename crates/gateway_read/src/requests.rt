@@ -8,9 +8,10 @@ ghost use Rattle.gateway_read.specs.Reading.{Gives};
 use crate::bad::Bad;
 use crate::deleting::delete_request;
 use crate::field::Field;
+use crate::leasing::{grant_request, keep_alive_request, revoke_request, time_to_live_request};
 use crate::members::{bytes_field, integer_field, truth_field};
 use crate::sorting::{sort_order, sort_target};
-use crate::unbuilt::no_integer;
+use crate::transacting::txn_request;
 use kv_model::call::{Command, PutRequest, RangeQuery};
 use kv_model::version::KeyRange;
 use serde_json::{Map, Value};
@@ -22,6 +23,12 @@ pub(crate) enum Request {
     Range,
     Put,
     Delete,
+    Txn,
+    Grant,
+    Revoke,
+    KeepAlive,
+    TimeToLive,
+    Leases,
 }
 
 /// Reads the fields of a request. The first fault counts.
@@ -36,11 +43,17 @@ pub(crate) fn command(
         Request::Range => Ok(Command::Range(range_query(alloc, object)?)),
         Request::Put => Ok(Command::Put(put_request(alloc, object)?)),
         Request::Delete => Ok(Command::Delete(delete_request(alloc, object)?)),
+        Request::Txn => Ok(Command::Txn(txn_request(alloc, object)?)),
+        Request::Grant => grant_request(object),
+        Request::Revoke => revoke_request(object),
+        Request::KeepAlive => keep_alive_request(object),
+        Request::TimeToLive => time_to_live_request(object),
+        Request::Leases => Ok(Command::Leases),
     }
 }
 
 #[tactic(auto, unfolding(kv_model::specs::Requests::range_query, crate::specs::Fields::snake_of, crate::specs::Parts::filtered))]
-fn range_query(alloc: Global, object: &Map<String, Value>) -> Result<RangeQuery, Bad>
+pub(crate) fn range_query(alloc: Global, object: &Map<String, Value>) -> Result<RangeQuery, Bad>
     ensures { Gives (λ query. query) result
         (requests.range_query (members_view object.now.entries)) }
 {
@@ -85,14 +98,14 @@ fn filtered(object: &Map<String, Value>, query: RangeQuery) -> Result<RangeQuery
 }
 
 #[tactic(auto, unfolding(kv_model::specs::Requests::put_request, crate::specs::Fields::snake_of))]
-fn put_request(alloc: Global, object: &Map<String, Value>) -> Result<PutRequest, Bad>
+pub(crate) fn put_request(alloc: Global, object: &Map<String, Value>) -> Result<PutRequest, Bad>
     ensures { Gives (λ request. request) result
         (requests.put_request (members_view object.now.entries)) }
 {
     Ok(PutRequest {
         key: bytes_field(alloc, object, Field::Key)?,
         value: bytes_field(alloc, object, Field::Value)?,
-        lease: no_integer(object, Field::Lease)?,
+        lease: integer_field(object, Field::Lease)?,
         prev_kv: truth_field(object, Field::PrevKv)?,
         ignore_value: truth_field(object, Field::IgnoreValue)?,
         ignore_lease: truth_field(object, Field::IgnoreLease)?,

@@ -2,7 +2,6 @@
 use crate::bad::Bad;
 use crate::comparing::compare_request;
 use crate::field::Field;
-use crate::leasing::{Grant, TimeToLive, grant_request, id_request, time_to_live_request};
 use crate::{kinds, read, sorting, symbols};
 use kv_model::call::{Command, Operand, Relation, SortOrder, SortTarget};
 use serde_json::Value;
@@ -12,6 +11,8 @@ use std::test::Fail;
 const RANGE: &str = "/v3/kv/range";
 
 const PUT: &str = "/v3/kv/put";
+
+const TXN: &str = "/v3/kv/txn";
 
 fn refusal(alloc: Global, path: &str, body: &[u8]) -> Option<Bad> {
     match read(alloc, path.as_bytes(), body) {
@@ -58,13 +59,14 @@ fn the_fields_of_a_range_are_read(rt: HostRuntime) -> Result<(), Fail> {
 
 #[test]
 fn a_put_is_read(rt: HostRuntime) -> Result<(), Fail> {
-    let body = b" {\"value\":\"_-8\",\"key\":\"Zm9v\",\"prevKv\":true,\"ignore_lease\":true}\n";
+    let body =
+        b" {\"value\":\"_-8\",\"key\":\"Zm9v\",\"lease\":\"7\",\"prevKv\":true,\"ignore_lease\":true}\n";
     let Command::Put(request) = read(rt.alloc(), PUT.as_bytes(), body)? else {
         return Err(Fail::new("no put"));
     };
     assert_eq!(rt; request.key.as_slice(), b"foo".as_slice());
     assert_eq!(rt; request.value.as_slice(), [255, 239].as_slice());
-    assert_eq!(rt; request.lease, 0);
+    assert_eq!(rt; request.lease, 7);
     assert_eq!(rt;
         (request.prev_kv, request.ignore_value, request.ignore_lease),
         (true, false, true)
@@ -156,12 +158,12 @@ fn the_first_fault_counts(rt: HostRuntime) -> Result<(), Fail> {
         refusal(alloc, PUT, b"{\"key\":\"\xff\"}"),
         Some(Bad::NotJson)
     );
-    let lease = b"{\"lease\":\"5\",\"prev_kv\":true,\"value\":\"=\"}";
+    let lease = b"{\"lease\":\"5.\",\"prev_kv\":true,\"value\":\"=\"}";
     assert_eq!(rt;
         refusal(alloc, PUT, lease),
         Some(Bad::BadBase64(Field::Value))
     );
-    let lease = b"{\"lease\":\"5\",\"prev_kv\":true,\"value\":null}";
+    let lease = b"{\"lease\":\"5.\",\"prev_kv\":true,\"value\":null}";
     assert_eq!(rt;
         refusal(alloc, PUT, lease),
         Some(Bad::BadField(Field::Lease))
@@ -391,18 +393,76 @@ fn faults_of_a_compare(rt: HostRuntime) -> Result<(), Fail> {
     Ok(())
 }
 
+/// Which lease command it is, its ID, and what it has beside: the time to live, or whether the keys are asked for.
+fn lease_command(command: &Command) -> (&'static str, i64, i64) {
+    match command {
+        Command::Grant { ttl, id } => ("grant", *id, *ttl),
+        Command::Revoke { id } => ("revoke", *id, 0),
+        Command::KeepAlive { id } => ("keep alive", *id, 0),
+        Command::TimeToLive { id, keys } => ("time to live", *id, i64::from(*keys)),
+        Command::Leases => ("leases", 0, 0),
+        _ => ("another", 0, 0),
+    }
+}
+
 #[test]
 fn lease_requests_are_read(rt: HostRuntime) -> Result<(), Fail> {
-    let value = Value::from_str(
-        rt.alloc(),
-        "{\"TTL\":\"5\",\"ID\":-2,\"keys\":true,\"ttl\":1}",
-    )?;
-    let object = value.as_object().ok_or("no object")?;
-    assert_eq!(rt; grant_request(object)?, Grant { ttl: 5, id: -2 });
-    assert_eq!(rt; id_request(object)?, -2);
-    assert_eq!(rt;
-        time_to_live_request(object)?,
-        TimeToLive { id: -2, keys: true }
-    );
+    let body = b"{\"TTL\":\"5\",\"ID\":-2,\"keys\":true,\"ttl\":1}";
+    for (path, expected) in [
+        ("/v3/lease/grant", ("grant", -2, 5)),
+        ("/v3/lease/revoke", ("revoke", -2, 0)),
+        ("/v3/kv/lease/revoke", ("revoke", -2, 0)),
+        ("/v3/lease/keepalive", ("keep alive", -2, 0)),
+        ("/v3/lease/timetolive", ("time to live", -2, 1)),
+        ("/v3/kv/lease/timetolive", ("time to live", -2, 1)),
+        ("/v3/lease/leases", ("leases", 0, 0)),
+        ("/v3/kv/lease/leases", ("leases", 0, 0)),
+    ] {
+        let command = read(rt.alloc(), path.as_bytes(), body)?;
+        assert_eq!(rt; lease_command(&command), expected, "of {path}");
+    }
     Ok(())
+}
+
+#[test]
+fn a_transaction_is_read(rt: HostRuntime) -> Result<(), Fail> {
+    let body =
+        b"{\"compare\":[{\"key\":\"YQ==\"}],\"success\":[{\"requestPut\":{\"key\":\"YQ==\"}},{\"request_range\":{\"key\":\"Yg==\"}}],\"failure\":[{\"requestTxn\":{\"failure\":[{\"request_delete_range\":{\"key\":\"Yw==\"}}]}}]}";
+    match read(rt.alloc(), TXN.as_bytes(), body)? {
+        Command::Txn(txn) => {
+            assert_eq!(rt; txn.compare.len(), 1);
+            assert_eq!(rt; txn.success.len(), 2);
+            assert_eq!(rt; txn.failure.len(), 1);
+            Ok(())
+        }
+        _ => Err(Fail::new("no transaction")),
+    }
+}
+
+#[test]
+fn faults_of_a_transaction(rt: HostRuntime) {
+    let alloc = rt.alloc();
+    for (body, expected) in [
+        ("{\"compare\":{}}", Bad::BadField(Field::Compare)),
+        ("{\"compare\":[1]}", Bad::BadField(Field::Compare)),
+        ("{\"success\":[{}]}", Bad::BadField(Field::Success)),
+        (
+            "{\"failure\":[{\"requestRange\":{},\"request_put\":{}}]}",
+            Bad::BadField(Field::Failure),
+        ),
+        (
+            "{\"success\":[{\"requestTxn\":[]}],\"failure\":0}",
+            Bad::BadField(Field::RequestTxn),
+        ),
+        (
+            "{\"failure\":[{\"requestTxn\":{\"success\":[{\"requestPut\":{\"key\":\"?\"}}]}}]}",
+            Bad::BadBase64(Field::Key),
+        ),
+    ] {
+        assert_eq!(rt;
+            refusal(alloc, TXN, body.as_bytes()),
+            Some(expected),
+            "of {body}"
+        );
+    }
 }

@@ -1,0 +1,141 @@
+//! The fields of a transaction, and of those within it.
+ghost use Rattle.std.specs.Prelude.{◌≡◌};
+ghost use Rattle.serde_json.specs.View.{view, members_view, items_view};
+ghost use Rattle.kv_model.specs.Calls.{txn_view, op_view, ops_view};
+ghost use Rattle.kv_model.specs.Requests as requests;
+ghost use Rattle.gateway_read.specs.Fields.{snake_of};
+ghost use Rattle.gateway_read.specs.Reading.{Gives};
+ghost use Rattle.gateway_read.specs.Transactions.{message_of, object_under, kind_read, compares_read};
+
+use crate::bad::Bad;
+use crate::comparing::compare_request;
+use crate::deleting::delete_request;
+use crate::field::Field;
+use crate::members::{given, list_field};
+use crate::requests::{put_request, range_query};
+use kv_model::call::{Compare, Operation, Txn};
+use serde_json::{Map, Value};
+use std::alloc::Global;
+
+/// How many transactions may lie in one another: more than a JSON text nests.
+const MOST_NESTED: u8 = 127;
+
+/// What an operation asks for, with the object of its fields.
+enum Kind<'v> {
+    Range(&'v Map<String, Value>),
+    Put(&'v Map<String, Value>),
+    Delete(&'v Map<String, Value>),
+    Inner(&'v Map<String, Value>),
+}
+
+/// Reads the fields `compare`, `success` and `failure`, in this order (the etcd documentation, TxnRequest), and the
+/// transactions that lie within. The first fault counts: `BadField` or `BadBase64`. An operation is of one kind, or it is
+/// `BadField` of its list. `Memory` comes where a growth finds no memory. Linear in the number of compares and operations.
+pub(crate) fn txn_request(alloc: Global, object: &Map<String, Value>) -> Result<Txn, Bad>
+    ensures { Gives txn_view result
+        (requests.txn_request requests.most_nested (members_view object.now.entries)) }
+{
+    txn_within(alloc, object, MOST_NESTED)
+}
+
+/// The transaction, where so many may lie in one another.
+#[cycle(transacting)]
+#[tactic(auto, unfolding(crate::specs::Fields::snake_of))]
+fn txn_within(alloc: Global, object: &Map<String, Value>, depth: u8) -> Result<Txn, Bad>
+    ensures { Gives txn_view result
+        (requests.txn_request depth (members_view object.now.entries)) }
+{
+    if depth == 0 {
+        return Err(Bad::NotJson);
+    }
+    let compare = compares(alloc, object)?;
+    let success = branch(alloc, object, Field::Success, depth - 1)?;
+    let failure = branch(alloc, object, Field::Failure, depth - 1)?;
+    Ok(Txn {
+        compare,
+        success,
+        failure,
+    })
+}
+
+/// The operations of a list, where so many transactions may lie in one another.
+#[cycle(transacting)]
+fn branch(
+    alloc: Global,
+    object: &Map<String, Value>,
+    list: Field,
+    depth: u8,
+) -> Result<Vec<Operation>, Bad>
+    ensures { Gives (λ operations. ops_view operations.items) result
+        (requests.branch (requests.txn_request depth) (snake_of list) (members_view object.now.entries)) }
+{
+    let values = list_field(object, list)?;
+    let mut operations = Vec::with_capacity(alloc, values.len())?;
+    for value in values {
+        let operation = operation(alloc, value, list, depth)?;
+        operations.push(operation)?;
+    }
+    Ok(operations)
+}
+
+/// An operation of a list, where so many transactions may lie in one another.
+#[cycle(transacting)]
+fn operation(alloc: Global, value: &Value, list: Field, depth: u8) -> Result<Operation, Bad>
+    ensures { Gives op_view result
+        (requests.operation (requests.txn_request depth) (snake_of list) (view value.now)) }
+{
+    match kind_of(value, list)? {
+        Kind::Range(object) => Ok(Operation::Range(range_query(alloc, object)?)),
+        Kind::Put(object) => Ok(Operation::Put(put_request(alloc, object)?)),
+        Kind::Delete(object) => Ok(Operation::Delete(delete_request(alloc, object)?)),
+        Kind::Inner(object) => Ok(Operation::Inner(txn_within(alloc, object, depth)?)),
+    }
+}
+
+/// The one kind of an operation of a list.
+#[tactic(auto, unfolding(crate::specs::Fields::snake_of, crate::specs::Transactions::kind_read))]
+fn kind_of<'v>(value: &'v Value, list: Field) -> Result<Kind<'v>, Bad>
+    ensures { Gives message_of result (kind_read (snake_of list) (view value.now)) }
+{
+    let object = object_under(value, list)?;
+    let range = given(object, Field::RequestRange);
+    let put = given(object, Field::RequestPut);
+    let delete = given(object, Field::RequestDeleteRange);
+    let inner = given(object, Field::RequestTxn);
+    match (range, put, delete, inner) {
+        (Some(range), None, None, None) => {
+            Ok(Kind::Range(object_under(range, Field::RequestRange)?))
+        }
+        (None, Some(put), None, None) => Ok(Kind::Put(object_under(put, Field::RequestPut)?)),
+        (None, None, Some(delete), None) => Ok(Kind::Delete(object_under(
+            delete,
+            Field::RequestDeleteRange,
+        )?)),
+        (None, None, None, Some(inner)) => {
+            Ok(Kind::Inner(object_under(inner, Field::RequestTxn)?))
+        }
+        _ => Err(Bad::BadField(list)),
+    }
+}
+
+/// The members of a value under this name.
+fn object_under<'v>(value: &'v Value, field: Field) -> Result<&'v Map<String, Value>, Bad>
+    ensures { Gives (λ members. members_view members.now.entries) result
+        (object_under (snake_of field) (view value.now)) }
+{
+    value.as_object().ok_or(Bad::BadField(field))
+}
+
+#[tactic(auto, unfolding(crate::specs::Fields::snake_of))]
+fn compares(alloc: Global, object: &Map<String, Value>) -> Result<Vec<Compare>, Bad>
+    ensures { Gives (λ compares. compares.items) result
+        (compares_read (members_view object.now.entries)) }
+{
+    let values = list_field(object, Field::Compare)?;
+    let mut compares = Vec::with_capacity(alloc, values.len())?;
+    for value in values {
+        let compare = compare_request(alloc, value)?;
+        compares.push(compare)?;
+    }
+    Ok(compares)
+}
