@@ -2,13 +2,13 @@
 use Rattle.std.proofs.Common.{◌≡◌, ℕ, arith, nat_eq, true, false, List, [], ◌∷◌, ◌++◌, length, map, refl, ap, sym, ◌∙◌, append_assoc}
 use Rattle.std.specs.Prelude.{Option, None, Some, option_map, Result, Ok, Err, OnOk}
 use Rattle.std.specs.List.{flat_map}
-use Rattle.json.specs.Token.{Token, key, begin_array, end_array}
+use Rattle.json.specs.Token.{Token, key, begin_object, end_object, begin_array, end_array}
 use Rattle.json.specs.Print.{print}
 use Rattle.json.specs.Tree.{items_tokens, members_tokens}
 use Rattle.serde_json.specs.Data.{Data, Members}
 use Rattle.serde_json.specs.Written.{items_outline, members_outline, compact_text}
 use Rattle.serde_json.proofs.Texts.{print-outline}
-use Rattle.kv_model.specs.Answers.{with_field, list_field, items_of}
+use Rattle.kv_model.specs.Answers.{with_field, members, object, list_field, items_of}
 use Rattle.gateway_text.specs.Tokens.{data_tokens, field_tokens}
 
 -- what follows from a fact of an `Ok`
@@ -21,6 +21,19 @@ pub member_tokens : (name : List ℕ) (f : Option Data) (rest : Members)
     → members_tokens (members_outline (with_field name f rest)) ≡ field_tokens name f ++ members_tokens (members_outline rest)
 member_tokens name None rest = refl
 member_tokens name (Some d) rest = refl
+
+-- the members of an object, one after another, and its end
+abbrev pub fields_tokens : List (List ℕ × Option Data) → List Token
+fields_tokens [] = end_object ∷ []
+fields_tokens (f ∷ fs) = field_tokens f.0 f.1 ++ fields_tokens fs
+
+members_of_fields : (fs : List (List ℕ × Option Data)) → members_tokens (members_outline (members fs)) ≡ fields_tokens fs
+members_of_fields [] = refl
+members_of_fields (f ∷ fs) = member_tokens f.0 f.1 (members fs) ∙ ap (λ s. field_tokens f.0 f.1 ++ s) (members_of_fields fs)
+
+-- an object is written by its members
+pub by_fields : (old new : List Token) (fs : List (List ℕ × Option Data)) → new ≡ old ++ begin_object ∷ fields_tokens fs → new ≡ old ++ data_tokens (object fs)
+by_fields old new fs e = e ∙ ap (λ s. old ++ begin_object ∷ s) (sym (members_of_fields fs))
 
 -- a list's items, one after another, and its end
 items : {X : Type 0} (v : X → Data) (xs : List X)

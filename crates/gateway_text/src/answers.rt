@@ -18,8 +18,8 @@ use kv_model::ids::Ids;
 use range_view::reply::{KvRef, RangeReply};
 use std::alloc::{AllocError, Global};
 
-/// The bytes of a body without its key-values, at most.
-const FRAME: usize = 256;
+/// The bytes of a body without its lists, at most.
+pub(crate) const FRAME: usize = 256;
 
 /// The body of a Range's answer. Its header has the reply's revision.
 #[tactic(auto, using(crate::proofs::Objects::written), unfolding(kv_model::specs::Answers::reply_text))]
@@ -27,7 +27,7 @@ pub fn range_text(alloc: Global, reply: &RangeReply<'_>, ids: &Ids) -> Result<Ve
     ensures { IfOk result (λ v. v.items ≡ (answered ids.now
         (record { reply = told.Reply.range (reply_view reply.now); revision = reply.now.revision })).body) }
 {
-    let mut out = JsonText::with_capacity(alloc, room_for(&reply.kvs))?;
+    let mut out = JsonText::with_capacity(alloc, room_for(FRAME, &reply.kvs))?;
     write_range(&mut out, &Header::Whole(*ids, reply.revision), reply)?;
     Ok(out.into_bytes())
 }
@@ -65,12 +65,12 @@ pub fn delete_text(
     ensures { IfOk result (λ v. v.items ≡ (answered ids.now
         (record { reply = told.Reply.delete deleted (map kv_view previous.now); revision = revision })).body) }
 {
-    let mut out = JsonText::with_capacity(alloc, room_for(previous))?;
+    let mut out = JsonText::with_capacity(alloc, room_for(FRAME, previous))?;
     write_delete(&mut out, &Header::Whole(*ids, revision), deleted, previous)?;
     Ok(out.into_bytes())
 }
 
-fn write_range(
+pub(crate) fn write_range(
     out: &mut JsonText,
     header: &Header,
     reply: &RangeReply<'_>,
@@ -86,7 +86,7 @@ fn write_range(
     out.end_object()
 }
 
-fn write_put(
+pub(crate) fn write_put(
     out: &mut JsonText,
     header: &Header,
     previous: Option<KvRef<'_>>,
@@ -100,7 +100,7 @@ fn write_put(
     out.end_object()
 }
 
-fn write_delete(
+pub(crate) fn write_delete(
     out: &mut JsonText,
     header: &Header,
     deleted: u64,
@@ -116,9 +116,9 @@ fn write_delete(
     out.end_object()
 }
 
-/// Room for a body with these key-values.
-fn room_for(kvs: &[KvRef<'_>]) -> usize {
-    let mut room = FRAME;
+/// So much room, and room for these key-values.
+pub(crate) fn room_for(frame: usize, kvs: &[KvRef<'_>]) -> usize {
+    let mut room = frame;
     for kv in kvs {
         room = room.saturating_add(room_of(kv));
     }

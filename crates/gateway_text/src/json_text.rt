@@ -77,20 +77,20 @@ impl JsonText {
         self.writer.end_object()
     }
 
-    fn begin_array(&mut self) -> Result<(), AllocError>
+    pub(crate) fn begin_array(&mut self) -> Result<(), AllocError>
         ensures { OnOk result (self.new ≡ self.old ++ begin_array ∷ []) }
     {
         self.writer.begin_array()
     }
 
-    fn end_array(&mut self) -> Result<(), AllocError>
+    pub(crate) fn end_array(&mut self) -> Result<(), AllocError>
         ensures { OnOk result (self.new ≡ self.old ++ end_array ∷ []) }
     {
         self.writer.end_array()
     }
 
     /// The name of a member.
-    fn name(&mut self, name: &str) -> Result<(), AllocError>
+    pub(crate) fn name(&mut self, name: &str) -> Result<(), AllocError>
         ensures { OnOk result (self.new ≡ self.old ++ key name.now ∷ []) }
     {
         self.writer.key(name)
@@ -211,6 +211,17 @@ impl JsonText {
             item.write_json(self)?;
         }
         Ok(())
+    }
+}
+
+/// Bytes in a list, as padded base64 (RFC 4648).
+impl<'a> WriteJson for &'a [u8] {
+    ghost use Rattle.kv_model.specs.Answers.{bytes_text};
+
+    ghost value = { λ bytes. bytes_text bytes.now };
+
+    fn write_json(&self, out: &mut JsonText) -> Result<(), AllocError> {
+        out.bytes(self)
     }
 }
 

@@ -5,9 +5,13 @@ mod answers;
 mod header;
 mod json_text;
 mod key_value;
+mod leases;
 mod refusals;
 #[cfg(test)]
 mod tests;
+mod transactions;
 
 pub use answers::{delete_text, put_text, range_text};
+pub use leases::{granted_text, leases_text, renewed_text, revoked_text, time_left_text};
 pub use refusals::{Wording, lost_text, memory_text, refusal_text, refusal_wording};
+pub use transactions::txn_text;

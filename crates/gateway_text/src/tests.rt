@@ -2,7 +2,8 @@
 use super::*;
 use kv_model::ids::Ids;
 use kv_model::refusal::Refusal;
-use range_view::reply::{KvRef, RangeReply};
+use range_view::reply::{KvRef, OpReply, RangeReply};
+use std::alloc::{AllocError, Global};
 
 const IDS: Ids = Ids {
     cluster: 1,
@@ -130,6 +131,66 @@ fn a_refused_put(rt: HostRuntime) {
     );
 }
 
+fn says(text: Result<Vec<u8>, AllocError>, body: &str) -> bool {
+    match text {
+        Ok(text) => text.as_slice() == body.as_bytes(),
+        Err(_) => false,
+    }
+}
+
+#[test]
+fn a_lease_granted_and_revoked(rt: HostRuntime) {
+    assert!(rt;
+        says(
+            granted_text(rt.alloc(), 1, 7, 10, &IDS),
+            "{\"ID\":\"7\",\"TTL\":\"10\",\"header\":{\"cluster_id\":\"1\",\"member_id\":\"1\",\"raft_term\":\"1\",\"revision\":\"1\"}}"
+        )
+    );
+    assert!(rt;
+        says(
+            revoked_text(rt.alloc(), 2, &IDS),
+            "{\"header\":{\"cluster_id\":\"1\",\"member_id\":\"1\",\"raft_term\":\"1\",\"revision\":\"2\"}}"
+        )
+    );
+}
+
+#[test]
+fn a_lease_that_is_gone(rt: HostRuntime) {
+    assert!(rt;
+        says(
+            renewed_text(rt.alloc(), 6, 7, 0, &IDS),
+            "{\"result\":{\"ID\":\"7\",\"header\":{\"cluster_id\":\"1\",\"member_id\":\"1\",\"raft_term\":\"1\",\"revision\":\"6\"}}}"
+        )
+    );
+    assert!(rt;
+        says(
+            time_left_text(rt.alloc(), 6, 7, None, 0, &[], &IDS),
+            "{\"ID\":\"7\",\"TTL\":\"-1\",\"header\":{\"cluster_id\":\"1\",\"member_id\":\"1\",\"raft_term\":\"1\",\"revision\":\"6\"}}"
+        )
+    );
+}
+
+#[test]
+fn the_keys_of_a_lease(rt: HostRuntime) {
+    let keys: [&[u8]; 2] = [b"a", b"c"];
+    assert!(rt;
+        says(
+            time_left_text(rt.alloc(), 5, 7, Some(10), 10, &keys, &IDS),
+            "{\"ID\":\"7\",\"TTL\":\"10\",\"grantedTTL\":\"10\",\"header\":{\"cluster_id\":\"1\",\"member_id\":\"1\",\"raft_term\":\"1\",\"revision\":\"5\"},\"keys\":[\"YQ==\",\"Yw==\"]}"
+        )
+    );
+}
+
+#[test]
+fn two_leases(rt: HostRuntime) {
+    assert!(rt;
+        says(
+            leases_text(rt.alloc(), 1, &[-3, 7], &IDS),
+            "{\"header\":{\"cluster_id\":\"1\",\"member_id\":\"1\",\"raft_term\":\"1\",\"revision\":\"1\"},\"leases\":[{\"ID\":\"-3\"},{\"ID\":\"7\"}]}"
+        )
+    );
+}
+
 #[test]
 fn bodies_that_cannot_be_read(rt: HostRuntime) {
     let wordings = [
@@ -177,5 +238,86 @@ fn what_takes_no_memory(rt: HostRuntime) {
     assert_eq!(rt;
         lost_text(),
         b"{\"code\":13,\"error\":\"etcdserver: answer lost, the change stands\",\"message\":\"etcdserver: answer lost, the change stands\"}".as_slice()
+    );
+}
+
+/// Puts of x and y, each before a range over all, in one transaction.
+fn puts_and_ranges(alloc: Global) -> Result<Vec<u8>, AllocError> {
+    let x = put_once(b"x", b"1", 2);
+    let y = put_once(b"y", b"2", 2);
+    let one = RangeReply {
+        kvs: vec![in alloc; x]?,
+        count: 1,
+        more: false,
+        revision: 2,
+    };
+    let both = RangeReply {
+        kvs: vec![in alloc; x, y]?,
+        count: 2,
+        more: false,
+        revision: 2,
+    };
+    let replies = [
+        OpReply::Put(None),
+        OpReply::Range(one),
+        OpReply::Put(None),
+        OpReply::Range(both),
+    ];
+    txn_text(alloc, 2, true, &replies, &IDS)
+}
+
+#[test]
+fn a_transaction_of_puts_and_ranges(rt: HostRuntime) {
+    assert!(rt;
+        says(
+            puts_and_ranges(rt.alloc()),
+            "{\"header\":{\"cluster_id\":\"1\",\"member_id\":\"1\",\"raft_term\":\"1\",\"revision\":\"2\"},\"responses\":[{\"response_put\":{\"header\":{\"revision\":\"2\"}}},{\"response_range\":{\"count\":\"1\",\"header\":{\"revision\":\"2\"},\"kvs\":[{\"create_revision\":\"2\",\"key\":\"eA==\",\"mod_revision\":\"2\",\"value\":\"MQ==\",\"version\":\"1\"}]}},{\"response_put\":{\"header\":{\"revision\":\"2\"}}},{\"response_range\":{\"count\":\"2\",\"header\":{\"revision\":\"2\"},\"kvs\":[{\"create_revision\":\"2\",\"key\":\"eA==\",\"mod_revision\":\"2\",\"value\":\"MQ==\",\"version\":\"1\"},{\"create_revision\":\"2\",\"key\":\"eQ==\",\"mod_revision\":\"2\",\"value\":\"Mg==\",\"version\":\"1\"}]}}],\"succeeded\":true}"
+        )
+    );
+}
+
+/// A put, and a transaction within that puts.
+fn a_put_within(alloc: Global) -> Result<Vec<u8>, AllocError> {
+    let inner = OpReply::Inner {
+        succeeded: true,
+        replies: vec![in alloc; OpReply::Put(None)]?,
+    };
+    txn_text(alloc, 2, true, &[OpReply::Put(None), inner], &IDS)
+}
+
+/// Deletes of a key that was there and of nothing, in one transaction.
+fn two_deletes(alloc: Global) -> Result<Vec<u8>, AllocError> {
+    let replies = [
+        OpReply::Delete {
+            deleted: 1,
+            previous: Vec::new(alloc),
+        },
+        OpReply::Delete {
+            deleted: 0,
+            previous: Vec::new(alloc),
+        },
+    ];
+    txn_text(alloc, 3, true, &replies, &IDS)
+}
+
+#[test]
+fn transactions_of_few_operations(rt: HostRuntime) {
+    assert!(rt;
+        says(
+            a_put_within(rt.alloc()),
+            "{\"header\":{\"cluster_id\":\"1\",\"member_id\":\"1\",\"raft_term\":\"1\",\"revision\":\"2\"},\"responses\":[{\"response_put\":{\"header\":{\"revision\":\"2\"}}},{\"response_txn\":{\"header\":{\"revision\":\"2\"},\"responses\":[{\"response_put\":{\"header\":{\"revision\":\"2\"}}}],\"succeeded\":true}}],\"succeeded\":true}"
+        )
+    );
+    assert!(rt;
+        says(
+            two_deletes(rt.alloc()),
+            "{\"header\":{\"cluster_id\":\"1\",\"member_id\":\"1\",\"raft_term\":\"1\",\"revision\":\"3\"},\"responses\":[{\"response_delete_range\":{\"deleted\":\"1\",\"header\":{\"revision\":\"3\"}}},{\"response_delete_range\":{\"header\":{\"revision\":\"3\"}}}],\"succeeded\":true}"
+        )
+    );
+    assert!(rt;
+        says(
+            txn_text(rt.alloc(), 1, false, &[], &IDS),
+            "{\"header\":{\"cluster_id\":\"1\",\"member_id\":\"1\",\"raft_term\":\"1\",\"revision\":\"1\"}}"
+        )
     );
 }

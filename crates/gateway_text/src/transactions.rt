@@ -1,0 +1,187 @@
+//! The bodies of the answers to transactions (the etcd documentation's TxnResponse and ResponseOp).
+ghost use Rattle.std.specs.Prelude.{◌≡◌, ◌++◌, map, codes, IfOk, OnOk, option_map};
+ghost use Rattle.std.specs.List.{flat_map};
+ghost use Rattle.kv_model.specs.Told as told;
+ghost use Rattle.kv_model.specs.Answers as texts;
+ghost use Rattle.kv_model.specs.Answers.{answered, list_field};
+ghost use Rattle.range_view.specs.Replies.{kv_view, reply_view, replies_view};
+ghost use Rattle.gateway_text.specs.Tokens.{data_tokens, field_tokens};
+ghost use Rattle.gateway_text.specs.Views.{header_data, response_of};
+
+use crate::answers::{FRAME, room_for, write_delete, write_put, write_range};
+use crate::header::Header;
+use crate::json_text::JsonText;
+use kv_model::ids::Ids;
+use range_view::reply::{KvRef, OpReply, RangeReply};
+use std::alloc::{AllocError, Global};
+
+/// The bytes of a response without its lists, at most: six names and two numbers.
+const RESPONSE: usize = 128;
+
+/// The body of a Txn's answer, with the revision after it, whether its compares held, and the answers to the operations
+/// that ran, in order.
+///
+/// Fails for want of memory alone, and costs as the other answers do, with a stack as deep as transactions lie in one
+/// another.
+#[tactic(auto, using(crate::proofs::Objects::written), unfolding(kv_model::specs::Answers::reply_text))]
+pub fn txn_text(
+    alloc: Global,
+    revision: u64,
+    succeeded: bool,
+    replies: &[OpReply<'_>],
+    ids: &Ids,
+) -> Result<Vec<u8>, AllocError>
+    ensures { IfOk result (λ v. v.items ≡ (answered ids.now
+        (record { reply = told.Reply.txn succeeded (replies_view replies.now); revision = revision })).body) }
+{
+    let mut out = JsonText::with_capacity(alloc, room_of_all(replies, FRAME))?;
+    let header = Header::Whole(*ids, revision);
+    write_txn(&mut out, &header, revision, succeeded, replies)?;
+    Ok(out.into_bytes())
+}
+
+#[cycle(responses)]
+fn write_txn(
+    out: &mut JsonText,
+    header: &Header,
+    revision: u64,
+    succeeded: bool,
+    replies: &[OpReply<'_>],
+) -> Result<(), AllocError>
+    ensures { OnOk result (out.new
+        ≡ out.old ++ data_tokens (texts.txn_text (header_data header.now) succeeded (texts.responses revision (replies_view replies.now)))) }
+{
+    out.begin_object()?;
+    out.member("header", header)?;
+    write_responses(out, revision, replies)?;
+    out.truth_member("succeeded", succeeded)?;
+    out.end_object()
+}
+
+/// The member of the responses; none where there are none.
+#[cycle(responses)]
+fn write_responses(
+    out: &mut JsonText,
+    revision: u64,
+    replies: &[OpReply<'_>],
+) -> Result<(), AllocError>
+    ensures { OnOk result (out.new
+        ≡ out.old ++ field_tokens (codes "responses") (list_field (map (response_of revision) replies.now))) }
+{
+    if replies.is_empty() {
+        return Ok(());
+    }
+    out.name("responses")?;
+    out.begin_array()?;
+    write_items(out, revision, replies)?;
+    out.end_array()
+}
+
+#[cycle(responses)]
+fn write_items(out: &mut JsonText, revision: u64, replies: &[OpReply<'_>]) -> Result<(), AllocError>
+    ensures { OnOk result (out.new
+        ≡ out.old ++ flat_map (λ o. data_tokens (response_of revision o)) replies.now) }
+{
+    for reply in replies {
+        write_response(out, revision, reply)?;
+    }
+    Ok(())
+}
+
+/// What an operation is answered, under the name of its kind. The header is that of the whole transaction, cut short.
+#[cycle(responses)]
+fn write_response(out: &mut JsonText, revision: u64, reply: &OpReply<'_>) -> Result<(), AllocError>
+    ensures { OnOk result (out.new ≡ out.old ++ data_tokens (response_of revision reply.now)) }
+{
+    let header = Header::Short(revision);
+    match reply {
+        OpReply::Range(reply) => write_range_response(out, &header, reply),
+        OpReply::Put(previous) => write_put_response(out, &header, *previous),
+        OpReply::Delete { deleted, previous } => {
+            write_delete_response(out, &header, *deleted, previous)
+        }
+        OpReply::Inner { succeeded, replies } => {
+            write_txn_response(out, revision, *succeeded, replies)
+        }
+    }
+}
+
+#[cycle(responses)]
+fn write_txn_response(
+    out: &mut JsonText,
+    revision: u64,
+    succeeded: bool,
+    replies: &[OpReply<'_>],
+) -> Result<(), AllocError>
+    ensures { OnOk result (out.new
+        ≡ out.old ++ data_tokens (texts.response (codes "response_txn") (texts.txn_text (texts.short_header revision) succeeded (texts.responses revision (replies_view replies.now))))) }
+{
+    out.begin_object()?;
+    out.name("response_txn")?;
+    write_txn(out, &Header::Short(revision), revision, succeeded, replies)?;
+    out.end_object()
+}
+
+fn write_range_response(
+    out: &mut JsonText,
+    header: &Header,
+    reply: &RangeReply<'_>,
+) -> Result<(), AllocError>
+    ensures { OnOk result (out.new
+        ≡ out.old ++ data_tokens (texts.response (codes "response_range") (texts.range_text (header_data header.now) (reply_view reply.now)))) }
+{
+    out.begin_object()?;
+    out.name("response_range")?;
+    write_range(out, header, reply)?;
+    out.end_object()
+}
+
+fn write_put_response(
+    out: &mut JsonText,
+    header: &Header,
+    previous: Option<KvRef<'_>>,
+) -> Result<(), AllocError>
+    ensures { OnOk result (out.new
+        ≡ out.old ++ data_tokens (texts.response (codes "response_put") (texts.put_text (header_data header.now) (option_map kv_view previous.entry)))) }
+{
+    out.begin_object()?;
+    out.name("response_put")?;
+    write_put(out, header, previous)?;
+    out.end_object()
+}
+
+fn write_delete_response(
+    out: &mut JsonText,
+    header: &Header,
+    deleted: u64,
+    previous: &[KvRef<'_>],
+) -> Result<(), AllocError>
+    ensures { OnOk result (out.new
+        ≡ out.old ++ data_tokens (texts.response (codes "response_delete_range") (texts.delete_text (header_data header.now) deleted (map kv_view previous.now)))) }
+{
+    out.begin_object()?;
+    out.name("response_delete_range")?;
+    write_delete(out, header, deleted, previous)?;
+    out.end_object()
+}
+
+/// So much room, and room for these responses.
+#[cycle(room)]
+fn room_of_all(replies: &[OpReply<'_>], room: usize) -> usize {
+    let mut room = room;
+    for reply in replies {
+        room = room.saturating_add(room_of_one(reply));
+    }
+    room
+}
+
+#[cycle(room)]
+fn room_of_one(reply: &OpReply<'_>) -> usize {
+    match reply {
+        OpReply::Range(reply) => room_for(RESPONSE, &reply.kvs),
+        OpReply::Put(Some(kv)) => room_for(RESPONSE, &[*kv]),
+        OpReply::Put(None) => RESPONSE,
+        OpReply::Delete { previous, .. } => room_for(RESPONSE, previous),
+        OpReply::Inner { replies, .. } => room_of_all(replies, RESPONSE),
+    }
+}
