@@ -1,5 +1,5 @@
 -- What outcomes say, in the definitions' terms.
-use Rattle.std.specs.Prelude.{◌≡◌, ℕ, Bool, true, false, Option, None, Some, ⊤}
+use Rattle.std.specs.Prelude.{◌≡◌, ℕ, Bool, true, false, Option, ⊤}
 use Rattle.kv_model.specs.declared.refusal.Refusal.{Refusal}
 use Rattle.kv_model.specs.declared.refusal.Refusal.TheVariants as refusal
 use Rattle.kv_model.specs.Answers.{Response, Fault, refused, fault_of, lost_fault, fault_of_bad}
@@ -26,11 +26,12 @@ shown (settled.Reply r) = response_of r
 shown settled.Memory = refused (fault_of refusal.Memory)
 shown (settled.Lost revision) = refused lost_fault
 
--- An accepted command ends with this answer, or, where no memory was found for it, by whether it raised the revision.
-abbrev pub Settles : Settled → Response → Option ℕ → Type 0
-Settles (settled.Reply r) answer up = response_of r ≡ answer
-Settles settled.Memory answer up = up ≡ None
-Settles (settled.Lost revision) answer up = up ≡ Some revision
+-- An accepted command ends with this answer, or, where no memory was found for it, by whether it changed the store, which
+-- is at this revision since.
+abbrev pub Settles : Settled → Response → Bool → ℕ → Type 0
+Settles (settled.Reply r) answer changed now = response_of r ≡ answer
+Settles settled.Memory answer changed now = changed ≡ false
+Settles (settled.Lost revision) answer changed now = (changed ≡ true) × (revision ≡ now)
 
 -- a refused command ends with the refusal's text, or without memory
 abbrev pub Declines : Settled → Refusal → Type 0

@@ -1,23 +1,29 @@
 -- What events and outcomes of a run say, in the definitions' terms.
-use Rattle.std.specs.Prelude.{ℕ, Option}
+use Rattle.std.specs.Prelude.{ℕ, Option, Result, Ok, Err, if◌then◌else◌}
 use Rattle.kv_model.specs.declared.ids.Ids.{Ids}
+use Rattle.kv_model.specs.declared.refusal.Refusal.{Refusal}
+use Rattle.kv_model.specs.Told as told
 use Rattle.kv_model.specs.World.{World}
 use Rattle.kv_model.specs.Stands.{StandsFor}
 use Rattle.kv_model.specs.Follows as follows
 use Rattle.kv_model.specs.Wire as model
 use Rattle.kv_model.specs.Wire.{WireTold, wire_step, is_free, takes_memory, MayLose}
 use Rattle.request_core.specs.State.{CoreState}
+use Rattle.request_core.specs.Answers.{is_memory, expiry_view}
+use Rattle.request_core.specs.declared.answer.Expiry.{Expiry}
 use Rattle.json_gateway.specs.declared.outcome.Settled.{Settled}
 use Rattle.json_gateway.specs.declared.outcome.Settled.TheVariants as settled
 use Rattle.json_gateway.specs.declared.outcome.Outcome.{Outcome}
 use Rattle.json_gateway.specs.declared.wire.WireEvent.{WireEvent}
-use Rattle.json_gateway.specs.declared.wire.WireEvent.TheVariants.{Post}
+use Rattle.json_gateway.specs.declared.wire.WireEvent.TheVariants as event
 use Rattle.json_gateway.specs.declared.wire.WireOutcome.{WireOutcome}
-use Rattle.json_gateway.specs.declared.wire.WireOutcome.TheVariants.{Posted}
+use Rattle.json_gateway.specs.declared.wire.WireOutcome.TheVariants as outcome
 use Rattle.json_gateway.specs.Outcomes.{response_of}
 
 abbrev pub event_view : WireEvent → model.WireEvent
-event_view (Post path body) = model.WireEvent.post path.now body.now
+event_view (event.Moment m) = model.WireEvent.moment m
+event_view (event.Post path body) = model.WireEvent.post path.now body.now
+event_view event.Expire = model.WireEvent.expire
 
 -- how a request ended, with the new revision where it rose and the number of a watch made
 abbrev pub ending_view : Settled → Option ℕ → Option ℕ → model.WireOutcome
@@ -28,8 +34,15 @@ ending_view (settled.Lost revision) up watch = follows.Outcome.lost (record { re
 abbrev pub command_view : Outcome → model.WireOutcome
 command_view o = ending_view o.settled o.raised o.watch
 
+-- what a step of expiry did: it is refused without memory, or since the revisions are spent
+abbrev pub expiry_outcome : Result Expiry Refusal → model.WireOutcome
+expiry_outcome (Ok e) = follows.Outcome.said (WireTold.expiry (expiry_view e))
+expiry_outcome (Err e) = if is_memory e then follows.Outcome.memory else follows.Outcome.said (WireTold.expiry told.Expiry.spent)
+
 abbrev pub outcome_view : WireOutcome → model.WireOutcome
-outcome_view (Posted o) = command_view o
+outcome_view (outcome.Posted o) = command_view o
+outcome_view (outcome.Clock clock) = follows.Outcome.said (WireTold.clock clock)
+outcome_view (outcome.Expiry made) = expiry_outcome made
 
 -- the outcome is the model's for this event, and the core then stands for the world after it
 pub record Steps (ids : Ids) (w : World) (e : model.WireEvent) (o : model.WireOutcome) (new : CoreState) : Type 0 where

@@ -1,6 +1,6 @@
 //! One command or one request on a core, from bytes to bytes.
-ghost use Rattle.std.specs.Prelude.{◌≡◌, IfOk};
-ghost use Rattle.kv_model.specs.Answers.{answered, response_to};
+ghost use Rattle.std.specs.Prelude.{◌≡◌, map, IfOk};
+ghost use Rattle.kv_model.specs.Answers.{Response, answered, response_to};
 ghost use Rattle.kv_model.specs.Calls.{call_of};
 ghost use Rattle.kv_model.specs.Requests.{request_of};
 ghost use Rattle.kv_model.specs.Stands.{StandsFor};
@@ -8,16 +8,20 @@ ghost use Rattle.kv_model.specs.Step.{made_in, perform as perform_in};
 ghost use Rattle.kv_model.specs.Wire.{IsChange, IsChangeBy, reply_to};
 ghost use Rattle.kv_model.specs.World.{World};
 ghost use Rattle.gateway_text.specs.Views.{wording_view};
-ghost use Rattle.request_core.specs.Answers.{IsReadable, answer_of, answer_view};
+ghost use Rattle.request_core.specs.Answers.{IsReadable, answer_of, answer_view, has_changed, time_left_view};
 ghost use Rattle.json_gateway.specs.Outcomes.{Declines, Dismisses, Ends, Settles, fault_of_reading};
 
 use crate::outcome::{Outcome, Reply, Settled};
 use gateway_read::bad::Bad;
 use gateway_read::read;
-use gateway_text::{Wording, delete_text, put_text, range_text, refusal_text, refusal_wording};
+use gateway_text::{
+    Wording, delete_text, granted_text, leases_text, put_text, range_text, refusal_text,
+    refusal_wording, renewed_text, revoked_text, time_left_text, txn_text,
+};
 use kv_model::call::Command;
 use kv_model::ids::Ids;
 use kv_model::refusal::Refusal;
+use lease_book::TimeLeft;
 use request_core::answer::{Answer, Receipt};
 use request_core::store::Core;
 use std::alloc::{AllocError, Global};
@@ -64,14 +68,22 @@ pub fn post(alloc: Global, core: &mut Core, path: &[u8], body: &[u8], ids: &Ids)
 /// How an accepted command ends.
 fn settled(alloc: Global, core: &Core, receipt: &Receipt<'_>, ids: &Ids) -> Settled
     requires { IsReadable receipt.now core.now }
-    ensures { Settles result (answered ids.now (answer_of receipt.now core.now)) receipt.now.raised }
+    ensures { Settles result (answered ids.now (answer_of receipt.now core.now)) (has_changed receipt.now) receipt.now.revision }
 {
     match answer_text(alloc, core, receipt, ids) {
         Ok(body) => Settled::Reply(Reply { status: 200, body }),
-        Err(_) => match receipt.raised {
-            Some(revision) => Settled::Lost(revision),
-            None => Settled::Memory,
-        },
+        Err(_) => unanswered(receipt),
+    }
+}
+
+/// How an accepted command ends whose answer found no memory.
+fn unanswered(receipt: &Receipt<'_>) -> Settled
+    ensures { (answer : Response) → Settles result answer (has_changed receipt.now) receipt.now.revision }
+{
+    if receipt.has_changed() {
+        Settled::Lost(receipt.revision)
+    } else {
+        Settled::Memory
     }
 }
 
@@ -103,6 +115,52 @@ pub fn text(alloc: Global, answer: &Answer<'_>, ids: &Ids) -> Result<Vec<u8>, Al
             deleted,
             previous,
         } => delete_text(alloc, *revision, *deleted, previous, ids),
+        Answer::Txn {
+            revision,
+            succeeded,
+            replies,
+        } => txn_text(alloc, *revision, *succeeded, replies, ids),
+        Answer::Grant { revision, id, ttl } => granted_text(alloc, *revision, *id, *ttl, ids),
+        Answer::Revoke { revision } => revoked_text(alloc, *revision, ids),
+        Answer::KeepAlive { revision, id, ttl } => {
+            renewed_text(alloc, *revision, *id, *ttl, ids)
+        }
+        Answer::TimeToLive {
+            revision,
+            id,
+            left,
+            keys,
+        } => left_text(alloc, *revision, *id, *left, keys, ids),
+        Answer::Leases {
+            revision,
+            ids: leases,
+        } => leases_text(alloc, *revision, leases, ids),
+    }
+}
+
+/// The text of a time to live: whether the lease is granted, and what it still has.
+fn left_text(
+    alloc: Global,
+    revision: u64,
+    id: i64,
+    left: Option<TimeLeft>,
+    keys: &[&[u8]],
+    ids: &Ids,
+) -> Result<Vec<u8>, AllocError>
+    ensures { IfOk result (λ v. v.items ≡ (answered ids.now
+        (record { reply = time_left_view id left (map (λ k. k.now) keys.now); revision = revision })).body) }
+{
+    match left {
+        Some(left) => time_left_text(
+            alloc,
+            revision,
+            id,
+            Some(left.seconds),
+            left.granted,
+            keys,
+            ids,
+        ),
+        None => time_left_text(alloc, revision, id, None, 0, keys, ids),
     }
 }
 

@@ -4,7 +4,7 @@ use crate::outcome::Settled;
 use crate::wire::{WireEvent, WireOutcome, run_wire};
 use gateway_read::read;
 use kv_model::ids::Ids;
-use request_core::answer::Answer;
+use request_core::answer::{Answer, Expiry};
 use request_core::store::Core;
 use std::test::Fail;
 
@@ -24,6 +24,17 @@ const DELETE_REPLY: &[u8] =
 const RANGE_REPLY: &[u8] =
     b"{\"count\":\"1\",\"header\":{\"cluster_id\":\"1\",\"member_id\":\"1\",\"raft_term\":\"1\",\"revision\":\"2\"},\"kvs\":[{\"create_revision\":\"2\",\"key\":\"Zm9v\",\"mod_revision\":\"2\",\"value\":\"YmFy\",\"version\":\"1\"}]}";
 
+/// The status, the body and the new revision that a request was answered.
+fn posted(outcome: &WireOutcome) -> Option<(u16, &[u8], Option<u64>)> {
+    match outcome {
+        WireOutcome::Posted(posted) => {
+            let (status, body) = posted.settled.wire();
+            Some((status, body, posted.raised))
+        }
+        _ => None,
+    }
+}
+
 #[test]
 fn a_put_a_range_and_a_delete_as_bytes(rt: HostRuntime) -> Result<(), Fail> {
     let events = [
@@ -39,25 +50,45 @@ fn a_put_a_range_and_a_delete_as_bytes(rt: HostRuntime) -> Result<(), Fail> {
             path: b"/v3/kv/deleterange",
             body: b"{\"key\":\"Zm9v\"}",
         },
-        WireEvent::Post {
-            path: b"/v3/nothing",
-            body: b"{}",
-        },
     ];
     let run = run_wire(rt.alloc(), events.as_slice(), &ONES)?;
-    assert_eq!(rt; run.outcomes.len(), 4);
-    let WireOutcome::Posted(first) = &run.outcomes[0];
-    assert_eq!(rt; first.settled.wire(), (200, PUT_REPLY));
-    assert_eq!(rt; first.raised, Some(2));
-    assert_eq!(rt; first.watch, None);
-    let WireOutcome::Posted(second) = &run.outcomes[1];
-    assert_eq!(rt; second.settled.wire(), (200, RANGE_REPLY));
-    assert_eq!(rt; second.raised, None);
-    let WireOutcome::Posted(third) = &run.outcomes[2];
-    assert_eq!(rt; third.settled.wire(), (200, DELETE_REPLY));
-    assert_eq!(rt; third.raised, Some(3));
-    let WireOutcome::Posted(fourth) = &run.outcomes[3];
-    assert_eq!(rt; fourth.settled.wire().0, 404);
+    assert_eq!(rt; run.outcomes.len(), 3);
+    assert_eq!(rt; posted(&run.outcomes[0]), Some((200, PUT_REPLY, Some(2))));
+    assert_eq!(rt; posted(&run.outcomes[1]), Some((200, RANGE_REPLY, None)));
+    assert_eq!(rt;
+        posted(&run.outcomes[2]),
+        Some((200, DELETE_REPLY, Some(3)))
+    );
+    Ok(())
+}
+
+/// A lease of ten seconds with one key.
+#[test]
+fn a_lease_and_its_end(rt: HostRuntime) -> Result<(), Fail> {
+    let events = [
+        WireEvent::Post {
+            path: b"/v3/lease/grant",
+            body: b"{\"TTL\":\"10\",\"ID\":\"7\"}",
+        },
+        WireEvent::Post {
+            path: b"/v3/kv/put",
+            body: b"{\"key\":\"Zm9v\",\"value\":\"YmFy\",\"lease\":\"7\"}",
+        },
+        WireEvent::Expire,
+        WireEvent::Moment(10_000),
+        WireEvent::Expire,
+    ];
+    let run = run_wire(rt.alloc(), events.as_slice(), &ONES)?;
+    assert_eq!(rt; run.outcomes.len(), 5);
+    assert_eq!(rt; posted(&run.outcomes[1]), Some((200, PUT_REPLY, Some(2))));
+    assert!(rt; matches!(&run.outcomes[2], WireOutcome::Expiry(Ok(Expiry::Nothing))));
+    assert!(rt; matches!(&run.outcomes[3], WireOutcome::Clock(10_000)));
+    let expired = Expiry::Expired {
+        id: 7,
+        revision: 3,
+        raised: true,
+    };
+    assert!(rt; matches!(&run.outcomes[4], WireOutcome::Expiry(Ok(expiry)) if *expiry == expired));
     Ok(())
 }
 

@@ -7,14 +7,20 @@ ghost use Rattle.kv_model.specs.World.{World};
 use crate::commands::post;
 use crate::outcome::Outcome;
 use kv_model::ids::Ids;
+use kv_model::refusal::Refusal;
+use request_core::answer::Expiry;
 use request_core::store::Core;
 use std::alloc::{AllocError, Global};
 
 /// What happens to a store.
 #[derive(Clone, Copy, Debug)]
 pub enum WireEvent<'a> {
+    /// The clock is read, in milliseconds.
+    Moment(u64),
     /// A request comes: a POST of this body to this path.
     Post { path: &'a [u8], body: &'a [u8] },
+    /// The lease that is due first is revoked, if there is one.
+    Expire,
 }
 
 /// What an event was answered.
@@ -22,6 +28,11 @@ pub enum WireEvent<'a> {
 pub enum WireOutcome {
     /// What a request was.
     Posted(Outcome),
+    /// The store's clock, in milliseconds: the greatest moment so far, at most 2^62.
+    Clock(u64),
+    /// What a step of expiry did. `RevisionsSpent` where the lease has keys and no revision is left to delete them in, and
+    /// `Memory` where no memory was found; nothing has changed then. No other refusal comes.
+    Expiry(Result<Expiry, Refusal>),
 }
 
 /// The outcomes of a run, one for each event, in order.
@@ -35,8 +46,8 @@ ghost use Rattle.json_gateway.specs.Runs.{Steps, event_view, outcome_view};
 /// Runs events on a fresh store. **Each outcome's bytes are those of the model of the whole history**, whatever the
 /// events are: `Follows` of the model says so.
 ///
-/// An event that found no memory counts as not made, and an answer may be lost only where its change stands.
-/// `AllocError` comes before the first event, where there is no room for the outcomes.
+/// An event that found no memory counts as not made, and an answer may be lost only where its change stands; a moment finds
+/// its memory always. `AllocError` comes before the first event, where there is no room for the outcomes.
 pub fn run_wire(alloc: Global, events: &[WireEvent<'_>], ids: &Ids) -> Result<WireRun, AllocError>
     ensures { IfOk result (λ run. Follows ids.now (map event_view events.now) (map outcome_view run.outcomes.items)) }
 {
@@ -54,7 +65,9 @@ fn step(alloc: Global, core: &mut Core, event: &WireEvent<'_>, ids: &Ids) -> Wir
     ensures { (w : World) → StandsFor core.old.store w → Steps ids.now w (event_view event.now) (outcome_view result) core.new }
 {
     match event {
+        WireEvent::Moment(now) => WireOutcome::Clock(core.moment(*now)),
         WireEvent::Post { path, body } => step_post(alloc, core, path, body, ids),
+        WireEvent::Expire => WireOutcome::Expiry(core.expire()),
     }
 }
 

@@ -1,4 +1,4 @@
-use Rattle.std.proofs.Common.{◌≡◌, ◌≤◌, List, length, drop, map, vec_len, vec_capacity}
+use Rattle.std.proofs.Common.{◌≡◌, ◌≤◌, length, drop, map, vec_len, vec_capacity}
 use Rattle.json_gateway.specs.Runs.{event_view, outcome_view}
 use Rattle.json_gateway.proofs.Events.{RunsOn}
 use Rattle.json_gateway.proofs.wire.run_wire.Given as goal
