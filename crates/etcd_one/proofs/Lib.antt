@@ -1,2 +1,4 @@
+pub mod CommandLine
 pub mod Lines
+pub mod Numbers
 pub mod Reading

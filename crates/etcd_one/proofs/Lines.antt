@@ -1,5 +1,5 @@
 -- A script line by line, and a line word by word.
-use Rattle.std.proofs.Common.{◌≡◌, ℕ, ◌+◌, ◌<◌, ◌≤◌, List, [], ◌∷◌, length, Option, None, Some, Bool, false, nat_eq, cond, refl, sym, ap, ◌∙◌, arith, get_or, true}
+use Rattle.std.proofs.Common.{◌≡◌, ℕ, ◌<◌, ◌≤◌, List, [], ◌∷◌, length, None, Some, false, nat_eq, cond, refl, sym, ap, ◌∙◌, arith, get_or}
 use Rattle.std.specs.List.{slice_split, position_or_len, before_first, after_first}
 use Rattle.std.specs.Str.Lines.{lines, lines_of_parts, strip_carriage_return}
 use Rattle.std.proofs.lemmas.Bool.{lt-ltb, le-ltb}
@@ -7,7 +7,7 @@ use Rattle.std.proofs.lemmas.List.{take_all}
 use Rattle.std.proofs.lemmas.Bool.Decides.{nat_tests}
 use Rattle.std.proofs.lemmas.List.Splits.{slice_split_first, slice_split_none, length-slice_split}
 use Rattle.std.proofs.lemmas.List.Sums.{fails_before_first, position_or_len_is}
-use Rattle.etcd_one.specs.Script.{is, rest_after, event_by, event_of}
+use Rattle.etcd_one.specs.Script.{is, rest_after, event_alone, event_by, event_of}
 
 pub lines_of_more : (x : List ℕ) (parts : List (List ℕ)) → 0 < length parts → lines_of_parts (x ∷ parts) ≡ strip_carriage_return x ∷ lines_of_parts parts
 lines_of_more x [] h = absurd (omega (arith, h))
@@ -43,7 +43,7 @@ pub event_of_word : (line : List ℕ) → length line ≤ 1700000 → position_o
 event_of_word line h s = ap (λ b. cond b None (event_by (before_first (is 32) line) (rest_after 32 line))) (le-ltb _ _ h)
     ∙ ap (event_by (before_first (is 32) line)) (rest_some 32 line s)
 
-pub event_of_bare : (line : List ℕ) → length line ≤ 1700000 → length line ≤ position_or_len (is 32) line → event_of line ≡ None
+pub event_of_bare : (line : List ℕ) → length line ≤ 1700000 → length line ≤ position_or_len (is 32) line → event_of line ≡ event_alone (before_first (is 32) line)
 event_of_bare line h s = ap (λ b. cond b None (event_by (before_first (is 32) line) (rest_after 32 line))) (le-ltb _ _ h)
     ∙ ap (event_by (before_first (is 32) line)) (rest_none 32 line s)
 

@@ -1,9 +1,11 @@
 -- What is written for a script.
 use Rattle.std.specs.Prelude.{◌≡◌, ℕ, List, [], ◌∷◌, ◌++◌, Option, None, Some, codes, decimal}
+use Rattle.std.specs.Fmt.{signed_decimal}
 use Rattle.kv_model.specs.declared.ids.Ids.{Ids}
 use Rattle.kv_model.specs.declared.refusal.Refusal.TheVariants.{Memory}
 use Rattle.kv_model.specs.Answers.{Response, refused, fault_of, lost_fault}
 use Rattle.kv_model.specs.Follows as follows
+use Rattle.kv_model.specs.Told.{Expiry}
 use Rattle.kv_model.specs.Wire.{WireEvent, WireTold, WireOutcome, Follows}
 use Rattle.etcd_one.specs.Script.{line_events}
 
@@ -13,14 +15,30 @@ use Rattle.etcd_one.specs.Script.{line_events}
 abbrev pub response_line : Response → List ℕ
 response_line r = decimal r.status ++ 32 ∷ [] ++ r.body ++ 10 ∷ []
 
+abbrev pub clock_line : ℕ → List ℕ
+clock_line clock = codes "at " ++ decimal clock ++ 10 ∷ []
+
+abbrev pub expiry_line : Expiry → List ℕ
+expiry_line Expiry.nothing = codes "nothing\n"
+expiry_line (Expiry.expired id revision raised) = codes "expired " ++ signed_decimal id ++ codes " revision " ++ decimal revision ++ 10 ∷ []
+expiry_line Expiry.spent = codes "revisions are spent\n"
+
 abbrev pub told_line : WireTold → List ℕ
 told_line (WireTold.reply r up watch) = response_line r
+told_line (WireTold.clock clock) = clock_line clock
+told_line (WireTold.expiry e) = expiry_line e
 told_line _ = []
 
-abbrev pub outcome_line : WireOutcome → List ℕ
-outcome_line follows.Outcome.memory = response_line (refused (fault_of Memory))
-outcome_line (follows.Outcome.lost loss) = response_line (refused lost_fault)
-outcome_line (follows.Outcome.said told) = told_line told
+-- what is written where an event found no memory
+abbrev pub memory_line : WireEvent → List ℕ
+memory_line (WireEvent.post path body) = response_line (refused (fault_of Memory))
+memory_line _ = codes "out of memory\n"
+
+-- the line of an event with this outcome
+abbrev pub outcome_line : WireEvent → WireOutcome → List ℕ
+outcome_line e follows.Outcome.memory = memory_line e
+outcome_line e (follows.Outcome.lost loss) = response_line (refused lost_fault)
+outcome_line e (follows.Outcome.said told) = told_line told
 
 -- ---- all lines
 
@@ -35,7 +53,7 @@ abbrev pub reply_lines : List (Option WireEvent) → List WireOutcome → List �
 reply_lines [] os = []
 reply_lines (None ∷ ls) os = codes "bad line\n" ++ reply_lines ls os
 reply_lines (Some e ∷ ls) [] = reply_lines ls []
-reply_lines (Some e ∷ ls) (o ∷ os) = outcome_line o ++ reply_lines ls os
+reply_lines (Some e ∷ ls) (o ∷ os) = outcome_line e o ++ reply_lines ls os
 
 abbrev pub ids : Ids
 ids = record { cluster = 1; member = 1 }

@@ -1,8 +1,9 @@
 -- A script: its lines, and the event that each asks for.
-use Rattle.std.specs.Prelude.{ℕ, List, map, Bool, ◌==◌, nat_lt, nat_eq, if◌then◌else◌, length, Option, None, Some, codes}
+use Rattle.std.specs.Prelude.{ℕ, ◌^◌, List, map, Bool, ◌==◌, nat_lt, nat_eq, if◌then◌else◌, length, Option, None, Some, option_map, option_and_then, codes}
 use Rattle.std.specs.List.{position_or_len, before_first, after_first}
 use Rattle.std.specs.Cmp.Lexicographic.{pointwise}
 use Rattle.std.specs.Str.Lines.{lines}
+use Rattle.kv_model.specs.Requests.{digits_value}
 use Rattle.kv_model.specs.Wire.{WireEvent}
 
 -- the most bytes of a line, without its end, that can be an event
@@ -20,10 +21,26 @@ rest_after at text = if nat_lt (position_or_len (is at) text) (length text) then
 abbrev pub post_of : List ℕ → WireEvent
 post_of rest = WireEvent.post (before_first (is 32) rest) (after_first (is 32) rest)
 
+-- it fits 64 bits
+abbrev pub if_unsigned_64 : ℕ → Option ℕ
+if_unsigned_64 n = if nat_lt n (2 ^ 64) then Some n else None
+
+-- a number of 64 bits, by its decimal digits alone
+abbrev pub number_of : List ℕ → Option ℕ
+number_of text = option_and_then if_unsigned_64 (digits_value text)
+
+-- what a line of one word asks for
+abbrev pub event_alone : List ℕ → Option WireEvent
+event_alone word = if pointwise nat_eq word (codes "EXPIRE") then Some WireEvent.expire else None
+
 -- what a line's first word asks for, with the text after the space that ends it
+abbrev pub event_with : List ℕ → List ℕ → Option WireEvent
+event_with word rest = if pointwise nat_eq word (codes "POST") then Some (post_of rest)
+    else (if pointwise nat_eq word (codes "AT") then option_map WireEvent.moment (number_of rest) else None)
+
 abbrev pub event_by : List ℕ → Option (List ℕ) → Option WireEvent
-event_by word None = None
-event_by word (Some rest) = if pointwise nat_eq word (codes "POST") then Some (post_of rest) else None
+event_by word None = event_alone word
+event_by word (Some rest) = event_with word rest
 
 -- the event that a line asks for; a line of no form, or too long, is none
 abbrev pub event_of : List ℕ → Option WireEvent

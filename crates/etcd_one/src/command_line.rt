@@ -1,10 +1,12 @@
 //! The program's arguments.
-ghost use Rattle.std.specs.Prelude.{◌≡◌, IsOk, length};
+ghost use Rattle.std.specs.Prelude.{◌≡◌, ◌≢◌, IsOk, IfOk, IfErr, map, string_bytes};
+ghost use Rattle.clap.specs.Words.{app_of, kind_of};
+ghost use Rattle.etcd_one.specs.Arguments.{IsReplay, program};
 
 use crate::fault::Fault;
 use clap::error::ErrorKind;
 use clap::{Command, Error};
-use std::alloc::Global;
+use std::alloc::{AllocError, Global};
 
 /// What the program was asked to do.
 #[derive(Clone, Copy, Debug, PartialEq, Eq)]
@@ -17,24 +19,36 @@ pub enum Args {
 ///
 /// Fails with `Fault::Arguments` for any other words, and with `Fault::Memory`.
 pub fn arguments(alloc: Global, words: &[String]) -> Result<Args, Fault>
-    ensures { IsOk result → length words.now ≡ 2 }
+    ensures ok { IsOk result → IsReplay (map string_bytes words.now) }
+    ensures err { IfErr result (λ e. IsReplay (map string_bytes words.now) → e ≡ Fault.Memory) }
 {
     // clap would pass over a last `--`.
     if words.len() != 2 {
         return Err(Fault::Arguments);
     }
-    let replay = Command::new(alloc, "replay");
-    let command = Command::new(alloc, "etcd_one")
-        .subcommand_required(true)
-        .subcommand(replay)
-        .map_err(|_| Fault::Memory)?;
+    let Ok(command) = program(alloc) else {
+        return Err(Fault::Memory);
+    };
     match command.try_get_matches_from(words) {
         Ok(_) => Ok(Args::Replay),
         Err(error) => Err(fault_of(&error)),
     }
 }
 
-fn fault_of(error: &Error) -> Fault {
+/// The program's one command.
+fn program<'a>(alloc: Global) -> Result<Command<'a>, AllocError>
+    ensures { IfOk result (λ command. app_of command ≡ program) }
+{
+    let replay = Command::new(alloc, "replay");
+    Command::new(alloc, "etcd_one")
+        .subcommand_required(true)
+        .subcommand(replay)
+}
+
+fn fault_of(error: &Error) -> Fault
+    ensures memory { kind_of error.now ≡ ErrorKind.OutOfMemory → result ≡ Fault.Memory }
+    ensures other { kind_of error.now ≢ ErrorKind.OutOfMemory → result ≡ Fault.Arguments }
+{
     match error.kind() {
         ErrorKind::OutOfMemory => Fault::Memory,
         _ => Fault::Arguments,

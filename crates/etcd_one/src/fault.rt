@@ -1,5 +1,9 @@
 //! Why the program ends before its work is done.
+ghost use Rattle.std.specs.Prelude.{◌≡◌, ◌≢◌};
+ghost use Rattle.std.specs.IoError.{error_kind};
+
 use std::io;
+use std::io::ErrorKind;
 use thiserror::Error;
 
 /// Each fault ends the program with status 2, and nothing more is written to standard output.
@@ -20,4 +24,15 @@ pub enum Fault {
     /// A growth outside a request found no memory.
     #[error("etcd_one: out of memory")]
     Memory,
+}
+
+/// Why the words of the command line could not be had: one that is not UTF-8 is no command.
+pub fn fault_of_words(error: &io::Error) -> Fault
+    ensures memory { error_kind error.now ≡ ErrorKind.OutOfMemory → result ≡ Fault.Memory }
+    ensures other { error_kind error.now ≢ ErrorKind.OutOfMemory → result ≡ Fault.Arguments }
+{
+    match error.kind() {
+        ErrorKind::OutOfMemory => Fault::Memory,
+        _ => Fault::Arguments,
+    }
 }

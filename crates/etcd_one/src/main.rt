@@ -13,14 +13,14 @@ mod script;
 mod tests;
 
 use command_line::{Args, arguments};
-use fault::Fault;
+use fault::{Fault, fault_of_words};
 use replay::replay;
 use std::process::ExitCode;
 use std::{env, io};
 
 fn run(rt: &HostRuntime) -> Result<(), Fault> {
     let mut words = Vec::new(rt.alloc());
-    let given = env::args(rt).map_err(|_| Fault::Memory)?;
+    let given = env::args(rt).map_err(|error| fault_of_words(&error))?;
     for word in given {
         words.push(word).map_err(|_| Fault::Memory)?;
     }

@@ -1,13 +1,19 @@
 //! `replay`: the replies to a script.
-ghost use Rattle.std.specs.Prelude.{◌≡◌, ◌++◌, ◌<◌, List, ℕ, Option, false, length, map, option_map, IfOk, OnOk, IfSome};
-ghost use Rattle.std.specs.Io.KnownBytes.{Appends, Consumes, IsAtEnd};
-ghost use Rattle.json_gateway.specs.Runs.{event_view, outcome_view};
+ghost use Rattle.std.specs.Prelude.{◌≡◌, ◌≢◌, ◌≤◌, ◌++◌, ◌∷◌, [], List, ℕ, Err, true, false, nat_lt, take, length, map, option_map, codes, decimal, IfOk, IfErr, OnOk, IfSome, MatchResult};
+ghost use Rattle.std.specs.Fmt.{signed_decimal};
+ghost use Rattle.std.specs.Io.KnownBytes.{Appends};
+ghost use Rattle.std.specs.IoError.{error_kind};
+ghost use Rattle.request_core.specs.Answers.{expiry_view};
+ghost use Rattle.json_gateway.specs.Outcomes.{shown};
+ghost use Rattle.json_gateway.specs.Runs.{command_view, event_view, expiry_outcome, outcome_view};
 ghost use Rattle.etcd_one.specs.Replies as spec;
+ghost use Rattle.etcd_one.specs.Faults.{is_read, is_write};
 
 use crate::fault::Fault;
 use crate::script::line_events;
-use json_gateway::{Ids, WireEvent, WireOutcome, run_wire};
+use json_gateway::{Expiry, Ids, Outcome, Refusal, Settled, WireEvent, WireOutcome, run_wire};
 use std::alloc::{AllocError, Global};
+use std::io;
 use std::io::{ErrorKind, Read, Write};
 
 /// The most reads that a script may take.
@@ -20,7 +26,9 @@ const IDS: Ids = Ids {
 };
 
 /// Answers a script on a fresh store: reads all of it, makes its events one run, and then writes a line for each line of the
-/// script, in order: `bad line`, or a request's status, a space and its body.
+/// script, in order: `bad line`; a request's status, a space and its body; `at` and the clock in milliseconds; or of a step
+/// of expiry `expired`, the lease's ID, `revision` and the revision after it, `nothing`, `revisions are spent` or
+/// `out of memory`.
 ///
 /// **What is written is what the model of the whole history answers to the script**, where it is known what the reader gives
 /// and the writer holds. Memory: the script and all replies at once.
@@ -29,8 +37,9 @@ const IDS: Ids = Ids {
 /// `Fault::Memory` where memory is wanting outside a request; then nothing is written. Fails with `Fault::Write` where a
 /// write fails or takes nothing; then nothing more is written.
 pub fn replay<R: Read, W: Write>(alloc: Global, r: &mut R, w: &mut W) -> Result<(), Fault>
-    ensures { OnOk result (IfSome (R.remaining r.old) (λ script. (replies : List ℕ)
+    ensures ok { OnOk result (IfSome (R.remaining r.old) (λ script. (replies : List ℕ)
         × spec.IsAnswered script replies × Appends (W.contents w.old) (W.contents w.new) replies)) }
+    ensures err { IfErr result (λ fault. is_write fault ≡ false → w.new ≡ w.old) }
 {
     let script = read_script(alloc, r, READS)?;
     match replies_to(alloc, script.as_slice()) {
@@ -41,12 +50,14 @@ pub fn replay<R: Read, W: Write>(alloc: Global, r: &mut R, w: &mut W) -> Result<
 
 /// Reads to the end, by at most `most` reads. A read that a signal interrupts counts as one.
 pub fn read_script<R: Read>(alloc: Global, r: &mut R, most: u32) -> Result<Vec<u8>, Fault>
-    ensures { IfOk result (λ script. IfSome (R.remaining r.old) (λ text. script.items ≡ text)) }
+    ensures ok { IfOk result (λ script. IfSome (R.remaining r.old) (λ text. script.items ≡ text)) }
+    ensures err { IfErr result (λ fault. is_read fault ≡ true) }
 {
     let mut script = Vec::new(alloc);
     let mut buffer = [0u8; 65536];
     for _ in 0..most {
-        let is_more = read_more(r, &mut buffer, &mut script)?;
+        let read = r.read(&mut buffer);
+        let is_more = take_in(read, &buffer, &mut script)?;
         if !is_more {
             return Ok(script);
         }
@@ -54,14 +65,16 @@ pub fn read_script<R: Read>(alloc: Global, r: &mut R, most: u32) -> Result<Vec<u
     Err(Fault::Endless)
 }
 
-/// One read onto the end of a script, and whether more may come.
-fn read_more<R: Read>(r: &mut R, buffer: &mut [u8], script: &mut Vec<u8>) -> Result<bool, Fault>
-    requires { 0 < length buffer.old }
-    ensures onto { IfOk result (λ _. (whole : Option (List ℕ)) → Consumes whole (R.remaining r.old) script.old.items
-        → Consumes whole (R.remaining r.new) script.new.items) }
-    ensures end { IfOk result (λ is_more. is_more ≡ false → IsAtEnd (R.remaining r.new)) }
+/// Adds what a read gave to the end of a script, and says whether more may come.
+fn take_in(read: io::Result<usize>, buffer: &[u8], script: &mut Vec<u8>) -> Result<bool, Fault>
+    requires { IfOk read (λ count. count ≤ length buffer.now) }
+    ensures ok { IfOk result (λ is_more. MatchResult read
+        (λ count. (script.new.items ≡ script.old.items ++ take count buffer.now) × (is_more ≡ nat_lt 0 count))
+        (λ error. (error_kind error ≡ ErrorKind.Interrupted) × (script.new.items ≡ script.old.items) × (is_more ≡ true))) }
+    ensures err { IfErr result (λ fault. MatchResult read (λ _. fault ≡ Fault.Memory)
+        (λ error. (error_kind error ≢ ErrorKind.Interrupted) × (fault ≡ Fault.Read error))) }
 {
-    match r.read(buffer) {
+    match read {
         Ok(count) => {
             if script.extend_from_slice(&buffer[..count]).is_err() {
                 return Err(Fault::Memory);
@@ -116,24 +129,107 @@ fn reply_lines(
     let mut text = Vec::new(alloc);
     let mut rest = outcomes;
     for line in lines {
-        if line.is_none() {
+        if let Some(event) = line {
+            if let Some((outcome, later)) = rest.split_first() {
+                push_outcome(&mut text, event, outcome)?;
+                rest = later;
+            }
+        } else {
             text.extend_from_slice(b"bad line\n")?;
-        } else if let Some((outcome, later)) = rest.split_first() {
-            push_outcome(&mut text, outcome)?;
-            rest = later;
         }
     }
     Ok(text)
 }
 
-fn push_outcome(text: &mut Vec<u8>, outcome: &WireOutcome) -> Result<(), AllocError>
-    ensures { OnOk result (text.new.items ≡ text.old.items ++ spec.outcome_line (outcome_view outcome.now)) }
+/// Writes the line of an event's outcome.
+fn push_outcome(
+    text: &mut Vec<u8>,
+    event: &WireEvent<'_>,
+    outcome: &WireOutcome,
+) -> Result<(), AllocError>
+    ensures { OnOk result (text.new.items
+        ≡ text.old.items ++ spec.outcome_line (event_view event.now) (outcome_view outcome.now)) }
 {
     match outcome {
-        WireOutcome::Posted(posted) => {
-            let (status, body) = posted.settled.wire();
-            push_response(text, status, body)
-        }
+        WireOutcome::Posted(posted) => push_posted(text, event, posted),
+        WireOutcome::Clock(clock) => push_clock(text, *clock),
+        WireOutcome::Expiry(Ok(expiry)) => push_expiry(text, *expiry),
+        WireOutcome::Expiry(Err(refusal)) => push_unexpired(text, event, *refusal),
+    }
+}
+
+fn push_posted(
+    text: &mut Vec<u8>,
+    event: &WireEvent<'_>,
+    posted: &Outcome,
+) -> Result<(), AllocError>
+    ensures { OnOk result (text.new.items
+        ≡ text.old.items ++ spec.outcome_line (event_view event.now) (command_view posted.now)) }
+{
+    match &posted.settled {
+        Settled::Memory => push_out_of_memory(text, event),
+        Settled::Reply(_) | Settled::Lost(_) => push_settled(text, &posted.settled),
+    }
+}
+
+fn push_settled(text: &mut Vec<u8>, settled: &Settled) -> Result<(), AllocError>
+    ensures { OnOk result (text.new.items ≡ text.old.items ++ spec.response_line (shown settled.now)) }
+{
+    let (status, body) = settled.wire();
+    push_response(text, status, body)
+}
+
+/// Writes that an event found no memory.
+fn push_out_of_memory(text: &mut Vec<u8>, event: &WireEvent<'_>) -> Result<(), AllocError>
+    ensures { OnOk result (text.new.items ≡ text.old.items ++ spec.memory_line (event_view event.now)) }
+{
+    match event {
+        WireEvent::Post { .. } => push_settled(text, &Settled::Memory),
+        _ => text.extend_from_slice(b"out of memory\n"),
+    }
+}
+
+fn push_clock(text: &mut Vec<u8>, clock: u64) -> Result<(), AllocError>
+    ensures { OnOk result (text.new.items ≡ text.old.items ++ spec.clock_line clock) }
+{
+    let Ok(()) = writeln!(text, "at {clock}") else {
+        return Err(AllocError);
+    };
+    Ok(())
+}
+
+fn push_expiry(text: &mut Vec<u8>, expiry: Expiry) -> Result<(), AllocError>
+    ensures { OnOk result (text.new.items ≡ text.old.items ++ spec.expiry_line (expiry_view expiry)) }
+{
+    match expiry {
+        Expiry::Nothing => text.extend_from_slice(b"nothing\n"),
+        Expiry::Expired { id, revision, .. } => push_expired(text, id, revision),
+    }
+}
+
+fn push_expired(text: &mut Vec<u8>, id: i64, revision: u64) -> Result<(), AllocError>
+    ensures { OnOk result (text.new.items ≡ text.old.items
+        ++ codes "expired " ++ signed_decimal id ++ codes " revision " ++ decimal revision ++ 10 ∷ []) }
+{
+    let Ok(()) = writeln!(text, "expired {id} revision {revision}") else {
+        return Err(AllocError);
+    };
+    Ok(())
+}
+
+/// Writes why a step of expiry was refused.
+fn push_unexpired(
+    text: &mut Vec<u8>,
+    event: &WireEvent<'_>,
+    refusal: Refusal,
+) -> Result<(), AllocError>
+    ensures { OnOk result (text.new.items
+        ≡ text.old.items ++ spec.outcome_line (event_view event.now) (expiry_outcome (Err refusal))) }
+{
+    if refusal == Refusal::Memory {
+        push_out_of_memory(text, event)
+    } else {
+        text.extend_from_slice(b"revisions are spent\n")
     }
 }
 
@@ -152,7 +248,8 @@ fn push_response(text: &mut Vec<u8>, status: u16, body: &[u8]) -> Result<(), All
 
 /// Writes all of a text, and hands it on.
 fn write_out<W: Write>(w: &mut W, text: &[u8]) -> Result<(), Fault>
-    ensures { OnOk result (Appends (W.contents w.old) (W.contents w.new) text.now) }
+    ensures ok { OnOk result (Appends (W.contents w.old) (W.contents w.new) text.now) }
+    ensures err { IfErr result (λ fault. is_write fault ≡ true) }
 {
     if let Err(error) = w.write_all(text) {
         return Err(Fault::Write(error));

@@ -5,11 +5,13 @@
 ghost use Rattle.std.specs.Prelude.{◌≡◌, ◌<◌, ◌≤◌, ℕ, ◌∷◌, length, map, option_map, IfOk, MatchOption};
 ghost use Rattle.std.specs.List.{position_or_len, before_first, after_first};
 ghost use Rattle.std.specs.Str.Lines.{lines, strip_carriage_return};
+ghost use Rattle.kv_model.specs.Wire.{moment as model_moment};
 ghost use Rattle.json_gateway.specs.Runs.{event_view};
 ghost use Rattle.etcd_one.specs.Script as script;
 
 use json_gateway::WireEvent;
 use std::alloc::{AllocError, Global};
+use std::str;
 
 /// The most bytes of a line, without its end, that can be an event.
 pub const LONGEST_LINE: usize = 1_700_000;
@@ -35,8 +37,8 @@ pub fn line_events<'a>(
 
 /// The event that a line asks for; `None` for a bad line, one above `LONGEST_LINE` bytes or of no form.
 ///
-/// The one form is `POST path body`. The body is the rest of the line, its spaces too, and may be missing; the path may be
-/// empty.
+/// The forms are `POST path body`, `AT moment` and `EXPIRE`. The body is the rest of the line, its spaces too, and may be
+/// missing; the path may be empty. The moment is in milliseconds, decimal digits alone, of a number of 64 bits.
 pub fn event_of(line: &[u8]) -> Option<WireEvent<'_>>
     ensures { option_map event_view result ≡ script.event_of line.now }
 {
@@ -45,19 +47,62 @@ pub fn event_of(line: &[u8]) -> Option<WireEvent<'_>>
     }
     let (word, rest) = cut(line, b' ');
     match rest {
-        Some(rest) => event_by(word, rest),
-        None => None,
+        Some(rest) => event_with(word, rest),
+        None => event_alone(word),
+    }
+}
+
+/// What a line of one word asks for.
+fn event_alone<'a>(word: &[u8]) -> Option<WireEvent<'a>>
+    ensures { option_map event_view result ≡ script.event_alone word.now }
+{
+    if word == b"EXPIRE".as_slice() {
+        Some(WireEvent::Expire)
+    } else {
+        None
     }
 }
 
 /// What a line's first word asks for, with the text after the space that ends it.
-fn event_by<'a>(word: &[u8], rest: &'a [u8]) -> Option<WireEvent<'a>>
-    ensures { option_map event_view result ≡ script.event_by word.now (Some rest.now) }
+fn event_with<'a>(word: &[u8], rest: &'a [u8]) -> Option<WireEvent<'a>>
+    ensures { option_map event_view result ≡ script.event_with word.now rest.now }
 {
     if word == b"POST".as_slice() {
         Some(post(rest))
+    } else if word == b"AT".as_slice() {
+        moment(rest)
     } else {
         None
+    }
+}
+
+/// A moment in milliseconds.
+fn moment<'a>(digits: &[u8]) -> Option<WireEvent<'a>>
+    ensures { option_map event_view result ≡ option_map model_moment (script.number_of digits.now) }
+{
+    match number_of(digits) {
+        Some(now) => Some(WireEvent::Moment(now)),
+        None => None,
+    }
+}
+
+/// The number of 64 bits that a text writes by decimal digits alone, zeros before them too.
+fn number_of(text: &[u8]) -> Option<u64>
+    ensures { result ≡ script.number_of text.now }
+{
+    match str::from_utf8(text) {
+        Ok(text) => unsigned_64(text),
+        Err(_) => None,
+    }
+}
+
+fn unsigned_64(text: &str) -> Option<u64>
+    ensures { result ≡ script.number_of text.now }
+{
+    if text.starts_with('+') {
+        None
+    } else {
+        text.parse().ok()
     }
 }
 

@@ -1,4 +1,6 @@
 //! Worked rows, bad lines, bad arguments, and readers and writers that fail.
+mod leases;
 mod ranges;
 mod rows;
 mod streams;
+mod transactions;

@@ -127,7 +127,7 @@ fn lines(rt: HostRuntime) -> Result<(), Fail> {
         )?
     );
     let no_form =
-        "POST\npost /v3/kv/range {}\n POST /v3/kv/range {}\nGET /\nTRIM\nAT 5\nDELIVER 1\n\r\n";
+        "POST\npost /v3/kv/range {}\n POST /v3/kv/range {}\nGET /\nTRIM\nAT\nDELIVER 1\n\r\n";
     assert!(rt; answers(alloc, &[(no_form, 1)], &[(BAD_LINE, 8)])?);
     let no_path = "POST \nPOST  {}\nPOST /v3/kv/range? {}\nPOST \u{7f}\n";
     assert!(rt; answers(alloc, &[(no_path, 1)], &[(NO_PATH, 4)])?);

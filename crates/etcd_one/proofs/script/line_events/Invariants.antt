@@ -1,4 +1,4 @@
-use Rattle.std.proofs.Common.{◌≡◌, ℕ, ◌++◌, length, map, option_map}
+use Rattle.std.proofs.Common.{◌≡◌, ◌++◌, length, map, option_map}
 use Rattle.json_gateway.specs.Runs.{event_view}
 use Rattle.etcd_one.specs.Script as script
 use Rattle.etcd_one.proofs.script.line_events.Given as goal

@@ -1,0 +1,16 @@
+-- What a fault came of.
+use Rattle.std.specs.Prelude.{Bool, true, false}
+use Rattle.etcd_one.specs.declared.fault.Fault.{Fault}
+use Rattle.etcd_one.specs.declared.fault.Fault.TheVariants as fault
+
+-- it may come of reading a script
+abbrev pub is_read : Fault → Bool
+is_read (fault.Read error) = true
+is_read fault.Endless = true
+is_read fault.Memory = true
+is_read _ = false
+
+-- it comes of writing the replies, and of nothing else
+abbrev pub is_write : Fault → Bool
+is_write (fault.Write error) = true
+is_write _ = false
