@@ -7,8 +7,6 @@ mod json_text;
 mod key_value;
 mod leases;
 mod refusals;
-#[cfg(test)]
-mod tests;
 mod transactions;
 
 pub use answers::{delete_text, put_text, range_text};

@@ -13,5 +13,3 @@ pub use outcome::{Outcome, Reply, Settled};
 pub use request_core::answer::Expiry;
 pub use wire::{WireEvent, WireOutcome, WireRun, run_wire};
 
-#[cfg(test)]
-mod tests;

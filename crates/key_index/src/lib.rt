@@ -5,8 +5,6 @@ mod changes;
 pub mod index;
 mod interval;
 pub mod revisions;
-#[cfg(test)]
-mod tests;
 
 pub use index::{Indexed, KeyIndex};
 pub use revisions::{Mark, Revisions};

@@ -3,8 +3,6 @@
 
 pub mod book;
 mod entry;
-#[cfg(test)]
-mod tests;
 mod tree;
 
 pub use book::{Granted, LeaseBook, TimeLeft};

@@ -8,8 +8,6 @@ pub mod reply;
 pub mod revision;
 mod select;
 pub mod tables;
-#[cfg(test)]
-mod tests;
 pub mod view;
 
 pub use reply::{KvRef, RangeReply};

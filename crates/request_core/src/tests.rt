@@ -1,12 +1,11 @@
 //! What no clause says: that calls succeed with ample memory, and what a sink that refuses leaves.
-use crate::answer::{Answer, Status};
+use crate::answer::Status;
 use crate::store::{Core, LAST_MAIN};
 use bytes::Bytes;
-use kv_model::call::{Command, DeleteRequest, PutRequest, RangeQuery, SortOrder, SortTarget};
+use kv_model::call::{Command, DeleteRequest, PutRequest};
 use kv_model::feed::{Op, Sink};
 use kv_model::refusal::Refusal;
 use kv_model::version::KeyRange;
-use range_view::reply::{KvRef, RangeReply};
 use std::alloc::{AllocError, Global};
 use std::test::Fail;
 
@@ -35,24 +34,6 @@ fn delete(key: &'static [u8], end: &'static [u8]) -> Command {
     })
 }
 
-/// The live keys of the whole store at a revision.
-fn all_at(revision: i64) -> Command {
-    Command::Range(RangeQuery {
-        range: between(b"\0", b"\0"),
-        limit: 0,
-        revision,
-        order: SortOrder::Unsorted,
-        target: SortTarget::ByKey,
-        serializable: false,
-        keys_only: false,
-        count_only: false,
-        min_mod: 0,
-        max_mod: 0,
-        min_create: 0,
-        max_create: 0,
-    })
-}
-
 /// Does a command, and gives the revision after it. Without clauses, so that a test does not carry those of `apply`.
 fn done(core: &mut Core, command: &Command) -> Result<u64, Fail> {
     Ok(core.apply(command)?.revision)
@@ -60,27 +41,6 @@ fn done(core: &mut Core, command: &Command) -> Result<u64, Fail> {
 
 fn refused(core: &mut Core, command: &Command) -> Option<Refusal> {
     core.apply(command).err()
-}
-
-fn ranged<'a>(core: &'a mut Core, command: &Command) -> Result<RangeReply<'a>, Fail> {
-    let receipt = core.apply(command)?;
-    match core.answer(&receipt)? {
-        Answer::Range(reply) => Ok(reply),
-        _ => Err(Fail::from("no answer to a range")),
-    }
-}
-
-/// How many keys a delete found, and what they held.
-fn deleted<'a>(core: &'a mut Core, command: &Command) -> Result<(u64, Vec<KvRef<'a>>), Fail> {
-    let receipt = core.apply(command)?;
-    match core.answer(&receipt)? {
-        Answer::Delete {
-            deleted,
-            previous,
-            ..
-        } => Ok((deleted, previous)),
-        _ => Err(Fail::from("no answer to a delete")),
-    }
 }
 
 /// Revisions 2 to 5: puts of a, b, c, and of b again.
@@ -104,25 +64,6 @@ fn a_fresh_core(rt: HostRuntime) {
     };
     assert_eq!(rt; core.status(), status);
     assert_eq!(rt; core.stamp(), 0);
-}
-
-#[test]
-fn a_delete_of_two_keys(rt: HostRuntime) -> Result<(), Fail> {
-    let mut core = stored(rt.alloc())?;
-    let (count, before) = deleted(&mut core, &delete(b"a", b"c"))?;
-    assert_eq!(rt; count, 2);
-    assert_eq!(rt; before.len(), 2);
-    assert_eq!(rt; before[0].key, b"a".as_slice());
-    assert_eq!(rt; before[0].value, b"1".as_slice());
-    assert_eq!(rt; before[1].create, 3);
-    assert_eq!(rt; before[1].modified, 5);
-    assert_eq!(rt; before[1].value, b"2".as_slice());
-    assert_eq!(rt; before[1].version, 2);
-    drop(before);
-    assert_eq!(rt; core.status().revision, 6);
-    assert_eq!(rt; core.status().versions, 6);
-    assert_eq!(rt; core.stamp(), 5);
-    Ok(())
 }
 
 /// At the last revision but one a change is accepted, and the next one is refused.
@@ -172,7 +113,6 @@ fn a_refused_taking_leaves_nothing(rt: HostRuntime) -> Result<(), Fail> {
         Some(Refusal::Memory)
     );
     assert_eq!(rt; core.status(), before);
-    assert_eq!(rt; ranged(&mut core, &all_at(0))?.count, 3);
     assert_eq!(rt; done(&mut core, &delete(b"a", b"c"))?, 6);
     Ok(())
 }

@@ -8,14 +8,10 @@ mod compare;
 mod deleted;
 mod fault;
 mod keys;
-#[cfg(test)]
-mod plan_tests;
 mod planning;
 mod put;
 mod reply;
 pub mod step;
-#[cfg(test)]
-mod tests;
 mod touched;
 
 pub use checking::check;

@@ -2,7 +2,5 @@
 #![tactic(auto)]
 
 pub mod table;
-#[cfg(test)]
-mod tests;
 
 pub use table::VersionTable;

@@ -1,11 +1,11 @@
 //! Each call once, on the tables of a few revisions.
-use super::reply::RangeReply;
-use super::revision::end_of;
-use super::tables::Tables;
 use bytes::Bytes;
 use kv_model::call::{RangeQuery, SortOrder, SortTarget};
 use kv_model::refusal::Refusal;
 use kv_model::version::{Body, KeyRange, Rev, Version};
+use range_view::reply::RangeReply;
+use range_view::revision::end_of;
+use range_view::tables::Tables;
 use std::alloc::{AllocError, Global};
 use std::process::Abort;
 use std::test::Fail;

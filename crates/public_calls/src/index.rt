@@ -1,6 +1,6 @@
 //! Each call once, on three keys.
-use super::{Indexed, KeyIndex};
 use bytes::Bytes;
+use key_index::{Indexed, KeyIndex};
 use kv_model::version::{Body, KeyRange, Rev, Version};
 use std::alloc::{AllocError, Global};
 use std::test::Fail;

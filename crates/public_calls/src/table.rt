@@ -1,9 +1,9 @@
 //! Each call once, on a table of five versions.
-use super::VersionTable;
 use bytes::Bytes;
 use kv_model::version::{Body, Rev, Version};
 use std::alloc::{AllocError, Global};
 use std::test::Fail;
+use version_table::VersionTable;
 
 fn tombstone(main: u64, sub: u64) -> Version {
     Version {

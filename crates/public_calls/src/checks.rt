@@ -1,11 +1,11 @@
 //! Each fault once, in the order that the walk finds them.
-use super::{check, walk_fault};
 use bytes::Bytes;
 use kv_model::call::{Compare, DeleteRequest, Operand, Operation, PutRequest, Relation, Txn};
 use kv_model::refusal::Refusal;
 use kv_model::version::KeyRange;
 use std::alloc::{AllocError, Global};
 use std::test::Fail;
+use txn_core::{check, walk_fault};
 
 fn empty(alloc: Global) -> Txn {
     Txn {

@@ -1,5 +1,5 @@
-use super::*;
 use kv_model::refusal::Refusal;
+use lease_book::{Granted, LeaseBook, TimeLeft};
 use std::test::Fail;
 
 fn granted(id: i64, ttl: u64) -> Result<Granted, Refusal> {

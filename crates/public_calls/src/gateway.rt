@@ -1,8 +1,8 @@
 //! What no clause says: that calls succeed with ample memory, on the worked rows.
-use crate::commands::{perform, post, text};
-use crate::outcome::Settled;
-use crate::wire::{WireEvent, WireOutcome, run_wire};
 use gateway_read::read;
+use json_gateway::commands::{perform, post, text};
+use json_gateway::outcome::Settled;
+use json_gateway::wire::{WireEvent, WireOutcome, run_wire};
 use kv_model::ids::Ids;
 use request_core::answer::{Answer, Expiry};
 use request_core::store::Core;

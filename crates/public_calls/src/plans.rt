@@ -1,6 +1,4 @@
 //! What a transaction does to nothing at all, and why it is refused there.
-use super::plan;
-use super::step::Plan;
 use bytes::Bytes;
 use kv_model::call::{Compare, Operand, Operation, PutRequest, Relation, Txn};
 use kv_model::refusal::Refusal;
@@ -9,6 +7,8 @@ use lease_book::LeaseBook;
 use range_view::Tables;
 use std::alloc::{AllocError, Global};
 use std::test::Fail;
+use txn_core::plan;
+use txn_core::step::Plan;
 
 fn put(key: &'static [u8], ignore_value: bool, lease: i64) -> Operation {
     Operation::Put(PutRequest {

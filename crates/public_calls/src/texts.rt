@@ -1,5 +1,8 @@
 //! Each public call once, against bodies that were written by hand.
-use super::*;
+use gateway_text::{
+    Wording, delete_text, granted_text, leases_text, lost_text, memory_text, put_text, range_text,
+    refusal_text, refusal_wording, renewed_text, revoked_text, time_left_text, txn_text,
+};
 use kv_model::ids::Ids;
 use kv_model::refusal::Refusal;
 use range_view::reply::{KvRef, OpReply, RangeReply};
