@@ -274,12 +274,6 @@ any-later p os i o h e fails =
 pub any-here : {X : Type 0} (p : X → Bool) (os : List X) (i : ℕ) (o : X) → i < length os → o ≡ get_or os i o → p o ≡ true → true ≡ list_any p (drop i os)
 any-here p os i o h e holds = sym (ap (list_any p) (drop-cons os i o h) ∙ ap (λ b. b || list_any p (drop (suc i) os)) (ap p (sym e) ∙ holds))
 
-pub drop-end : {X : Type 0} (os : List X) (i : ℕ) → length os ≤ i → drop i os ≡ []
-drop-end [] zero h = refl
-drop-end [] (suc i) h = refl
-drop-end (o ∷ os) zero h = absurd (omega arith)
-drop-end (o ∷ os) (suc i) h = drop-end os i (omega arith)
-
 pub any-map : {X Y : Type 0} (f : X → Y) (p : Y → Bool) (xs : List X) → list_any p (map f xs) ≡ list_any (λ x. p (f x)) xs
 any-map f p [] = refl
 any-map f p (x ∷ xs) = ap (λ b. p (f x) || b) (any-map f p xs)

@@ -30,7 +30,9 @@ use Rattle.kv_model.proofs.GoodLaws.{live_now-by}
 use Rattle.kv_model.proofs.KeyLaws.{IsAscending, AllAbove, cmp-refl}
 use Rattle.kv_model.proofs.HistoryLaws.{same_key-eq}
 use Rattle.kv_model.proofs.TouchLaws.{live_now-ascends}
-use Rattle.txn_core.specs.Planning.{is_tombstone, buries, is_gone, tombstone, with_grave, with_graves, put_version, held_refusal, made, refusal_of}
+use Rattle.kv_model.specs.Trimming.{is_tombstone}
+use Rattle.txn_core.specs.KeyWrites.{held_refusal, put_version, tombstone}
+use Rattle.txn_core.specs.Planning.{buries, is_gone, with_grave, with_graves, made, refusal_of}
 
 -- ---- tombstones
 
@@ -41,19 +43,6 @@ or-false false = refl
 or-assoc : (a b c : Bool) → (a || (b || c)) ≡ ((a || b) || c)
 or-assoc true b c = refl
 or-assoc false b c = refl
-
--- one version more
-pub is_gone-more : (ws : List Version) (v : Version) (k : List ℕ) → is_gone (ws ++ v ∷ []) k ≡ (is_gone ws k || buries k v)
-is_gone-more [] v k = or-false (buries k v)
-is_gone-more (w ∷ ws) v k = ap (λ b. buries k w || b) (is_gone-more ws v k) ∙ or-assoc (buries k w) (is_gone ws k) (buries k v)
-
--- a tombstone more buries its key
-pub is_gone-grave : (ws : List Version) (v : Version) (key k : List ℕ) → is_tombstone v.body ≡ true → v.key ≡ key → is_gone (ws ++ v ∷ []) k ≡ (is_gone ws k || same_key key k)
-is_gone-grave ws v key k t e = is_gone-more ws v k ∙ (λ i. is_gone ws k || (t i && same_key (e i) k))
-
--- and any other version none
-pub is_gone-put : (ws : List Version) (v : Version) (k : List ℕ) → is_tombstone v.body ≡ false → is_gone (ws ++ v ∷ []) k ≡ is_gone ws k
-is_gone-put ws v k t = is_gone-more ws v k ∙ ap (λ b. is_gone ws k || (b && same_key v.key k)) t ∙ or-false (is_gone ws k)
 
 -- the order ties just what is the same
 pub eq-same : (k l : List ℕ) → is_eq (key_cmp k l) ≡ same_key k l
@@ -164,8 +153,8 @@ made-planned vs p main us Path.end h = refl
 made-planned vs p main us (Path.range r rest) h = made-planned vs p main us rest h
 made-planned vs p main us (Path.put r rest) h =
     let u : Mutation = put_change vs main (length us) r in
-    let more : map (next_version vs) us ++ put_version main (length (map (next_version vs) us)) r (value_at vs p r.key) ∷ [] ≡ map (next_version vs) (us ++ u ∷ []) =
-    (λ i. map (next_version vs) us ++ put_version main (length-map us (next_version vs) i) r (value_at-by vs p r.key h i) ∷ []) ∙ sym (map-append (next_version vs) us (u ∷ [])) in
+    let more : map (next_version vs) us ++ put_version (record { main = main; sub = length (map (next_version vs) us) }) r (value_at vs p r.key) ∷ [] ≡ map (next_version vs) (us ++ u ∷ []) =
+    (λ i. map (next_version vs) us ++ put_version (record { main = main; sub = length-map us (next_version vs) i }) r (value_at-by vs p r.key h i) ∷ []) ∙ sym (map-append (next_version vs) us (u ∷ [])) in
     ap (λ ws. made vs p main ws rest) more ∙ made-planned vs p main (us ++ u ∷ []) rest h
 made-planned vs p main us (Path.delete d rest) h =
     ap (λ kvs. made vs p main (with_graves main (map (next_version vs) us) (keys_of kvs)) rest) (sym (live_now-by vs p d.range h))
