@@ -1,11 +1,11 @@
 -- The answers to the operations that ran, step by step.
-use Rattle.std.proofs.Common.{◌≡◌, ℕ, zero, suc, ◌+◌, ◌<◌, ◌≤◌, ◌^◌, List, [], ◌∷◌, ◌++◌, length, map, drop, get_or, refl, sym, ◌∙◌, ap, subst, arith, rules, add-one, drop-cons, Bool, true, false, cond, Option, None, option_map, Bor, Vec, Global}
+use Rattle.std.proofs.Common.{◌≡◌, ℕ, suc, ◌+◌, ◌<◌, ◌≤◌, List, [], ◌∷◌, ◌++◌, length, map, drop, get_or, refl, sym, ◌∙◌, ap, subst, arith, rules, add-one, drop-cons, Bool, Option, None, option_map, Bor, Vec, Global}
 use Rattle.std.proofs.lemmas.List.{drop_all}
 use Rattle.kv_model.specs.declared.version.Version.{Version}
 use Rattle.kv_model.specs.declared.call.RangeQuery.{RangeQuery}
 use Rattle.kv_model.specs.declared.call.PutRequest.{PutRequest}
 use Rattle.kv_model.specs.declared.call.DeleteRequest.{DeleteRequest}
-use Rattle.kv_model.specs.History.{KeyValue, value_at}
+use Rattle.kv_model.specs.History.{value_at}
 use Rattle.kv_model.specs.Ranges as ranges
 use Rattle.kv_model.specs.Txns.{Path, Replies, place_before, changes_of, replies_of, previous_value, if_asked}
 use Rattle.kv_model.specs.Plans.{ReadsKept}
@@ -14,7 +14,7 @@ use Rattle.range_view.specs.declared.reply.RangeReply.{RangeReply}
 use Rattle.range_view.specs.declared.reply.OpReply.{OpReply, the_lemmas as the_reply_lemmas}
 use Rattle.range_view.specs.declared.reply.OpReply.TheVariants as reply
 use Rattle.range_view.specs.Replies.{in_row, kv_view, reply_view, op_reply_view, replies_view}
-use Rattle.txn_core.specs.declared.step.Step.{Step, fold-roll-Step, out-Step, roll-Step, roll-out-Step, the_lemmas}
+use Rattle.txn_core.specs.declared.step.Step.{Step, fold-roll-Step, out-Step, roll-Step, roll-out-Step}
 use Rattle.txn_core.specs.declared.step.Step.TheVariants as variant
 use Rattle.txn_core.specs.declared.step.Step.TheOpen.{Step-F}
 use Rattle.txn_core.specs.Steps.{one_step, step_view, steps_view}

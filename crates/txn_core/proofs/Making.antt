@@ -1,8 +1,7 @@
 -- What a transaction makes, in terms of the changes that the definitions plan.
-use Rattle.std.proofs.Common.{◌≡◌, ℕ, zero, suc, ◌+◌, ◌<◌, ◌≤◌, ◌^◌, ℤ, List, [], ◌∷◌, ◌++◌, length, map, filter, Bool, true, false, not, ◌&&◌, ◌||◌, cond, Option, None, Some, option_and_then, refl, sym, ◌∙◌, ap, subst, arith, add-one, append_assoc, length-append}
-use Rattle.std.specs.Prelude.{MatchOption, is_none}
+use Rattle.std.proofs.Common.{◌≡◌, ℕ, suc, ◌<◌, ◌≤◌, ◌^◌, ℤ, List, [], ◌∷◌, ◌++◌, length, map, filter, Bool, true, false, not, ◌&&◌, ◌||◌, cond, Option, None, Some, refl, sym, ◌∙◌, ap, add-one, append_assoc, length-append}
 use Rattle.std.specs.Option.{option_or}
-use Rattle.std.specs.List.{AllByRecursion, list_any}
+use Rattle.std.specs.List.{AllByRecursion}
 use Rattle.std.specs.declared.cmp.Ordering.{Ordering}
 use Rattle.std.specs.declared.cmp.Ordering.TheVariants.{Less, Equal, Greater}
 use Rattle.std.specs.Ordering.{is_eq}
@@ -11,18 +10,10 @@ use Rattle.std.proofs.lemmas.Map.Lookups.{exact_bytes}
 use Rattle.std.proofs.lemmas.List.{map-append, length-map}
 use Rattle.kv_model.specs.declared.version.Rev.{Rev}
 use Rattle.kv_model.specs.declared.version.Version.{Version}
-use Rattle.kv_model.specs.declared.version.KeyRange.{KeyRange}
-use Rattle.kv_model.specs.declared.version.Body.{Body}
-use Rattle.kv_model.specs.declared.version.Body.TheVariants.{Put, Gone}
-use Rattle.kv_model.specs.declared.call.PutRequest.{PutRequest}
-use Rattle.kv_model.specs.declared.refusal.Refusal.{Refusal}
-use Rattle.kv_model.specs.declared.refusal.Refusal.TheVariants.{KeyMissing}
-use Rattle.kv_model.specs.Lists.{last_that}
 use Rattle.kv_model.specs.Keys.{key_cmp, same_key}
 use Rattle.kv_model.specs.History.{Mutation, Action, KeyValue, deletes_key, is_put, key_value, shown, value_at, value_now, rev_le}
-use Rattle.kv_model.specs.Ranges.{keys_of, live, live_now, refuse_if, revision_refusal}
-use Rattle.kv_model.specs.Step.{last_main}
-use Rattle.kv_model.specs.Txns.{Path, next_body, next_version, put_action, put_change, put_lease_refusal, deletes_of}
+use Rattle.kv_model.specs.Ranges.{keys_of, live_now, revision_refusal}
+use Rattle.kv_model.specs.Txns.{Path, next_body, next_version, put_change, deletes_of}
 use Rattle.kv_model.specs.Plans.{is_deleted, still_live, planned, planned_refusal}
 use Rattle.kv_model.specs.History as history
 use Rattle.kv_model.proofs.PlaceLaws.{AreBy, value_at-by, rev_le-end}

@@ -1,5 +1,5 @@
 -- The operations that run, one after another: the path they are, what they make, and their first refusal.
-use Rattle.std.proofs.Common.{◌≡◌, ◌⊎◌, inl, inr, ℕ, zero, suc, ◌+◌, ◌<◌, ◌≤◌, List, [], ◌∷◌, ◌++◌, length, map, drop, get_or, Bool, true, false, cond, Option, None, Some, refl, sym, ◌∙◌, ap, subst, arith, rules, add-one, drop-cons}
+use Rattle.std.proofs.Common.{◌≡◌, ◌⊎◌, inl, inr, ℕ, suc, ◌+◌, ◌<◌, ◌≤◌, List, [], ◌∷◌, ◌++◌, length, map, drop, get_or, Bool, true, false, cond, Option, None, Some, refl, sym, ◌∙◌, ap, subst, rules, add-one, drop-cons}
 use Rattle.std.proofs.lemmas.List.{drop_all}
 use Rattle.std.specs.Prelude.{MatchBool, ⊤}
 use Rattle.std.specs.Option.{option_or}
@@ -20,7 +20,7 @@ use Rattle.kv_model.specs.Txns.{Path, path_of, holds}
 use Rattle.range_view.specs.Stored.{Viewed}
 use Rattle.txn_core.specs.declared.step.Step.{Step}
 use Rattle.txn_core.specs.Planning.{made, refusal_of, is_memory, IsRefusal, path_in, made_in, refusal_in}
-use Rattle.txn_core.specs.Steps.{in_row, step_view, steps_view}
+use Rattle.txn_core.specs.Steps.{in_row, step_view}
 use Rattle.txn_core.proofs.Walking.{txn_view-out, op_view-Range, op_view-Put, op_view-Delete}
 
 -- ---- refusals

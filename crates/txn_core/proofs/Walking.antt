@@ -1,5 +1,5 @@
 -- The walk over a transaction, step by step.
-use Rattle.std.proofs.Common.{◌≡◌, ℕ, zero, suc, ◌+◌, ◌<◌, ◌≤◌, List, [], ◌∷◌, length, drop, get_or, true, false, nat_le, Option, None, Some, is_some, refl, sym, ◌∙◌, ap, subst, arith, rules, add-one, drop-cons, true≢false}
+use Rattle.std.proofs.Common.{◌≡◌, ℕ, suc, ◌+◌, ◌<◌, ◌≤◌, List, [], ◌∷◌, length, drop, get_or, true, false, nat_le, Option, None, Some, is_some, refl, sym, ◌∙◌, ap, subst, arith, rules, add-one, drop-cons, true≢false}
 use Rattle.std.proofs.lemmas.List.{drop_all}
 use Rattle.std.specs.Option.{option_or}
 use Rattle.std.proofs.lemmas.Bool.Decides.{nat_tests}
