@@ -1,12 +1,10 @@
 -- The versions that a planned path adds: those of the next revision, each as its key stood before all of them.
-use Rattle.std.proofs.Common.{◌≡◌, ◌≢◌, ◌≤◌, ◌<◌, ◌^◌, ℕ, suc, ◌+◌, ◌&&◌, List, [], ◌∷◌, ◌++◌, length, map, true, Option, None, Some, refl, sym, ◌∙◌, ap, subst, arith, eq-eqb, lt-ltb}
+use Rattle.std.proofs.Common.{◌≡◌, ◌≢◌, ◌≤◌, ◌<◌, ◌^◌, ℕ, suc, ◌+◌, ◌&&◌, List, [], ◌∷◌, ◌++◌, length, map, true, Option, refl, sym, ◌∙◌, ap, subst, arith, eq-eqb, lt-ltb}
 use Rattle.std.specs.Prelude.{⊤}
 use Rattle.std.specs.List.{AllByRecursion}
 use Rattle.std.proofs.lemmas.List.{map-append}
 use Rattle.kv_model.specs.declared.version.Rev.{Rev}
 use Rattle.kv_model.specs.declared.version.Version.{Version}
-use Rattle.kv_model.specs.declared.version.Body.{Body}
-use Rattle.kv_model.specs.declared.version.Body.TheVariants.{Put, Gone}
 use Rattle.kv_model.specs.Keys.{same_key}
 use Rattle.kv_model.specs.History.{Mutation, Action, KeyValue, value_now, now_after}
 use Rattle.kv_model.specs.Lists.{last_that}
