@@ -12,31 +12,13 @@ use Rattle.std.proofs.lemmas.Fmt.{IsAscii-from_digits}
 use Rattle.std.proofs.lemmas.Str.{IsUtf8-from_ascii}
 use Rattle.std.proofs.lemmas.Str.Parse.{IsNumeralModel, numerals_by_fold, parse_plain}
 use Rattle.kv_model.specs.Lists.{is_empty}
+use Rattle.gateway_read.proofs.Integers.{AllDigits, read_on, own, chosen, some_digit}
 use Rattle.etcd_one.specs.Script.{if_unsigned_64, number_of}
-
-abbrev AllDigits : List ℕ → Type 0
-AllDigits ds = list_all is_ascii_digit ds ≡ true
-
-abbrev read_on : ℕ → List ℕ → ℕ
-read_on = fold (λ n d. n * 10 + (d - 48))
-
-own : IsNumeralModel AllDigits (read_on 0)
-own = numerals_by_fold _ (search rules) read_on (search rules)
-
-chosen : {E : Type 0} (r : Result ℕ E) (b : Bool) (P : Type 0) (n : ℕ) → Decides b P → OkIff r P n → result_ok r ≡ cond b (Some n) None
-chosen (Ok x) true P n d h = ap Some h.1
-chosen (Ok x) false P n d h = absurd (true≢false (sym (d.1 h.0)))
-chosen (Err e) true P n d h = absurd (h (d.0 refl))
-chosen (Err e) false P n d h = refl
 
 -- digits, and then a number that fits
 reshaped : (b : Bool) (test : ℕ → Bool) (n : ℕ) → option_and_then (λ m. cond (test m) (Some m) None) (cond b (Some n) None) ≡ cond (b && test n) (Some n) None
 reshaped true test n = refl
 reshaped false test n = refl
-
-some_digit : (ds : List ℕ) → Decides (not (is_empty ds) && list_all is_ascii_digit ds) (AllDigits ds × (0 < length ds))
-some_digit [] = (λ h. absurd (true≢false (sym h)), λ h. absurd (omega (arith, h.1)))
-some_digit (d ∷ ds) = (λ h. (h, omega arith), λ h. h.0)
 
 fits : (n : ℕ) → Decides (nat_lt n (2 ^ 64)) (n < 2 ^ 64)
 fits n = (λ h. grind (arith, nat_tests), λ h. grind (arith, nat_tests))

@@ -13,16 +13,17 @@ use Rattle.std.proofs.lemmas.Str.Parse.{IsNumeralModel, numerals_by_fold, parse_
 use Rattle.kv_model.specs.Lists.{is_empty}
 use Rattle.kv_model.specs.Requests.{digits_value, signed_value, if_signed_64}
 
-abbrev AllDigits : List ℕ → Type 0
+abbrev pub AllDigits : List ℕ → Type 0
 AllDigits ds = list_all is_ascii_digit ds ≡ true
 
-abbrev read_on : ℕ → List ℕ → ℕ
+abbrev pub read_on : ℕ → List ℕ → ℕ
 read_on = fold (λ n d. n * 10 + (d - 48))
 
-own : IsNumeralModel AllDigits (read_on 0)
+pub own : IsNumeralModel AllDigits (read_on 0)
 own = numerals_by_fold _ (search rules) read_on (search rules)
 
-chosen : {E : Type 0} (r : Result ℤ E) (b : Bool) (P : Type 0) (z : ℤ) → Decides b P → OkIff r P z → result_ok r ≡ cond b (Some z) None
+-- a result that is there where the test holds
+pub chosen : {X E : Type 0} (r : Result X E) (b : Bool) (P : Type 0) (z : X) → Decides b P → OkIff r P z → result_ok r ≡ cond b (Some z) None
 chosen (Ok x) true P z d h = ap Some h.1
 chosen (Ok x) false P z d h = absurd (true≢false (sym (d.1 h.0)))
 chosen (Err e) true P z d h = absurd (h (d.0 refl))
@@ -34,7 +35,7 @@ reshaped : (b : Bool) (test : ℤ → Bool) (g : ℕ → ℤ) (n : ℕ)
 reshaped true test g n = refl
 reshaped false test g n = refl
 
-some_digit : (ds : List ℕ) → Decides (not (is_empty ds) && list_all is_ascii_digit ds) (AllDigits ds × (0 < length ds))
+pub some_digit : (ds : List ℕ) → Decides (not (is_empty ds) && list_all is_ascii_digit ds) (AllDigits ds × (0 < length ds))
 some_digit [] = (λ h. absurd (true≢false (sym h)), λ h. absurd (omega (arith, h.1)))
 some_digit (d ∷ ds) = (λ h. (h, omega arith), λ h. h.0)
 

@@ -1,5 +1,6 @@
 -- A run goes on by one event at a time.
 use Rattle.std.proofs.Common.{◌≡◌, ℕ, zero, suc, ◌+◌, ◌<◌, ◌≤◌, List, [], ◌∷◌, ◌++◌, length, get_or, drop, map, Option, refl, sym, ◌∙◌, ap, subst, append_assoc, add-one, drop-cons, arith}
+use Rattle.std.proofs.lemmas.List.{drop_all}
 use Rattle.std.proofs.lemmas.List.{append-nil, map-append}
 use Rattle.kv_model.specs.declared.ids.Ids.{Ids}
 use Rattle.kv_model.specs.World.{World, opening}
@@ -48,13 +49,7 @@ run_more ids es events outcomes i d o s t h r step =
     (run_step ids es (map event_view (drop (i + 1) events)) (map outcome_view outcomes) (event_view (get_or events i d)) (outcome_view o) s t
     (subst (λ (us : List model.WireEvent). RunsOn ids es (map outcome_view outcomes) us s) (ap (map event_view) (drop-cons events i d h ∙ ap (λ n. get_or events i d ∷ drop n events) (sym (add-one i)))) r) step)
 
-drop-all : {X : Type 0} (n : ℕ) (xs : List X) → length xs ≤ n → drop n xs ≡ []
-drop-all zero [] h = refl
-drop-all zero (x ∷ xs) h = absurd (omega arith)
-drop-all (suc n) [] h = refl
-drop-all (suc n) (x ∷ xs) h = drop-all n xs (omega arith)
-
 pub run_end : (ids : Ids) (es : List model.WireEvent) (events : List WireEvent) (done : List model.WireOutcome) (i : ℕ) (s : CoreState) → length events ≤ i
     → RunsOn ids es done (map event_view (drop i events)) s → Follows ids es done
 run_end ids es events done i s h r = subst (Follows ids es) (append-nil done)
-    (r.2 [] (subst (λ us. follows.FollowsFrom (wire_step ids) is_free takes_memory MayLose r.0 (map event_view us) []) (sym (drop-all i events h)) tt))
+    (r.2 [] (subst (λ us. follows.FollowsFrom (wire_step ids) is_free takes_memory MayLose r.0 (map event_view us) []) (sym (drop_all i events h)) tt))

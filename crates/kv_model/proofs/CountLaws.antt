@@ -12,12 +12,8 @@ use Rattle.kv_model.specs.declared.version.KeyRange.{KeyRange}
 use Rattle.kv_model.specs.declared.call.PutRequest.{PutRequest}
 use Rattle.kv_model.specs.History.{Mutation, KeyValue, value_at, end_of, rev_le}
 use Rattle.kv_model.specs.Ranges.{live, live_now, keys_of}
-use Rattle.kv_model.specs.Calls.{Ops}
-use Rattle.kv_model.specs.Txns.{Path, Touch, static_fault, extend_all, added_by, put_change, deletes_of, delete_changes, effect, place_before, changes_of}
+use Rattle.kv_model.specs.Txns.{Path, Touch, extend_all, added_by, put_change, deletes_of, delete_changes, effect, place_before, changes_of}
 use Rattle.kv_model.specs.Plans.{path_touches, still_live, planned}
-use Rattle.kv_model.specs.World.{World}
-use Rattle.kv_model.specs.Stands.{Store, StandsFor, grown}
-use Rattle.kv_model.specs.Stores.{path_in, changes_of_path}
 use Rattle.kv_model.proofs.KeyLaws.{live-same}
 use Rattle.kv_model.proofs.PlaceLaws.{AreBy, AreBehind, each-map, each-append, value_at-behind, rev_le-before, rev_le-after}
 use Rattle.kv_model.proofs.GoodLaws.{live_now-by}
@@ -25,8 +21,6 @@ use Rattle.kv_model.proofs.BatchLaws.{extend_all-added, each-added}
 use Rattle.kv_model.proofs.TouchLaws.{AreClear}
 use Rattle.kv_model.proofs.PlanLaws.{NoClash, inner-clear, clear-front, put-clear, delete-clear, live-taken, extend_all-append, effect-planned}
 use Rattle.kv_model.proofs.PlanBatch.{deletes-length, planned-length}
-use Rattle.kv_model.proofs.PathLaws.{path-checked}
-use Rattle.kv_model.proofs.StandsLaws.{store-by}
 
 -- ---- the order of places, in numbers
 
@@ -218,15 +212,3 @@ changes_counted vs n q a c = omega (arith, counted vs n a (planned vs (n + 1) []
 pub branch_changes : (vs : List Version) (main sub : ℕ) (b : Bool) (inner : Path) → changes_of vs main sub (Path.txn b inner Path.end) ≡ changes_of vs main sub inner
 unfolding changes_of
 branch_changes vs main sub b inner = omega arith
-
--- the changes of a transaction, counted in the store with them
-pub txn_counted : (s : Store) (w : World) → StandsFor s w → (ops : Ops) → static_fault ops ≡ None
-    → changes_of (grown s (changes_of_path s (path_in s ops))).versions (s.revision + 1) 0 (path_in s ops) ≡ length (changes_of_path s (path_in s ops))
-txn_counted s w h ops is = changes_counted s.versions s.revision (path_in s ops) (store-by s w h) (path-checked s.versions s.revision ops is).0
-
--- and those of the branch that runs
-pub branch_counted : (s : Store) (w : World) → StandsFor s w → (ops : Ops) → static_fault ops ≡ None → (b : Bool) (inner : Path) → Path.txn b inner Path.end ≡ path_in s ops
-    → changes_of (grown s (changes_of_path s (path_in s ops))).versions (s.revision + 1) 0 inner ≡ length (changes_of_path s (path_in s ops))
-branch_counted s w h ops is b inner e =
-    let after : List Version = (grown s (changes_of_path s (path_in s ops))).versions in
-    sym (branch_changes after (s.revision + 1) 0 b inner) ∙ ap (λ q. changes_of after (s.revision + 1) 0 q) e ∙ txn_counted s w h ops is

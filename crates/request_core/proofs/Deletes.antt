@@ -20,7 +20,8 @@ use Rattle.kv_model.proofs.KeyLaws.{live-same}
 use Rattle.kv_model.proofs.PlaceLaws.{AreBehind, rev_le-after, value_at-behind}
 use Rattle.kv_model.proofs.StandsCommands.{delete_refused, delete_nothing, delete_made, delete_spent, delete_stands}
 use Rattle.request_core.specs.declared.answer.Receipt.{Receipt}
-use Rattle.request_core.specs.Writing.{tombstone, tombstones}
+use Rattle.txn_core.specs.KeyWrites.{tombstone}
+use Rattle.request_core.specs.Writing.{tombstones}
 use Rattle.request_core.specs.State.{CoreState, live_in, is_spent, with_versions, fault_of_delete, added_by_delete, after_delete, answer_after_delete, raised_by_delete}
 use Rattle.request_core.specs.Answers.{Accepts, IsRefusal, answer_of, first_refusal}
 use Rattle.request_core.proofs.Worlds.{or-none-first, or-none-second, not-spent, spent-by, change_accepted, read_accepted, is_refused}

@@ -19,9 +19,10 @@ use Rattle.lease_book.specs.Book.{Book}
 use Rattle.range_view.specs.Replies.{kv_view}
 use Rattle.range_view.specs.Stored.{Stored, goes_on, appended}
 use Rattle.range_view.proofs.Growing.{next-revision}
-use Rattle.request_core.specs.Writing.{CanCount, IsCountedTo, IsHeldTo, AreNext, next_rev, next_version, tombstone, tombstones}
+use Rattle.txn_core.specs.KeyWrites.{CanCount, IsCountedTo, put_version, tombstone}
+use Rattle.txn_core.proofs.PutCounts.{last_that-holds}
+use Rattle.request_core.specs.Writing.{IsHeldTo, AreNext, next_rev, tombstones}
 use Rattle.request_core.specs.State.{IsSound, core_state, with_versions}
-use Rattle.request_core.proofs.Back.{last_that-holds}
 
 -- ---- counting
 
@@ -57,7 +58,7 @@ action-counted r main Action.delete o h = tt
 -- ---- the versions of the next revision
 
 -- the version that a put makes
-pub put-next : (r : ℕ) (p : PutRequest) (o : Option KeyValue) → IsHeldTo r o → AreNext r (next_version (next_rev r) p o ∷ [])
+pub put-next : (r : ℕ) (p : PutRequest) (o : Option KeyValue) → IsHeldTo r o → AreNext r (put_version (next_rev r) p o ∷ [])
 put-next r p o h = record {
   some = λ e. cc;
   next = ap (λ b. b && true) (eq-eqb (r + 1) (r + 1) refl);

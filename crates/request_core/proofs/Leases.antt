@@ -1,12 +1,12 @@
 -- What grants, keepalives, times to live and the list of leases do, in each world that the core stands for.
-use Rattle.std.proofs.Common.{◌≡◌, ℕ, ℤ, List, [], ◌∷◌, Bool, true, false, cond, Option, None, Some, Ok, Err, refl, sym, ◌∙◌, ap, subst, map, filter}
+use Rattle.std.proofs.Common.{◌≡◌, ℕ, ℤ, List, [], ◌∷◌, Bool, true, false, cond, Option, None, Some, Ok, refl, sym, ◌∙◌, ap, subst, map, filter}
 use Rattle.std.specs.Prelude.{is_some, option_map, unwrap_or, ◌&&◌, ◌||◌}
 use Rattle.std.specs.Ordering.{int_eq}
 use Rattle.kv_model.specs.declared.refusal.Refusal.{Refusal}
 use Rattle.kv_model.specs.Calls.{Call}
 use Rattle.kv_model.specs.History.{KeyValue}
 use Rattle.kv_model.specs.Leases.{Lease, has_id, is_granted, lease_at, insert_lease, keys_of_lease, seconds_left}
-use Rattle.kv_model.specs.Told.{Answer, Reply}
+use Rattle.kv_model.specs.Told.{Reply}
 use Rattle.kv_model.specs.Txns.{if_asked}
 use Rattle.kv_model.specs.World.{World, revision}
 use Rattle.kv_model.specs.Step.{made_in, perform, refused_or}

@@ -1,4 +1,3 @@
-pub mod Back
 pub mod Deletes
 pub mod Kept
 pub mod Leases

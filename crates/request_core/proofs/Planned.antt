@@ -1,12 +1,10 @@
 -- The versions that a planned path adds: those of the next revision, each as its key stood before all of them.
-use Rattle.std.proofs.Common.{◌≡◌, ◌≢◌, ◌≤◌, ◌<◌, ◌^◌, ℕ, suc, ◌+◌, ◌&&◌, List, [], ◌∷◌, ◌++◌, length, map, true, Option, None, Some, refl, sym, ◌∙◌, ap, subst, arith, eq-eqb, lt-ltb}
+use Rattle.std.proofs.Common.{◌≡◌, ◌≢◌, ◌≤◌, ◌<◌, ◌^◌, ℕ, suc, ◌+◌, ◌&&◌, List, [], ◌∷◌, ◌++◌, length, map, true, Option, refl, sym, ◌∙◌, ap, subst, arith, eq-eqb, lt-ltb}
 use Rattle.std.specs.Prelude.{⊤}
 use Rattle.std.specs.List.{AllByRecursion}
 use Rattle.std.proofs.lemmas.List.{map-append}
 use Rattle.kv_model.specs.declared.version.Rev.{Rev}
 use Rattle.kv_model.specs.declared.version.Version.{Version}
-use Rattle.kv_model.specs.declared.version.Body.{Body}
-use Rattle.kv_model.specs.declared.version.Body.TheVariants.{Put, Gone}
 use Rattle.kv_model.specs.Keys.{same_key}
 use Rattle.kv_model.specs.History.{Mutation, Action, KeyValue, value_now, now_after}
 use Rattle.kv_model.specs.Lists.{last_that}
@@ -15,11 +13,10 @@ use Rattle.kv_model.specs.Txns.{Path, next_body, next_version, extend, extend_al
 use Rattle.kv_model.proofs.TouchLaws.{AreClear}
 use Rattle.kv_model.proofs.PlanLaws.{NoClash, held-put, put-clear, delete-clear, inner-clear, clear-front}
 use Rattle.kv_model.proofs.BatchLaws.{extend_all-added}
-use Rattle.kv_model.proofs.PlaceLaws.{each-map}
 use Rattle.range_view.specs.Stored.{goes_on, is_next}
-use Rattle.request_core.specs.Writing.{IsCountedTo, IsHeldTo, AreNext}
-use Rattle.request_core.proofs.Back.{last_that-holds}
-use Rattle.txn_core.specs.Counted as counted
+use Rattle.txn_core.specs.KeyWrites.{IsCountedTo}
+use Rattle.txn_core.proofs.PutCounts.{last_that-holds}
+use Rattle.request_core.specs.Writing.{IsHeldTo, AreNext}
 use Rattle.request_core.proofs.Kept.{found-held, action-counted}
 
 -- ---- they are numbered on
@@ -92,14 +89,6 @@ now-held r vs k h = found-held r (last_that (λ (v : Version). same_key v.key k)
 versions-counted : (r : ℕ) (vs : List Version) (us : List Mutation) → AllByRecursion (λ v. IsCountedTo r v.body) vs → AllByRecursion (λ v. IsCountedTo (r + 1) v.body) (map (next_version vs) us)
 versions-counted r vs [] h = tt
 versions-counted r vs (u ∷ us) h = (action-counted r u.rev.main u.action (value_now vs u.key) (now-held r vs u.key h), versions-counted r vs us h)
-
--- in the words of the library below
-pub counted-for : (r : ℕ) (vs : List Version) → AllByRecursion (λ v. IsCountedTo r v.body) vs → AllByRecursion (λ v. counted.IsCountedTo r v.body) vs
-counted-for r = each-map (λ v. IsCountedTo r v.body) (λ v. counted.IsCountedTo r v.body) (λ v. at v.body)
-  where
-    at : (b : Body) → IsCountedTo r b → counted.IsCountedTo r b
-    at (Put create version lease value) h = h
-    at Gone h = h
 
 -- so they are the versions of the next revision
 pub planned-next : (r : ℕ) (vs : List Version) (q : Path) (ws : List Version) → AllByRecursion (λ v. IsCountedTo r v.body) vs → ws ≡ map (next_version vs) (planned vs (r + 1) [] q)

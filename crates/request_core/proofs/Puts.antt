@@ -18,18 +18,19 @@ use Rattle.kv_model.proofs.PlaceLaws.{AreBehind, rev_le-after, value_at-behind}
 use Rattle.kv_model.proofs.StandsLaws.{value_now_is}
 use Rattle.kv_model.proofs.StandsCommands.{put_made, put_refused, put_spent, put_has_key, put_stands}
 use Rattle.request_core.specs.declared.answer.Receipt.{Receipt}
-use Rattle.request_core.specs.Writing.{held_refusal, next_rev, next_version}
+use Rattle.txn_core.specs.KeyWrites.{held_refusal, put_version}
+use Rattle.request_core.specs.Writing.{next_rev}
 use Rattle.request_core.specs.State.{CoreState, held_in, is_spent, fault_of_put, added_by_put, after_put, answer_after_put}
 use Rattle.request_core.specs.Answers.{Accepts, IsRefusal, answer_of, first_refusal}
 use Rattle.request_core.proofs.Worlds.{or-none-first, or-none-second, not-spent, spent-by, change_accepted, is_refused}
 
 -- what the key holds last is what it holds at the store's revision
-refusal-held : (s : Store) (w : World) → StandsFor s w → (p : PutRequest) → refusal_of_put s p ≡ option_or (put_fault p) (held_refusal (is_granted s.leases p.lease) p (held_in s p.key))
-refusal-held s w h p = ap (λ o. option_or (put_fault p) (held_refusal (is_granted s.leases p.lease) p o)) (value_now_is s w h p.key)
+refusal-held : (s : Store) (w : World) → StandsFor s w → (p : PutRequest) → refusal_of_put s p ≡ option_or (put_fault p) (held_refusal (is_granted s.leases) p (held_in s p.key))
+refusal-held s w h p = ap (λ o. option_or (put_fault p) (held_refusal (is_granted s.leases) p o)) (value_now_is s w h p.key)
 
 put-grows : (s : CoreState) (w : World) → StandsFor s.store w → (p : PutRequest) → grown s.store (changes_of_put s.store p) ≡ (after_put s p).store
 put-grows s w h p = λ i. record s.store {
-  versions = s.store.versions ++ next_version (next_rev s.store.revision) p (value_now_is s.store w h p.key i) ∷ [];
+  versions = s.store.versions ++ put_version (next_rev s.store.revision) p (value_now_is s.store w h p.key i) ∷ [];
   revision = s.store.revision + 1;
 }
 
@@ -69,4 +70,4 @@ not-made s w p e h None is one = let spent = spent-by s.revision e one in put_sp
 pub put_is_refused : (s : Store) (w : World) (p : PutRequest) (e : Refusal) → StandsFor s w → IsRefusal e (fault_of_put s p)
     → IsRefusal e (first_refusal (perform w (Call.put p)).0)
 put_is_refused s w p e h r = is_refused w (Call.put p) e (fault_of_put s p) r
-    (λ f one. not-made s w p f h (option_or (put_fault p) (held_refusal (is_granted s.leases p.lease) p (held_in s p.key))) (refusal-held s w h p) one)
+    (λ f one. not-made s w p f h (option_or (put_fault p) (held_refusal (is_granted s.leases) p (held_in s p.key))) (refusal-held s w h p) one)

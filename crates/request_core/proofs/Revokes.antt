@@ -13,7 +13,6 @@ use Rattle.kv_model.specs.Ranges.{keys_of, refuse_if}
 use Rattle.kv_model.specs.Told.{Reply, Expiry}
 use Rattle.kv_model.specs.Txns.{deletes_of}
 use Rattle.kv_model.specs.World.{World, revision, changed}
-use Rattle.kv_model.specs.Wire.{raised, number_made}
 use Rattle.kv_model.specs.Step.{last_main, made_in, perform, refused_or, commit_at, expiry_of, expire, expire_at, revoke_in}
 use Rattle.kv_model.specs.Stands.{Store, StandsFor, grown}
 use Rattle.kv_model.specs.Stores.{with_leases, refusal_of_revoke, changes_of_revoke}

@@ -1,7 +1,6 @@
 -- What receipts and answers say, in the definitions' terms.
-use Rattle.std.specs.Prelude.{◌≡◌, ℕ, ◌+◌, ◌-◌, ◌<◌, ◌^◌, ℤ, pos, negsuc, List, Bool, true, false, ◌&&◌, ◌||◌, nat_lt, is_some, unwrap_or, MatchBool, Option, None, Some, option_map, map, Result, Ok, Err, ⊤}
+use Rattle.std.specs.Prelude.{◌≡◌, ℕ, ◌+◌, ◌-◌, ◌<◌, ◌^◌, ℤ, pos, negsuc, List, Bool, true, false, ◌&&◌, ◌||◌, nat_lt, is_some, unwrap_or, Option, None, Some, option_map, map, Result, Ok, Err, ⊤}
 use Rattle.kv_model.specs.declared.refusal.Refusal.{Refusal}
-use Rattle.kv_model.specs.declared.refusal.Refusal.TheVariants.{Memory}
 use Rattle.kv_model.specs.History.{value_at, end_of}
 use Rattle.kv_model.specs.Ranges.{range_reply, revision_refusal, live}
 use Rattle.kv_model.specs.Txns.{Path, previous_value, if_asked, changes_of, replies_of}
@@ -15,6 +14,8 @@ use Rattle.kv_model.specs.Stands.{Store, StandsFor}
 use Rattle.kv_model.specs.Wire.{raised, number_made}
 use Rattle.range_view.specs.Replies.{kv_view, reply_view, replies_view}
 use Rattle.txn_core.specs.Steps.{steps_view}
+-- a refusal is the model's, but for want of memory, which may come in its place
+pub use Rattle.txn_core.specs.Planning.{is_memory, IsRefusal}
 use Rattle.request_core.specs.declared.answer.Receipt.{Receipt}
 use Rattle.request_core.specs.declared.answer.Todo.{Todo}
 use Rattle.request_core.specs.declared.answer.Todo.TheVariants as todo
@@ -91,14 +92,6 @@ pub record IsReadable (r : Receipt) (s : CoreState) : Type 0 where
   pub stamp : r.stamp ≡ s.stamp
   pub revision : r.revision ≡ s.store.revision
   pub allowed : IsAllowed r.todo s.store
-
-abbrev pub is_memory : Refusal → Bool
-is_memory Memory = true
-is_memory _ = false
-
--- a refusal is the model's, but for want of memory, which may come in its place
-abbrev pub IsRefusal : Refusal → Option Refusal → Type 0
-IsRefusal e first = MatchBool (is_memory e) ⊤ (first ≡ Some e)
 
 -- the refusal that an answer is, if it is one
 abbrev pub first_refusal : Result ModelAnswer Refusal → Option Refusal

@@ -24,7 +24,8 @@ use Rattle.kv_model.specs.Stands.{Store}
 use Rattle.kv_model.specs.Stores.{path_in, refusal_of_path, changes_of_path, refusal_of_delete, with_leases, granted_lease, refusal_of_revoke, renewed_leases, at_store_moment}
 use Rattle.lease_book.specs.Book.{Book}
 use Rattle.range_view.specs.Stored.{Stored}
-use Rattle.request_core.specs.Writing.{IsCountedTo, held_refusal, next_rev, next_version, tombstones}
+use Rattle.txn_core.specs.KeyWrites.{held_refusal, put_version, IsCountedTo}
+use Rattle.request_core.specs.Writing.{next_rev, tombstones}
 
 -- what clauses see of a core: what is kept, and how many changing calls came, wrapping
 pub record CoreState : Type 0 where
@@ -74,11 +75,11 @@ with_versions s vs = record {
 
 -- the first refusal of a put, that of spent revisions last
 abbrev pub fault_of_put : Store → PutRequest → Option Refusal
-fault_of_put s p = option_or (option_or (put_fault p) (held_refusal (is_granted s.leases p.lease) p (held_in s p.key))) (refuse_if (is_spent s.revision) RevisionsSpent)
+fault_of_put s p = option_or (option_or (put_fault p) (held_refusal (is_granted s.leases) p (held_in s p.key))) (refuse_if (is_spent s.revision) RevisionsSpent)
 
 -- the version that a put adds
 abbrev pub added_by_put : Store → PutRequest → Version
-added_by_put s p = next_version (next_rev s.revision) p (held_in s p.key)
+added_by_put s p = put_version (next_rev s.revision) p (held_in s p.key)
 
 -- what an accepted put leaves
 abbrev pub after_put : CoreState → PutRequest → CoreState

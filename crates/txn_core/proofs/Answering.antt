@@ -1,10 +1,11 @@
 -- The answers to the operations that ran, step by step.
-use Rattle.std.proofs.Common.{◌≡◌, ℕ, zero, suc, ◌+◌, ◌<◌, ◌≤◌, ◌^◌, List, [], ◌∷◌, ◌++◌, length, map, drop, get_or, refl, sym, ◌∙◌, ap, subst, arith, rules, add-one, drop-cons, Bool, true, false, cond, Option, None, option_map, Bor, Vec, Global}
+use Rattle.std.proofs.Common.{◌≡◌, ℕ, suc, ◌+◌, ◌<◌, ◌≤◌, List, [], ◌∷◌, ◌++◌, length, map, drop, get_or, refl, sym, ◌∙◌, ap, subst, arith, rules, add-one, drop-cons, Bool, Option, None, option_map, Bor, Vec, Global}
+use Rattle.std.proofs.lemmas.List.{drop_all}
 use Rattle.kv_model.specs.declared.version.Version.{Version}
 use Rattle.kv_model.specs.declared.call.RangeQuery.{RangeQuery}
 use Rattle.kv_model.specs.declared.call.PutRequest.{PutRequest}
 use Rattle.kv_model.specs.declared.call.DeleteRequest.{DeleteRequest}
-use Rattle.kv_model.specs.History.{KeyValue, value_at}
+use Rattle.kv_model.specs.History.{value_at}
 use Rattle.kv_model.specs.Ranges as ranges
 use Rattle.kv_model.specs.Txns.{Path, Replies, place_before, changes_of, replies_of, previous_value, if_asked}
 use Rattle.kv_model.specs.Plans.{ReadsKept}
@@ -13,10 +14,11 @@ use Rattle.range_view.specs.declared.reply.RangeReply.{RangeReply}
 use Rattle.range_view.specs.declared.reply.OpReply.{OpReply, the_lemmas as the_reply_lemmas}
 use Rattle.range_view.specs.declared.reply.OpReply.TheVariants as reply
 use Rattle.range_view.specs.Replies.{in_row, kv_view, reply_view, op_reply_view, replies_view}
-use Rattle.txn_core.specs.declared.step.Step.{Step, fold-roll-Step, out-Step, roll-Step, roll-out-Step, the_lemmas}
+use Rattle.txn_core.specs.declared.step.Step.{Step, fold-roll-Step, out-Step, roll-Step, roll-out-Step}
 use Rattle.txn_core.specs.declared.step.Step.TheVariants as variant
 use Rattle.txn_core.specs.declared.step.Step.TheOpen.{Step-F}
 use Rattle.txn_core.specs.Steps.{one_step, step_view, steps_view}
+use Rattle.txn_core.proofs.Stepping.{step_view-Range, step_view-Put, step_view-Delete, step_view-Inner}
 
 -- ---- one step before others
 
@@ -99,47 +101,29 @@ row-answers vs c n next after ss i s rs r h e f =
     row-pushed rs r (replies_of vs c n after (steps_view (drop (i + 1) ss)))
     ∙ ap (in_row (map op_reply_view rs)) (f (steps_view (drop (i + 1) ss)) ∙ ap (replies_of vs c n next) (sym (row-at ss i s h e)))
 
-drop-past : (ss : List Step) (i : ℕ) → length ss ≤ i → drop i ss ≡ []
-drop-past [] zero h = refl
-drop-past [] (suc i) h = refl
-drop-past (s ∷ ss) zero h = absurd (omega arith)
-drop-past (s ∷ ss) (suc i) h = drop-past ss i (omega arith)
-
 pub row-answered : (vs : List Version) (c n next : ℕ) (ss : List Step) (i : ℕ) (rs : List OpReply) → length ss ≤ i
     → replies_view rs ≡ in_row (map op_reply_view rs) (replies_of vs c n next (steps_view (drop i ss)))
 unfolding replies_of
-row-answered vs c n next ss i rs h = ap (λ (ts : List Step). in_row (map op_reply_view rs) (replies_of vs c n next (steps_view ts))) (sym (drop-past ss i h))
+row-answered vs c n next ss i rs h = ap (λ (ts : List Step). in_row (map op_reply_view rs) (replies_of vs c n next (steps_view ts))) (sym (drop_all i ss h))
 
 pub row-changed : (vs : List Version) (main next : ℕ) (ss : List Step) (i : ℕ) → length ss ≤ i → next ≡ next + changes_of vs main next (steps_view (drop i ss))
 unfolding changes_of
-row-changed vs main next ss i h = let e : next ≡ next + 0 = omega arith in e ∙ ap (λ (ts : List Step). next + changes_of vs main next (steps_view ts)) (sym (drop-past ss i h))
+row-changed vs main next ss i h = let e : next ≡ next + 0 = omega arith in e ∙ ap (λ (ts : List Step). next + changes_of vs main next (steps_view ts)) (sym (drop_all i ss h))
 
 -- ---- a step by itself
 
 path-range : (s : Step) (q : Bor RangeQuery) → s ≡ variant.Range q → (rest : Path) → step_view s rest ≡ Path.range q.now rest
-path-range s q is rest = ap (λ (t : Step). step_view t rest) is ∙ same
-  where
-    same : step_view (variant.Range q) rest ≡ Path.range q.now rest
-    same = search (rules, the_lemmas)
+path-range s q is rest = ap (λ (t : Step). step_view t rest) is ∙ step_view-Range q rest
 
 path-put : (s : Step) (p : Bor PutRequest) → s ≡ variant.Put p → (rest : Path) → step_view s rest ≡ Path.put p.now rest
-path-put s p is rest = ap (λ (t : Step). step_view t rest) is ∙ same
-  where
-    same : step_view (variant.Put p) rest ≡ Path.put p.now rest
-    same = search (rules, the_lemmas)
+path-put s p is rest = ap (λ (t : Step). step_view t rest) is ∙ step_view-Put p rest
 
 path-delete : (s : Step) (d : Bor DeleteRequest) → s ≡ variant.Delete d → (rest : Path) → step_view s rest ≡ Path.delete d.now rest
-path-delete s d is rest = ap (λ (t : Step). step_view t rest) is ∙ same
-  where
-    same : step_view (variant.Delete d) rest ≡ Path.delete d.now rest
-    same = search (rules, the_lemmas)
+path-delete s d is rest = ap (λ (t : Step). step_view t rest) is ∙ step_view-Delete d rest
 
 -- the steps of a transaction within, as the code reads them
 path-inner : (s : Step) (b : Bool) (ss : Vec Step Global) (ts : List Step) → s ≡ variant.Inner b ss → ts ≡ ss.items → (rest : Path) → step_view s rest ≡ Path.txn b (steps_view ts) rest
-path-inner s b ss ts is e rest = ap (λ (t : Step). step_view t rest) is ∙ same ∙ ap (λ (us : List Step). Path.txn b (steps_view us) rest) (sym e)
-  where
-    same : step_view (variant.Inner b ss) rest ≡ Path.txn b (steps_view ss.items) rest
-    same = search (rules, the_lemmas)
+path-inner s b ss ts is e rest = ap (λ (t : Step). step_view t rest) is ∙ step_view-Inner b ss rest ∙ ap (λ (us : List Step). Path.txn b (steps_view us) rest) (sym e)
 
 reply-range : (r : RangeReply) (rest : Replies) → op_reply_view (reply.Range r) rest ≡ Replies.range (reply_view r) rest
 reply-range r rest = search (rules, the_reply_lemmas)

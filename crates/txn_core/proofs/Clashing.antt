@@ -1,5 +1,5 @@
 -- Operations of a row collide where one touches more of the keys that are put in the row than of those that it puts itself.
-use Rattle.std.proofs.Common.{◌≡◌, ℕ, zero, suc, ◌+◌, List, [], ◌∷◌, ◌++◌, map, Bool, true, false, not, ◌||◌, cond, nat_eq, nat_lt, refl, sym, ◌∙◌, ap, subst, arith, append_assoc, length, drop, get_or, drop-cons, add-one, ◌<◌, ◌≤◌}
+use Rattle.std.proofs.Common.{◌≡◌, ℕ, zero, suc, ◌+◌, List, [], ◌∷◌, ◌++◌, map, Bool, true, false, not, ◌||◌, nat_eq, nat_lt, refl, sym, ◌∙◌, ap, subst, arith, append_assoc, length, drop, get_or, drop-cons, add-one, ◌<◌}
 use Rattle.std.specs.Prelude.{⊤}
 use Rattle.std.specs.List.{AllByRecursion, list_any}
 use Rattle.std.proofs.lemmas.Bool.Decides.{nat_tests}
@@ -11,7 +11,6 @@ use Rattle.kv_model.specs.declared.call.DeleteRequest.{DeleteRequest}
 use Rattle.kv_model.specs.declared.call.Operation.{Operation}
 use Rattle.kv_model.specs.declared.call.Operation.TheVariants.{Range, Put, Delete}
 use Rattle.kv_model.specs.declared.call.Txn.{Txn, out-Txn}
-use Rattle.kv_model.specs.declared.version.KeyRange.{KeyRange}
 use Rattle.kv_model.specs.Calls.{Ops, then, op_view, txn_view, ops_view}
 use Rattle.kv_model.specs.Txns.{Path, Touch, collides, touches, any_collide, clashes, path_of}
 use Rattle.kv_model.specs.Plans.{path_touches}
@@ -273,12 +272,6 @@ any-later p os i o h e fails =
 
 pub any-here : {X : Type 0} (p : X → Bool) (os : List X) (i : ℕ) (o : X) → i < length os → o ≡ get_or os i o → p o ≡ true → true ≡ list_any p (drop i os)
 any-here p os i o h e holds = sym (ap (list_any p) (drop-cons os i o h) ∙ ap (λ b. b || list_any p (drop (suc i) os)) (ap p (sym e) ∙ holds))
-
-pub drop-end : {X : Type 0} (os : List X) (i : ℕ) → length os ≤ i → drop i os ≡ []
-drop-end [] zero h = refl
-drop-end [] (suc i) h = refl
-drop-end (o ∷ os) zero h = absurd (omega arith)
-drop-end (o ∷ os) (suc i) h = drop-end os i (omega arith)
 
 pub any-map : {X Y : Type 0} (f : X → Y) (p : Y → Bool) (xs : List X) → list_any p (map f xs) ≡ list_any (λ x. p (f x)) xs
 any-map f p [] = refl

@@ -1,6 +1,5 @@
 pub mod Clashing
 pub mod Counting
-pub mod Deciding
 pub mod Making
 pub mod PutCounts
 pub mod Running

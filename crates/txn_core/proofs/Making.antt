@@ -1,8 +1,7 @@
 -- What a transaction makes, in terms of the changes that the definitions plan.
-use Rattle.std.proofs.Common.{◌≡◌, ℕ, zero, suc, ◌+◌, ◌<◌, ◌≤◌, ◌^◌, ℤ, List, [], ◌∷◌, ◌++◌, length, map, filter, Bool, true, false, not, ◌&&◌, ◌||◌, cond, Option, None, Some, option_and_then, refl, sym, ◌∙◌, ap, subst, arith, add-one, append_assoc, length-append}
-use Rattle.std.specs.Prelude.{MatchOption, is_none}
+use Rattle.std.proofs.Common.{◌≡◌, ℕ, suc, ◌<◌, ◌≤◌, ◌^◌, ℤ, List, [], ◌∷◌, ◌++◌, length, map, filter, Bool, true, false, not, ◌&&◌, ◌||◌, cond, Option, None, Some, refl, sym, ◌∙◌, ap, add-one, append_assoc, length-append}
 use Rattle.std.specs.Option.{option_or}
-use Rattle.std.specs.List.{AllByRecursion, list_any}
+use Rattle.std.specs.List.{AllByRecursion}
 use Rattle.std.specs.declared.cmp.Ordering.{Ordering}
 use Rattle.std.specs.declared.cmp.Ordering.TheVariants.{Less, Equal, Greater}
 use Rattle.std.specs.Ordering.{is_eq}
@@ -11,18 +10,10 @@ use Rattle.std.proofs.lemmas.Map.Lookups.{exact_bytes}
 use Rattle.std.proofs.lemmas.List.{map-append, length-map}
 use Rattle.kv_model.specs.declared.version.Rev.{Rev}
 use Rattle.kv_model.specs.declared.version.Version.{Version}
-use Rattle.kv_model.specs.declared.version.KeyRange.{KeyRange}
-use Rattle.kv_model.specs.declared.version.Body.{Body}
-use Rattle.kv_model.specs.declared.version.Body.TheVariants.{Put, Gone}
-use Rattle.kv_model.specs.declared.call.PutRequest.{PutRequest}
-use Rattle.kv_model.specs.declared.refusal.Refusal.{Refusal}
-use Rattle.kv_model.specs.declared.refusal.Refusal.TheVariants.{KeyMissing}
-use Rattle.kv_model.specs.Lists.{last_that}
 use Rattle.kv_model.specs.Keys.{key_cmp, same_key}
 use Rattle.kv_model.specs.History.{Mutation, Action, KeyValue, deletes_key, is_put, key_value, shown, value_at, value_now, rev_le}
-use Rattle.kv_model.specs.Ranges.{keys_of, live, live_now, refuse_if, revision_refusal}
-use Rattle.kv_model.specs.Step.{last_main}
-use Rattle.kv_model.specs.Txns.{Path, next_body, next_version, put_action, put_change, put_lease_refusal, deletes_of}
+use Rattle.kv_model.specs.Ranges.{keys_of, live_now, revision_refusal}
+use Rattle.kv_model.specs.Txns.{Path, next_body, next_version, put_change, deletes_of}
 use Rattle.kv_model.specs.Plans.{is_deleted, still_live, planned, planned_refusal}
 use Rattle.kv_model.specs.History as history
 use Rattle.kv_model.proofs.PlaceLaws.{AreBy, value_at-by, rev_le-end}
@@ -30,7 +21,9 @@ use Rattle.kv_model.proofs.GoodLaws.{live_now-by}
 use Rattle.kv_model.proofs.KeyLaws.{IsAscending, AllAbove, cmp-refl}
 use Rattle.kv_model.proofs.HistoryLaws.{same_key-eq}
 use Rattle.kv_model.proofs.TouchLaws.{live_now-ascends}
-use Rattle.txn_core.specs.Planning.{is_tombstone, buries, is_gone, tombstone, with_grave, with_graves, put_version, held_refusal, made, refusal_of}
+use Rattle.kv_model.specs.Trimming.{is_tombstone}
+use Rattle.txn_core.specs.KeyWrites.{held_refusal, put_version, tombstone}
+use Rattle.txn_core.specs.Planning.{buries, is_gone, with_grave, with_graves, made, refusal_of}
 
 -- ---- tombstones
 
@@ -41,19 +34,6 @@ or-false false = refl
 or-assoc : (a b c : Bool) → (a || (b || c)) ≡ ((a || b) || c)
 or-assoc true b c = refl
 or-assoc false b c = refl
-
--- one version more
-pub is_gone-more : (ws : List Version) (v : Version) (k : List ℕ) → is_gone (ws ++ v ∷ []) k ≡ (is_gone ws k || buries k v)
-is_gone-more [] v k = or-false (buries k v)
-is_gone-more (w ∷ ws) v k = ap (λ b. buries k w || b) (is_gone-more ws v k) ∙ or-assoc (buries k w) (is_gone ws k) (buries k v)
-
--- a tombstone more buries its key
-pub is_gone-grave : (ws : List Version) (v : Version) (key k : List ℕ) → is_tombstone v.body ≡ true → v.key ≡ key → is_gone (ws ++ v ∷ []) k ≡ (is_gone ws k || same_key key k)
-is_gone-grave ws v key k t e = is_gone-more ws v k ∙ (λ i. is_gone ws k || (t i && same_key (e i) k))
-
--- and any other version none
-pub is_gone-put : (ws : List Version) (v : Version) (k : List ℕ) → is_tombstone v.body ≡ false → is_gone (ws ++ v ∷ []) k ≡ is_gone ws k
-is_gone-put ws v k t = is_gone-more ws v k ∙ ap (λ b. is_gone ws k || (b && same_key v.key k)) t ∙ or-false (is_gone ws k)
 
 -- the order ties just what is the same
 pub eq-same : (k l : List ℕ) → is_eq (key_cmp k l) ≡ same_key k l
@@ -164,8 +144,8 @@ made-planned vs p main us Path.end h = refl
 made-planned vs p main us (Path.range r rest) h = made-planned vs p main us rest h
 made-planned vs p main us (Path.put r rest) h =
     let u : Mutation = put_change vs main (length us) r in
-    let more : map (next_version vs) us ++ put_version main (length (map (next_version vs) us)) r (value_at vs p r.key) ∷ [] ≡ map (next_version vs) (us ++ u ∷ []) =
-    (λ i. map (next_version vs) us ++ put_version main (length-map us (next_version vs) i) r (value_at-by vs p r.key h i) ∷ []) ∙ sym (map-append (next_version vs) us (u ∷ [])) in
+    let more : map (next_version vs) us ++ put_version (record { main = main; sub = length (map (next_version vs) us) }) r (value_at vs p r.key) ∷ [] ≡ map (next_version vs) (us ++ u ∷ []) =
+    (λ i. map (next_version vs) us ++ put_version (record { main = main; sub = length-map us (next_version vs) i }) r (value_at-by vs p r.key h i) ∷ []) ∙ sym (map-append (next_version vs) us (u ∷ [])) in
     ap (λ ws. made vs p main ws rest) more ∙ made-planned vs p main (us ++ u ∷ []) rest h
 made-planned vs p main us (Path.delete d rest) h =
     ap (λ kvs. made vs p main (with_graves main (map (next_version vs) us) (keys_of kvs)) rest) (sym (live_now-by vs p d.range h))

@@ -1,5 +1,5 @@
 -- A key that a view shows can be put once more.
-use Rattle.std.proofs.Common.{◌≡◌, ℕ, ◌+◌, ◌<◌, ◌≤◌, ◌^◌, ◌&&◌, List, [], ◌∷◌, Bool, true, false, cond, Option, None, Some, option_and_then, arith}
+use Rattle.std.proofs.Common.{ℕ, ◌≤◌, ◌&&◌, List, [], ◌∷◌, Bool, true, false, cond, Option, None, Some, option_and_then, arith}
 use Rattle.std.specs.Prelude.{MatchOption}
 use Rattle.std.specs.Option.{option_or}
 use Rattle.std.specs.List.{AllByRecursion}
@@ -8,13 +8,14 @@ use Rattle.kv_model.specs.declared.version.Body.{Body}
 use Rattle.kv_model.specs.declared.version.Body.TheVariants.{Put, Gone}
 use Rattle.kv_model.specs.Lists.{last_that}
 use Rattle.kv_model.specs.Keys.{same_key}
-use Rattle.kv_model.specs.History.{KeyValue, key_value, shown, value_at, rev_le}
+use Rattle.kv_model.specs.History.{key_value, shown, value_at, rev_le}
 use Rattle.kv_model.specs.Step.{last_main}
 use Rattle.range_view.specs.Stored.{Viewed}
-use Rattle.txn_core.specs.Counted.{CanCount, IsCountedTo}
+use Rattle.txn_core.specs.KeyWrites.{CanCount, IsCountedTo}
 use Rattle.txn_core.specs.Planning.{IsPresent}
 
-last_that-holds : {X : Type 0} (P : X → Type 0) (p : X → Bool) (xs : List X) → AllByRecursion P xs → MatchOption (last_that p xs) (Unit {0}) P
+-- what holds of each element holds of the last that passes a test
+pub last_that-holds : {X : Type 0} (P : X → Type 0) (p : X → Bool) (xs : List X) → AllByRecursion P xs → MatchOption (last_that p xs) (Unit {0}) P
 last_that-holds P p [] h = tt
 last_that-holds {X} P p (x ∷ xs) h = by (last_that p xs) (p x) (last_that-holds P p xs h.1)
   where

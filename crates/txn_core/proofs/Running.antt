@@ -1,5 +1,6 @@
 -- The operations that run, one after another: the path they are, what they make, and their first refusal.
-use Rattle.std.proofs.Common.{◌≡◌, ◌⊎◌, inl, inr, ℕ, zero, suc, ◌+◌, ◌<◌, ◌≤◌, List, [], ◌∷◌, ◌++◌, length, map, drop, get_or, Bool, true, false, cond, Option, None, Some, refl, sym, ◌∙◌, ap, subst, arith, rules, add-one, drop-cons}
+use Rattle.std.proofs.Common.{◌≡◌, ◌⊎◌, inl, inr, ℕ, suc, ◌+◌, ◌<◌, ◌≤◌, List, [], ◌∷◌, ◌++◌, length, map, drop, get_or, Bool, true, false, cond, Option, None, Some, refl, sym, ◌∙◌, ap, subst, rules, add-one, drop-cons}
+use Rattle.std.proofs.lemmas.List.{drop_all}
 use Rattle.std.specs.Prelude.{MatchBool, ⊤}
 use Rattle.std.specs.Option.{option_or}
 use Rattle.std.specs.List.{list_all}
@@ -19,7 +20,7 @@ use Rattle.kv_model.specs.Txns.{Path, path_of, holds}
 use Rattle.range_view.specs.Stored.{Viewed}
 use Rattle.txn_core.specs.declared.step.Step.{Step}
 use Rattle.txn_core.specs.Planning.{made, refusal_of, is_memory, IsRefusal, path_in, made_in, refusal_in}
-use Rattle.txn_core.specs.Steps.{in_row, step_view, steps_view}
+use Rattle.txn_core.specs.Steps.{in_row, step_view}
 use Rattle.txn_core.proofs.Walking.{txn_view-out, op_view-Range, op_view-Put, op_view-Delete}
 
 -- ---- refusals
@@ -172,15 +173,9 @@ row-split os i o h e =
     ∙ ap (λ p. then (op_view p) (ops_view (drop (suc i) os))) (sym e)
     ∙ ap (λ n. then (op_view o) (ops_view (drop n os))) (sym (add-one i))
 
-drop-past : (os : List Operation) (i : ℕ) → length os ≤ i → drop i os ≡ []
-drop-past [] zero h = refl
-drop-past [] (suc i) h = refl
-drop-past (o ∷ os) zero h = absurd (omega arith)
-drop-past (o ∷ os) (suc i) h = drop-past os i (omega arith)
-
 pub row-end : (v : Viewed) (os : List Operation) (i : ℕ) → length os ≤ i → path_in v (ops_view (drop i os)) ≡ Path.end
 unfolding path_of
-row-end v os i h = ap (λ ps. path_in v (ops_view ps)) (drop-past os i h)
+row-end v os i h = ap (λ ps. path_in v (ops_view ps)) (drop_all i os h)
 
 pub in_row-more : (ss : List Step) (s : Step) (q : Path) → in_row (map step_view (ss ++ s ∷ [])) q ≡ in_row (map step_view ss) (step_view s q)
 in_row-more [] s q = refl

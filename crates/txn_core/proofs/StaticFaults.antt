@@ -1,5 +1,5 @@
 -- The fault of the walk counts before a clash.
-use Rattle.std.proofs.Common.{◌≡◌, ◌⊎◌, inl, inr, refl, Bool, true, false, Option, None, Some, sym, ◌∙◌, ap}
+use Rattle.std.proofs.Common.{◌≡◌, ◌⊎◌, inl, inr, refl, true, false, None, Some, ◌∙◌, ap}
 use Rattle.std.specs.Option.{option_or}
 use Rattle.kv_model.specs.declared.refusal.Refusal.{Refusal}
 use Rattle.kv_model.specs.declared.refusal.Refusal.TheVariants.{DuplicateKey, Memory}

@@ -1,5 +1,6 @@
 -- The walk over a transaction, step by step.
-use Rattle.std.proofs.Common.{◌≡◌, ℕ, zero, suc, ◌+◌, ◌<◌, ◌≤◌, List, [], ◌∷◌, length, drop, get_or, true, false, nat_le, Option, None, Some, is_some, refl, sym, ◌∙◌, ap, subst, arith, rules, add-one, drop-cons, true≢false}
+use Rattle.std.proofs.Common.{◌≡◌, ℕ, suc, ◌+◌, ◌<◌, ◌≤◌, List, [], ◌∷◌, length, drop, get_or, true, false, nat_le, Option, None, Some, is_some, refl, sym, ◌∙◌, ap, subst, arith, rules, add-one, drop-cons, true≢false}
+use Rattle.std.proofs.lemmas.List.{drop_all}
 use Rattle.std.specs.Option.{option_or}
 use Rattle.std.proofs.lemmas.Bool.Decides.{nat_tests}
 use Rattle.kv_model.specs.declared.call.RangeQuery.{RangeQuery}
@@ -154,15 +155,9 @@ pub row_fault-later : (depth : ℕ) (os : List Operation) (i : ℕ) (o : Operati
     → r ≡ walk_fault depth (op_view o) → is_some r ≡ false → walk_fault depth (ops_view (drop (i + 1) os)) ≡ walk_fault depth (ops_view (drop i os))
 row_fault-later depth os i o r h e f none = sym (row_step depth os i o h e ∙ or-none (walk_fault depth (op_view o)) _ (sym (ap is_some f) ∙ none))
 
-drop-past : (os : List Operation) (i : ℕ) → length os ≤ i → drop i os ≡ []
-drop-past [] zero h = refl
-drop-past [] (suc i) h = refl
-drop-past (o ∷ os) zero h = absurd (omega arith)
-drop-past (o ∷ os) (suc i) h = drop-past os i (omega arith)
-
 pub row_fault-end : (depth : ℕ) (os : List Operation) (i : ℕ) → length os ≤ i → None ≡ walk_fault depth (ops_view (drop i os))
 unfolding walk_fault
-row_fault-end depth os i h = sym (ap (λ (ps : List Operation). walk_fault depth (ops_view ps)) (drop-past os i h))
+row_fault-end depth os i h = sym (ap (λ (ps : List Operation). walk_fault depth (ops_view ps)) (drop_all i os h))
 
 -- ---- an operation
 

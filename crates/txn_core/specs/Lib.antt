@@ -1,5 +1,5 @@
-pub mod Counted
 pub mod Graves
+pub mod KeyWrites
 pub mod Planning
 pub mod Steps
 pub mod Touching

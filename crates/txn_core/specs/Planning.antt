@@ -1,29 +1,23 @@
 -- The versions that a transaction makes, and its first refusal, told from what is seen at a place before it.
-use Rattle.std.specs.Prelude.{◌≡◌, ℕ, ◌+◌, ◌≤◌, ℤ, List, [], ◌∷◌, ◌++◌, length, Bool, true, false, ◌&&◌, ◌||◌, is_none, if◌then◌else◌, Option, None, Some, MatchBool, ⊤}
+use Rattle.std.specs.Prelude.{◌≡◌, ℕ, ◌+◌, ◌≤◌, ℤ, List, [], ◌∷◌, ◌++◌, length, Bool, true, false, ◌&&◌, if◌then◌else◌, Option, None, Some, MatchBool, ⊤}
 use Rattle.std.specs.Option.{option_or}
 use Rattle.std.specs.List.{list_any, AllByRecursion}
 use Rattle.kv_model.specs.declared.version.Rev.{Rev}
 use Rattle.kv_model.specs.declared.version.Version.{Version}
-use Rattle.kv_model.specs.declared.version.Body.{Body}
-use Rattle.kv_model.specs.declared.version.Body.TheVariants.{Put, Gone}
-use Rattle.kv_model.specs.declared.call.PutRequest.{PutRequest}
 use Rattle.kv_model.specs.declared.refusal.Refusal.{Refusal}
-use Rattle.kv_model.specs.declared.refusal.Refusal.TheVariants.{Memory, KeyMissing}
+use Rattle.kv_model.specs.declared.refusal.Refusal.TheVariants.{Memory}
 use Rattle.kv_model.specs.Keys.{same_key}
-use Rattle.kv_model.specs.History.{KeyValue, value_at, end_of}
-use Rattle.kv_model.specs.Ranges.{keys_of, live, revision_refusal, refuse_if}
+use Rattle.kv_model.specs.History.{value_at, end_of}
+use Rattle.kv_model.specs.Ranges.{keys_of, live, revision_refusal}
 use Rattle.kv_model.specs.Step.{last_main}
-use Rattle.kv_model.specs.Txns.{Path, path_of, next_body, put_action, put_lease_refusal}
+use Rattle.kv_model.specs.Txns.{Path, path_of}
+use Rattle.kv_model.specs.Trimming.{is_tombstone}
 use Rattle.kv_model.specs.Calls.{Ops}
 use Rattle.kv_model.specs.Leases.{Lease, is_granted}
 use Rattle.range_view.specs.Stored.{Viewed}
-use Rattle.txn_core.specs.Counted.{IsCountedTo}
+use Rattle.txn_core.specs.KeyWrites.{held_refusal, put_version, tombstone, IsCountedTo}
 
 -- ---- what is deleted so far
-
-abbrev pub is_tombstone : Body → Bool
-is_tombstone (Put create version lease value) = false
-is_tombstone Gone = true
 
 -- the version is a tombstone of the key
 abbrev pub buries : List ℕ → Version → Bool
@@ -32,9 +26,6 @@ buries k v = is_tombstone v.body && same_key v.key k
 -- one of the versions is a tombstone of the key
 abbrev pub is_gone : List Version → List ℕ → Bool
 is_gone ws k = list_any (buries k) ws
-
-abbrev pub tombstone : ℕ → ℕ → List ℕ → Version
-tombstone main sub k = record { rev = record { main = main; sub = sub }; key = k; body = Gone }
 
 -- with a tombstone of the key, if there is none yet
 abbrev pub with_grave : ℕ → List Version → List ℕ → List Version
@@ -45,23 +36,13 @@ abbrev pub with_graves : ℕ → List Version → List (List ℕ) → List Versi
 with_graves main ws [] = ws
 with_graves main ws (k ∷ ks) = with_graves main (with_grave main ws k) ks
 
--- ---- what a put makes
-
--- the version that a put makes of a key that holds this
-abbrev pub put_version : ℕ → ℕ → PutRequest → Option KeyValue → Version
-put_version main sub p held = record { rev = record { main = main; sub = sub }; key = p.key; body = next_body main (put_action p held) held }
-
--- why a put is refused where its key holds this
-abbrev pub held_refusal : (ℤ → Bool) → PutRequest → Option KeyValue → Option Refusal
-held_refusal granted p held = option_or (refuse_if ((p.ignore_value || p.ignore_lease) && is_none held) KeyMissing) (put_lease_refusal granted p)
-
 -- ---- the operations that run
 
 -- these versions, and behind them those of the path, numbered on
 unfoldable pub made : List Version → Rev → ℕ → List Version → Path → List Version
 made vs p main ws Path.end = ws
 made vs p main ws (Path.range q rest) = made vs p main ws rest
-made vs p main ws (Path.put r rest) = made vs p main (ws ++ put_version main (length ws) r (value_at vs p r.key) ∷ []) rest
+made vs p main ws (Path.put r rest) = made vs p main (ws ++ put_version (record { main = main; sub = length ws }) r (value_at vs p r.key) ∷ []) rest
 made vs p main ws (Path.delete d rest) = made vs p main (with_graves main ws (keys_of (live vs p d.range))) rest
 made vs p main ws (Path.txn b inner rest) = made vs p main (made vs p main ws inner) rest
 

@@ -1,13 +1,14 @@
 //! The versions that a transaction makes, numbered as they come.
 ghost use Rattle.std.specs.Prelude.{◌≡◌, [], ◌∷◌, ◌++◌, ℕ, List, true, false, length, OnOk, OnErr, map};
 ghost use Rattle.kv_model.specs.Ranges.{keys_of};
+ghost use Rattle.kv_model.specs.Trimming.{is_tombstone};
 ghost use Rattle.range_view.specs.Replies.{kv_view};
 ghost use Rattle.txn_core.specs.Graves.{has_key};
 ghost use Rattle.txn_core.specs.Planning as planning;
 
 use crate::deleted;
-use bytes::Bytes;
-use kv_model::version::{Body, Rev, Version};
+use crate::key_writes::tombstone;
+use kv_model::version::{Rev, Version};
 use range_view::reply::KvRef;
 use std::alloc::{AllocError, Global};
 use std::collections::BTreeSet;
@@ -65,7 +66,7 @@ impl<'a> Changes<'a> {
 
     /// Adds a version that is no tombstone. The error is want of memory.
     pub(crate) fn push(&mut self, version: Version) -> Result<(), AllocError>
-        requires { planning.is_tombstone version.body ≡ false }
+        requires { is_tombstone version.body ≡ false }
         ensures { OnOk result (self.new ≡ self.old ++ version ∷ []) }
     {
         self.versions.push(version)?;
@@ -92,12 +93,8 @@ impl<'a> Changes<'a> {
         if deleted::has(&self.deleted, key) {
             return Ok(());
         }
-        let tombstone = Version {
-            rev: self.next_rev(main),
-            key: Bytes::copy_from_slice(self.alloc, key)?,
-            body: Body::Gone,
-        };
-        add_tombstone(&mut self.versions, &mut self.deleted, tombstone, key)
+        let grave = tombstone(self.alloc, self.next_rev(main), key)?;
+        add_tombstone(&mut self.versions, &mut self.deleted, grave, key)
     }
 }
 
@@ -108,7 +105,7 @@ fn add_tombstone<'a>(
     tombstone: Version,
     key: &'a [u8],
 ) -> Result<(), AllocError>
-    requires body { planning.is_tombstone tombstone.body ≡ true }
+    requires body { is_tombstone tombstone.body ≡ true }
     requires key { tombstone.key ≡ key.now }
     requires tied { (k : List ℕ) → has_key k deleted.old ≡ planning.is_gone versions.old.items k }
     ensures tied { (k : List ℕ) → has_key k deleted.new ≡ planning.is_gone versions.new.items k }

@@ -114,8 +114,9 @@ fn has_empty_key(compares: &[Compare]) -> bool
     compares.iter().any(|compare| is_empty(&compare.range.key))
 }
 
-/// The fault of a put by itself.
-fn put_fault(put: &PutRequest) -> Option<Refusal>
+/// The first fault of a put by itself, whatever the state: `NoKey` where its key is empty, `ValueGiven` where it brings a value
+/// and is to keep the old one, and `LeaseGiven` where it names a lease and is to keep the old one. Constant time. Takes no memory.
+pub fn put_fault(put: &PutRequest) -> Option<Refusal>
     ensures { result ≡ txns.put_fault put.now }
 {
     if put.key.is_empty() {

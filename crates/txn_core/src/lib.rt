@@ -1,4 +1,4 @@
-// Transactions: what is refused, which operations run, what they make, and what they are answered.
+// Transactions: what is refused, which operations run, what they make, and what they are answered; and what one put or delete writes.
 #![tactic(auto)]
 
 mod changes;
@@ -7,15 +7,16 @@ mod clash;
 mod compare;
 mod deleted;
 mod fault;
+mod key_writes;
 mod keys;
 mod planning;
-mod put;
 mod reply;
 pub mod step;
 mod touched;
 
 pub use checking::check;
 pub use clash::{opposite_branches_do_not_clash, puts_are_alone};
-pub use fault::walk_fault;
+pub use fault::{put_fault, walk_fault};
+pub use key_writes::{held_refusal, put_version, tombstone};
 pub use planning::plan;
 pub use reply::replies;

@@ -9,13 +9,14 @@ ghost use Rattle.kv_model.specs.Plans.{planned, planned_refusal};
 ghost use Rattle.kv_model.specs.Step.{last_main};
 ghost use Rattle.kv_model.specs.Txns.{Path, path_of, next_version};
 ghost use Rattle.range_view.specs.Stored.{IsUpTo};
-ghost use Rattle.txn_core.specs.Counted.{IsCountedTo};
+ghost use Rattle.txn_core.specs.KeyWrites.{IsCountedTo};
+ghost use Rattle.txn_core.specs.KeyWrites as writes;
 ghost use Rattle.txn_core.specs.Planning as planning;
 ghost use Rattle.txn_core.specs.Steps.{step_view, steps_view};
 
 use crate::changes::Changes;
 use crate::compare::all_hold;
-use crate::put::{held_refusal, put_version};
+use crate::key_writes::{held_refusal, put_version};
 use crate::step::{Plan, Step};
 use kv_model::call::{DeleteRequest, Operation, PutRequest, RangeQuery, Txn};
 use kv_model::refusal::Refusal;
@@ -186,10 +187,10 @@ fn run_put<'a>(
 ) -> Result<(), Refusal>
     requires { planning.IsPresent view.now }
     ensures made { OnOk result (changes.new ≡ changes.old
-        ++ planning.put_version (view.now.revision + 1) (length changes.old) request.now (history.value_at view.now.versions view.now.place request.now.key) ∷ []) }
-    ensures fine { OnOk result (planning.held_refusal (is_granted leases.now.leases) request.now (history.value_at view.now.versions view.now.place request.now.key) ≡ None) }
+        ++ writes.put_version (record { main = view.now.revision + 1; sub = length changes.old }) request.now (history.value_at view.now.versions view.now.place request.now.key) ∷ []) }
+    ensures fine { OnOk result (writes.held_refusal (is_granted leases.now.leases) request.now (history.value_at view.now.versions view.now.place request.now.key) ≡ None) }
     ensures refused { IfErr result (λ e. planning.IsRefusal e
-        (planning.held_refusal (is_granted leases.now.leases) request.now (history.value_at view.now.versions view.now.place request.now.key))) }
+        (writes.held_refusal (is_granted leases.now.leases) request.now (history.value_at view.now.versions view.now.place request.now.key))) }
 {
     let held = view.get(&request.key);
     if let Some(refusal) = held_refusal(request, held, leases.is_granted(request.lease)) {

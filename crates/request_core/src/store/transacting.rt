@@ -4,9 +4,10 @@ ghost use Rattle.kv_model.specs.Stores.{path_in, refusal_of_path, changes_of_pat
 ghost use Rattle.kv_model.specs.Txns.{Path, replies_of};
 ghost use Rattle.range_view.specs.Replies.{replies_view};
 ghost use Rattle.range_view.specs.Stored.{IsUpTo};
-ghost use Rattle.request_core.specs.Writing.{AreNext, IsCountedTo};
+ghost use Rattle.request_core.specs.Writing.{AreNext};
 ghost use Rattle.std.specs.List.{AllByRecursion};
 ghost use Rattle.std.specs.Prelude.{◌≡◌, ◌≢◌, ◌<◌, ◌≤◌, ◌^◌, false, [], length, IfOk, IfErr, OnOk, OnErr, None};
+ghost use Rattle.txn_core.specs.KeyWrites.{IsCountedTo};
 ghost use Rattle.txn_core.specs.Steps.{steps_view};
 
 use super::Core;

@@ -1,9 +1,10 @@
 use Rattle.std.proofs.Common.{◌≡◌, IfOk, Bool, sym, ap, subst, ◌∙◌, arith, rules}
+use Rattle.std.proofs.lemmas.List.{drop_all}
 use Rattle.std.specs.List.{list_any}
 use Rattle.kv_model.specs.declared.call.Operation.{Operation}
 use Rattle.kv_model.specs.Calls.{op_view}
 use Rattle.kv_model.specs.Txns.{clashes}
-use Rattle.txn_core.proofs.Clashing.{clashes-range, clashes-put, clashes-delete, clash-collide, clash-inner, txn-first, txn-second, any-here, drop-end}
+use Rattle.txn_core.proofs.Clashing.{clashes-range, clashes-put, clashes-delete, clash-collide, clash-inner, txn-first, txn-second, any-here}
 use Rattle.txn_core.proofs.clash.+clash.Goals as goal
 
 pub operation_clashes-returns-in-Range : goal.operation_clashes-returns-in-Range
@@ -30,7 +31,7 @@ row_clashes-returns t c =
     let l = c.loop-operation in
     let test : Operation → Bool = λ o. clashes (op_view o) in
     clash-inner c.args.row.now.items c.in_ok-row_collides.field-0 _ c.in_ok-row_collides.ensures c.if-branch.false
-    (sym (ap (list_any test) (drop-end c.deref-operation-items.result.now l.operation-index c.loop-operation-test.false)) ∙ l.invariant)
+    (sym (ap (list_any test) (drop_all l.operation-index c.deref-operation-items.result.now c.loop-operation-test.false)) ∙ l.invariant)
 
 pub clashes-returns-then-branch : goal.clashes-returns-then-branch
 clashes-returns-then-branch t c = txn-first c.args.txn.now c.in_ok-row_clashes.field-0 c.in_ok-row_clashes.ensures c.if-branch.true

@@ -1,11 +1,12 @@
-use Rattle.std.proofs.Common.{◌≡◌, ◌++◌, List, map, true, Bool, sym, ap, ◌∙◌, arith}
+use Rattle.std.proofs.Common.{◌≡◌, ◌++◌, map, true, Bool, sym, ap, ◌∙◌, arith}
+use Rattle.std.proofs.lemmas.List.{drop_all}
 use Rattle.std.specs.List.{list_any}
 use Rattle.kv_model.specs.declared.call.Operation.{Operation}
 use Rattle.kv_model.specs.Calls.{op_view, ops_view}
 use Rattle.kv_model.specs.Txns.{Touch, touches}
 use Rattle.txn_core.specs.Touching.{keys_put, count_touched, meets_more}
 use Rattle.txn_core.specs.Views.{touch_view, keys_view}
-use Rattle.txn_core.proofs.Clashing.{row-by, any-here, drop-end}
+use Rattle.txn_core.proofs.Clashing.{row-by, any-here}
 use Rattle.txn_core.proofs.clash.row_collides.Goals as goal
 
 pub returns-then-branch : goal.returns-then-branch
@@ -30,4 +31,4 @@ returns c =
     let counts : (t : Touch) → count_touched t all ≡ count_touched t (keys_put (touches (ops_view os))) =
     λ t. c.in_ok-all.ensures.counts t ∙ ap (λ us. count_touched t (keys_put us)) (ap (map touch_view) c.deref.ensures.value ∙ viewed) in
     let test : Operation → Bool = λ o. meets_more all (touches (op_view o)) in
-    sym (ap (list_any test) (drop-end c.deref-operation-items.result.now l.operation-index c.loop-operation-test.false)) ∙ l.invariant ∙ row-by all os counts
+    sym (ap (list_any test) (drop_all l.operation-index c.deref-operation-items.result.now c.loop-operation-test.false)) ∙ l.invariant ∙ row-by all os counts

@@ -1,5 +1,5 @@
 -- The key that is added is found, and so is each that was.
-use Rattle.std.proofs.Common.{◌≡◌, ◌∙◌, ap, ◌||◌, cond, true, Bool}
+use Rattle.std.proofs.Common.{◌∙◌, ap, cond, true}
 use Rattle.txn_core.specs.Graves.{has_key}
 use Rattle.txn_core.proofs.Making.{eq-same, cond-or}
 use Rattle.txn_core.proofs.deleted.add.Goals as goal

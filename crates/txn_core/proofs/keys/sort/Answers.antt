@@ -1,5 +1,5 @@
 -- A sort by a total order, of which the counts do not hang on the order.
-use Rattle.std.proofs.Common.{rules, List, ℕ, Result, Ok, Err}
+use Rattle.std.proofs.Common.{rules, List, ℕ}
 use denote.Ref.{Bor}
 use Rattle.std.specs.Ordering.{is_lt}
 use Rattle.std.specs.Cmp.{IsTotalOrder}

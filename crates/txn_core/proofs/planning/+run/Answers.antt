@@ -1,14 +1,15 @@
 -- What runs is the path, and makes what it makes.
-use Rattle.std.proofs.Common.{◌≡◌, Bool, sym, ◌∙◌, ap, subst, arith, map, drop, ◌+◌}
+use Rattle.std.proofs.Common.{◌≡◌, sym, ◌∙◌, ap, subst, arith, map, drop, ◌+◌}
 use Rattle.std.specs.Prelude.{IfOk, IfErr}
 use Rattle.std.specs.List.{list_all}
 use Rattle.kv_model.specs.declared.call.Txn.{out-Txn}
-use Rattle.kv_model.specs.Calls.{Ops, then, op_view, ops_view}
+use Rattle.kv_model.specs.Calls.{then, op_view, ops_view}
 use Rattle.kv_model.specs.History.{value_at}
 use Rattle.kv_model.specs.Leases.{is_granted}
 use Rattle.kv_model.specs.Ranges.{revision_refusal}
-use Rattle.kv_model.specs.Txns.{Path, holds}
-use Rattle.txn_core.specs.Planning.{made, refusal_of, IsRefusal, path_in, made_in, refusal_in, held_refusal}
+use Rattle.kv_model.specs.Txns.{holds}
+use Rattle.txn_core.specs.KeyWrites.{held_refusal}
+use Rattle.txn_core.specs.Planning.{made, refusal_of, IsRefusal, path_in, made_in, refusal_in}
 use Rattle.txn_core.specs.Steps.{in_row, step_view, steps_view}
 use Rattle.txn_core.proofs.Running.{refused-first, none-first, path-range, path-put, path-delete, path-inner, refused-inner, branch_of, ran, not_run, row-split, row-end, in_row-more}
 use Rattle.txn_core.proofs.Stepping.{step_view-Range, step_view-Put, step_view-Delete, step_view-Inner}

@@ -1,5 +1,5 @@
 -- What is told of the view's place is what is told of its versions, since none is behind it.
-use Rattle.std.proofs.Common.{◌≡◌, sym, ◌∙◌, ap, subst, [], map}
+use Rattle.std.proofs.Common.{sym, ◌∙◌, ap, subst, []}
 use Rattle.kv_model.specs.Calls.{txn_view}
 use Rattle.kv_model.specs.Leases.{is_granted}
 use Rattle.kv_model.proofs.PlaceLaws.{AreBy}

@@ -1,6 +1,6 @@
 -- What the key holds was counted.
 use Rattle.std.proofs.Common.{sym, subst}
-use Rattle.txn_core.specs.Counted.{CanCount}
+use Rattle.txn_core.specs.KeyWrites.{CanCount}
 use Rattle.txn_core.proofs.PutCounts.{held-counted}
 use Rattle.txn_core.proofs.planning.run_put.Goals as goal
 

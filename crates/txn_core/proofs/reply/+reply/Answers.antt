@@ -1,10 +1,9 @@
-use Rattle.std.proofs.Common.{◌≡◌, ◌+◌, ◌<◌, ◌^◌, sym, ◌∙◌, ap, map, drop, arith, rules}
+use Rattle.std.proofs.Common.{◌≡◌, ◌+◌, ◌<◌, ◌^◌, ◌∙◌, ap, map, drop, arith, rules}
 use Rattle.txn_core.specs.declared.step.Step.{the_lemmas}
 use Rattle.kv_model.specs.Txns.{Path, replies_of, changes_of}
 use Rattle.range_view.specs.Replies.{in_row, op_reply_view}
 use Rattle.txn_core.specs.Steps.{step_view, steps_view}
 use Rattle.txn_core.proofs.Answering.{row-reads, row-changes, row-room, row-answers, row-answered, row-changed, range-reads, inner-reads, range-changes, put-changes, delete-changes, inner-changes, range-answered, put-answered, delete-answered, inner-answered}
-use Rattle.txn_core.specs.declared.step.Step.TheVariants as variant
 use Rattle.txn_core.proofs.reply.+reply.Goals as goal
 
 pub row_replies-step_reply-requires : goal.row_replies-step_reply-requires

@@ -1,6 +1,4 @@
-use Rattle.std.proofs.Common.{◌≡◌, sym, ◌∙◌, rules}
-use Rattle.std.proofs.lemmas.Int.{to_z-of_z}
-use Rattle.std.specs.Int.{w64}
+use Rattle.std.proofs.Common.{rules}
 use Rattle.request_core.proofs.Leases.{none-granted}
 use Rattle.request_core.proofs.store.Core.keep_alive.Goals as goal
 

@@ -1,9 +1,8 @@
-//! What a put of a transaction makes of its key.
+//! What a put and a delete write at a key.
 ghost use Rattle.std.specs.Prelude.{◌≡◌, IfOk, Some, None, option_map, false};
 ghost use Rattle.kv_model.specs.Txns as txns;
 ghost use Rattle.range_view.specs.Replies.{kv_view};
-ghost use Rattle.txn_core.specs.Counted.{CanCount};
-ghost use Rattle.txn_core.specs.Planning as planning;
+ghost use Rattle.txn_core.specs.KeyWrites as writes;
 
 use bytes::Bytes;
 use kv_model::call::PutRequest;
@@ -12,14 +11,17 @@ use kv_model::version::{Body, Rev, Version};
 use range_view::reply::KvRef;
 use std::alloc::{AllocError, Global};
 
-/// Why a put is refused where its key holds this, by whether the lease that it names is granted: `KeyMissing` where it keeps
-/// what is not there, and `LeaseMissing` where it names a lease that is not granted. Takes no memory.
-pub(crate) fn held_refusal(
+/// The first refusal of a put that hangs on the state: by what its key holds before it, nothing where the key is not live, and
+/// by whether the lease that the request names is granted, which counts only where it names one.
+///
+/// `KeyMissing` comes where the put keeps the value or the lease of a key that is not live, and then `LeaseMissing` where it
+/// names a lease that is not granted. Constant time. Takes no memory.
+pub fn held_refusal(
     request: &PutRequest,
     held: Option<KvRef<'_>>,
     is_granted: bool,
 ) -> Option<Refusal>
-    ensures { result ≡ planning.held_refusal (λ _. is_granted) request.now (option_map kv_view held.entry) }
+    ensures { result ≡ writes.held_refusal (λ _. is_granted) request.now (option_map kv_view held.entry) }
 {
     if (request.ignore_value || request.ignore_lease) && held.is_none() {
         Some(Refusal::KeyMissing)
@@ -30,16 +32,19 @@ pub(crate) fn held_refusal(
     }
 }
 
-/// The version that a put makes at a place of a key that holds this. It shares the request's key and value; a value that is
-/// kept is copied. The error is want of memory.
-pub(crate) fn put_version(
+/// The version that a put makes at a place, by what its key holds before it, nothing where the key is not live. That the put is
+/// not refused is decided above.
+///
+/// It shares the request's key and value. A value that is kept is copied, in time linear in its length; else the time is
+/// constant. The error is want of memory.
+pub fn put_version(
     alloc: Global,
     rev: Rev,
     request: &PutRequest,
     held: Option<KvRef<'_>>,
 ) -> Result<Version, AllocError>
-    requires { CanCount (option_map kv_view held) }
-    ensures { IfOk result (λ v. v ≡ planning.put_version rev.main rev.sub request.now (option_map kv_view held.entry)) }
+    requires { writes.CanCount (option_map kv_view held) }
+    ensures { IfOk result (λ v. v ≡ writes.put_version rev request.now (option_map kv_view held.entry)) }
 {
     Ok(Version {
         rev,
@@ -55,7 +60,7 @@ fn next_body(
     request: &PutRequest,
     held: Option<KvRef<'_>>,
 ) -> Result<Body, AllocError>
-    requires { CanCount (option_map kv_view held) }
+    requires { writes.CanCount (option_map kv_view held) }
     ensures { IfOk result (λ b. b ≡ txns.next_body main (txns.put_action request.now (option_map kv_view held.entry)) (option_map kv_view held.entry)) }
 {
     match held {
@@ -66,7 +71,7 @@ fn next_body(
 
 /// What a put makes of a key that holds something.
 fn body_after(alloc: Global, request: &PutRequest, kv: KvRef<'_>) -> Result<Body, AllocError>
-    requires { CanCount (Some (kv_view kv)) }
+    requires { writes.CanCount (Some (kv_view kv)) }
     ensures { IfOk result (λ b. b ≡ txns.next_body kv.entry.modified (txns.put_action request.now (Some (kv_view kv.entry))) (Some (kv_view kv.entry))) }
 {
     Ok(Body::Put {
@@ -102,5 +107,16 @@ fn first_body(main: u64, request: &PutRequest) -> Result<Body, AllocError>
         } else {
             request.value.clone()?
         },
+    })
+}
+
+/// The tombstone of a key at a place. The key is copied, in time linear in its length. The error is want of memory.
+pub fn tombstone(alloc: Global, rev: Rev, key: &[u8]) -> Result<Version, AllocError>
+    ensures { IfOk result (λ v. v ≡ writes.tombstone rev.main rev.sub key.now) }
+{
+    Ok(Version {
+        rev,
+        key: Bytes::copy_from_slice(alloc, key)?,
+        body: Body::Gone,
     })
 }
