@@ -3,6 +3,8 @@
 
 mod index;
 mod set;
+#[cfg(test)]
+mod tests;
 mod walk;
 
 pub use index::LeaseKeys;

@@ -1,6 +1,7 @@
 pub mod Back
 pub mod Deletes
 pub mod Kept
+pub mod Leased
 pub mod Leases
 pub mod Planned
 pub mod Puts

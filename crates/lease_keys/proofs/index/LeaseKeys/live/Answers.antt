@@ -18,5 +18,5 @@ returns c =
     let up = rw (to_z-of_z w64 c.args.lease c.ranges.lease) at c.keys_of.ensures.ascending in
     let some : is_lease c.args.lease ≡ true = search rules in
     let found = ap (filter_map g) (ap (map (λ k. k.now)) c.deref.ensures.value ∙ keys)
-        ∙ live-found c.args.lease c.args.self.now v.versions v.place c.requires some up in
+    ∙ live-found c.args.lease c.args.self.now v.versions v.place c.requires some up in
     subst (λ kvs. IfOk c.held_by.result (λ r. map kv_view r.items ≡ kvs)) found held
