@@ -130,19 +130,6 @@ time_left_is s id false None = refl
 time_left_is s id true (Some l) = refl
 time_left_is s id false (Some l) = refl
 
--- ---- the keys of a lease
-
--- what is kept of the lent keys is what is kept of them as data
-pub leased-views : (id : ℤ) (kvs : List KvRef) → map kv_view (filter (λ (kv : KvRef). int_eq kv.lease id) kvs) ≡ filter (λ (kv : KeyValue). int_eq kv.lease id) (map kv_view kvs)
-leased-views id [] = refl
-leased-views id (kv ∷ kvs) = by (int_eq kv.lease id) (leased-views id kvs)
-  where
-    by : (b : Bool) → map kv_view (filter (λ (kv : KvRef). int_eq kv.lease id) kvs) ≡ filter (λ (kv : KeyValue). int_eq kv.lease id) (map kv_view kvs)
-        → map kv_view (cond b (kv ∷ filter (λ (kv : KvRef). int_eq kv.lease id) kvs) (filter (λ (kv : KvRef). int_eq kv.lease id) kvs))
-        ≡ cond b (kv_view kv ∷ filter (λ (kv : KeyValue). int_eq kv.lease id) (map kv_view kvs)) (filter (λ (kv : KeyValue). int_eq kv.lease id) (map kv_view kvs))
-    by true e = ap (λ ks. kv_view kv ∷ ks) e
-    by false e = e
-
 -- ---- a lease that is not granted
 
 pub none-granted : (ls : List Lease) (id : ℤ) → is_granted ls id ≡ false → None ≡ option_map (λ (l : Lease). l.ttl) (lease_at ls id)

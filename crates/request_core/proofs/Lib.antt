@@ -1,5 +1,6 @@
 pub mod Deletes
 pub mod Kept
+pub mod Leased
 pub mod Leases
 pub mod Planned
 pub mod Puts

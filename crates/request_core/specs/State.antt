@@ -1,5 +1,5 @@
 -- What a core holds, and how a command changes it.
-use Rattle.std.specs.Prelude.{◌≡◌, ℕ, ℤ, ◌+◌, ◌-◌, ◌<◌, ◌≤◌, ◌%◌, ◌^◌, List, [], ◌∷◌, ◌++◌, map, Bool, not, ◌&&◌, nat_lt, filter, Option, None, Some, option_map, if◌then◌else◌}
+use Rattle.std.specs.Prelude.{◌≡◌, ℕ, ℤ, ◌+◌, ◌-◌, ◌<◌, ◌≤◌, ◌%◌, ◌^◌, List, [], ◌∷◌, ◌++◌, map, Bool, true, not, ◌&&◌, nat_lt, filter, Option, None, Some, option_map, if◌then◌else◌}
 use Rattle.std.specs.Option.{option_or}
 use Rattle.std.specs.List.{AllByRecursion}
 use Rattle.std.specs.Ordering.{int_eq}
@@ -18,7 +18,7 @@ use Rattle.kv_model.specs.Ranges.{live, refuse_if}
 use Rattle.kv_model.specs.Told.{Answer, Reply}
 use Rattle.kv_model.specs.Txns.{put_fault, previous_value, if_asked, static_fault}
 use Rattle.kv_model.specs.Txns as txns
-use Rattle.kv_model.specs.History.{KeyValue, value_at, end_of}
+use Rattle.kv_model.specs.History.{KeyValue, value_at, end_of, rev_le}
 use Rattle.kv_model.specs.Step.{last_main}
 use Rattle.kv_model.specs.Stands.{Store}
 use Rattle.kv_model.specs.Stores.{path_in, refusal_of_path, changes_of_path, refusal_of_delete, with_leases, granted_lease, refusal_of_revoke, renewed_leases, at_store_moment}
@@ -55,6 +55,10 @@ live_in s r = live s.versions (end_of s.revision) r
 -- the live keys whose last put names the lease, and what they hold
 abbrev pub leased_in : Store → ℤ → List KeyValue
 leased_in s id = filter (λ kv. int_eq kv.lease id) (live_in s all_keys)
+
+-- no version stands after the store's revision
+abbrev pub AreReached : Store → Type 0
+AreReached s = AllByRecursion (λ v. rev_le v.rev (end_of s.revision) ≡ true) s.versions
 
 -- no revision comes after this one
 abbrev pub is_spent : ℕ → Bool

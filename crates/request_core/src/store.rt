@@ -21,6 +21,7 @@ use kv_model::feed::{NoSink, Op, Sink};
 use kv_model::refusal::Refusal;
 use kv_model::version::Version;
 use lease_book::LeaseBook;
+use lease_keys::LeaseKeys;
 use range_view::reply::KvRef;
 use range_view::tables::Tables;
 use std::alloc::{AllocError, Global};
@@ -35,17 +36,20 @@ pub struct Core {
     alloc: Global,
     tables: Tables,
     book: LeaseBook,
+    keys: LeaseKeys,
     stamp: u64,
 }
 
 impl Model for Core {
+    ghost use Rattle.kv_model.specs.History.{value_now};
+    ghost use Rattle.lease_keys.specs.Holding.{Holds};
     ghost use Rattle.request_core.specs.State.{CoreState, IsSound, core_state};
 
     ghost Value = { CoreState };
 
     ghost view = { λ c. core_state c.tables c.book c.stamp };
 
-    ghost invariant = { λ c. IsSound c.tables };
+    ghost invariant = { λ c. IsSound c.tables × Holds c.keys (value_now c.tables.versions) };
 }
 
 impl Core {
@@ -64,6 +68,7 @@ impl Core {
             alloc,
             tables: Tables::new(alloc),
             book: LeaseBook::new(alloc),
+            keys: LeaseKeys::new(alloc),
             stamp: 0,
         }
     }
@@ -111,8 +116,8 @@ impl Core {
     /// is copied. A DeleteRange walks the keys of its range, live or not, each in such time, and adds a tombstone for each that is
     /// live, all in one revision. A Txn sorts its keys for the check, and takes for each compare and each operation that runs the
     /// time of a read or a write by itself; all its changes stand in one revision. All this is but for the growth of a list. A
-    /// grant and a keepalive are logarithmic in the number of leases. A revoke walks all keys of the store, and deletes those of
-    /// the lease in one revision.
+    /// grant and a keepalive are logarithmic in the number of leases. A revoke looks up the keys that were put under the lease,
+    /// each in such time, and deletes those that still are in one revision.
     pub fn apply<'c>(&mut self, command: &'c Command) -> Result<Receipt<'c>, Refusal>
         ensures accepted { IfOk result (λ r. (w : World) → StandsFor self.old.store w
             → Accepts self.new r w (perform w (call_of command.now)).0 (perform w (call_of command.now)).1) }
@@ -160,7 +165,8 @@ impl Core {
     ///
     /// `AllocError` comes where the list of an answer, or the sort of a Range, found no memory; so never to a Put, a grant, a revoke
     /// or a keepalive. What a delete showed is read at the end of the revision before its own, and each operation of a transaction
-    /// is read before its own changes. The keys of a lease take a walk over all keys of the store.
+    /// is read before its own changes. The keys of a lease are found by an index, and no others are walked but those
+    /// that were put under it.
     pub fn answer<'a>(&'a self, receipt: &Receipt<'_>) -> Result<Answer<'a>, AllocError>
         requires { IsReadable receipt.now self.now }
         ensures { IfOk result (λ a. answer_view a ≡ answer_of receipt.now self.now) }
@@ -218,7 +224,8 @@ impl Core {
         self.tables.view().get(key)
     }
 
-    /// Appends the versions of the next revision, once the sink has taken them.
+    /// Appends the versions of the next revision, once the sink has taken them. Where that fails, the index of leases may have
+    /// some pairs more.
     fn append<S: Sink>(&mut self, versions: Vec<Version>, sink: &mut S) -> Result<(), AllocError>
         requires room { self.old.store.revision < last_main }
         requires next { AreNext self.old.store.revision versions.items }
@@ -227,6 +234,7 @@ impl Core {
         ensures err { OnErr result ((self.new ≡ self.old) × (sink.new ≡ sink.old)) }
     {
         let main = self.tables.revision() + 1;
+        self.keys.add_all(&versions)?;
         let batch = batch_of(self.alloc, &versions)?;
         self.tables.append(versions)?;
         if let Err(full) = sink.take(batch) {
@@ -253,6 +261,7 @@ impl Core {
             alloc,
             tables: Tables::at(alloc, LAST_MAIN - 1),
             book: LeaseBook::new(alloc),
+            keys: LeaseKeys::new(alloc),
             stamp: 0,
         }
     }

@@ -1,43 +1,34 @@
 //! Leases: grant, revoke, keepalive, time to live, and the list of them.
-ghost use Rattle.kv_model.specs.Keys.{all_keys};
+ghost use Rattle.kv_model.specs.History.{value_now};
 ghost use Rattle.kv_model.specs.Leases.{lease_at, keys_of_lease, without_lease};
 ghost use Rattle.kv_model.specs.Ranges.{keys_of};
 ghost use Rattle.kv_model.specs.Stores.{granted_lease, refusal_of_grant, reply_of_time_to_live};
 ghost use Rattle.kv_model.specs.Told.{Reply};
 ghost use Rattle.kv_model.specs.Txns.{if_asked};
+ghost use Rattle.lease_keys.specs.Holding.{AreNotUnder};
 ghost use Rattle.range_view.specs.Replies.{kv_view};
 ghost use Rattle.request_core.specs.Answers.{answer_view};
 ghost use Rattle.request_core.specs.Writing.{AreNext};
 ghost use Rattle.kv_model.specs.Step.{last_main};
-ghost use Rattle.std.specs.Prelude.{◌≡◌, ◌≢◌, ◌<◌, true, false, is_some, unwrap_or, option_map, map, [], length, IfOk, IfErr, OnOk, OnErr, None, Some};
+ghost use Rattle.std.specs.Prelude.{◌≡◌, ◌≢◌, ◌+◌, ◌<◌, true, false, is_some, unwrap_or, option_map, map, [], length, IfOk, IfErr, OnOk, OnErr, None, Some};
 
 use super::Core;
 use crate::answer::{Answer, Receipt, Todo};
 use crate::writing::tombstones;
-use bytes::Bytes;
 use kv_model::feed::Sink;
 use kv_model::refusal::Refusal;
-use kv_model::version::{KeyRange, Version};
+use kv_model::version::Version;
 use lease_book::Granted;
 use range_view::reply::KvRef;
+use range_view::revision::end_of;
 use std::alloc::{AllocError, Global};
-
-/// The range of all keys.
-fn all_keys() -> KeyRange
-    ensures { result ≡ all_keys }
-{
-    KeyRange {
-        key: Bytes::from_static(b"\0"),
-        end: Bytes::from_static(b"\0"),
-    }
-}
 
 impl Core {
     ghost use Rattle.kv_model.specs.Calls.{Call};
     ghost use Rattle.kv_model.specs.World.{World};
     ghost use Rattle.kv_model.specs.Stands.{StandsFor};
     ghost use Rattle.kv_model.specs.Step.{perform};
-    ghost use Rattle.request_core.specs.State.{IsTold, added_by, added_by_revoke, after_grant, after_keep_alive, after_revoke, fault_of_revoke, leased, leased_in, stamped, raised_by_delete, with_any};
+    ghost use Rattle.request_core.specs.State.{AreReached, IsTold, added_by, added_by_revoke, after_grant, after_keep_alive, after_revoke, fault_of_revoke, leased, leased_in, stamped, raised_by_delete, with_any};
     ghost use Rattle.request_core.specs.Answers.{Accepts, IsAllowed, IsRefusal, IsReadable, answer_of, first_refusal, has_changed, is_beside, reply_left};
 
     /// A grant takes one node of the book.
@@ -154,9 +145,10 @@ impl Core {
     fn versions_of_revoke(&self, id: i64) -> Result<Vec<Version>, Refusal>
         ensures made { IfOk result (λ vs. (fault_of_revoke self.now.store id ≡ None) × (vs.items ≡ added_by_revoke self.now.store id)) }
         ensures quiet { self.now.store.watches ≡ [] }
+        ensures reached { AreReached self.now.store }
         ensures refused { IfErr result (λ e. IsRefusal e (fault_of_revoke self.now.store id)) }
     {
-        let main = self.tables.revision() + 1;
+        let main = self.next_main();
         if !self.book.is_granted(id) {
             return Err(Refusal::LeaseMissing);
         }
@@ -172,16 +164,23 @@ impl Core {
         }
     }
 
+    /// The main revision after the present one.
+    fn next_main(&self) -> u64
+        ensures value { result ≡ self.now.store.revision + 1 }
+        ensures reached { AreReached self.now.store }
+    {
+        self.tables.revision() + 1
+    }
+
     /// The live keys whose last put names the lease, in the order of the keys, lent from the versions.
     ///
-    /// `AllocError` comes where the list found no memory. All keys of the store are walked, live or not, each in time
-    /// logarithmic in the versions, however few hang on the lease.
+    /// `AllocError` comes where a list found no memory. The keys that were put under the lease are looked up, each in time
+    /// logarithmic in the keys and the versions; no other key is.
     pub(crate) fn keys_of_lease(&self, id: i64) -> Result<Vec<KvRef<'_>>, AllocError>
         ensures { IfOk result (λ kvs. map kv_view kvs.items ≡ leased_in self.now.store id) }
     {
-        let mut kvs = self.tables.view().live(self.alloc, &all_keys())?;
-        kvs.retain(|kv| kv.lease == id);
-        Ok(kvs)
+        let place = end_of(self.tables.revision());
+        self.keys.live(self.alloc, &self.tables.view_at(place), id)
     }
 
     /// Appends the versions of the next revision, where there are some.
@@ -203,11 +202,13 @@ impl Core {
         self.append(versions, sink)
     }
 
-    /// Takes a lease out of the book.
+    /// Takes a lease, under which no key is any more, out of the book and the index.
     fn take_lease(&mut self, id: i64)
+        requires { AreNotUnder id (value_now self.old.store.versions) }
         ensures { self.new ≡ leased self.old (without_lease id self.old.store.leases) }
     {
         let _found = self.book.revoke(id);
+        self.keys.forget(id);
     }
 
     /// A keepalive changes nothing where the lease is not granted. Takes no memory.

@@ -13,4 +13,4 @@ returns-clause-counted c =
     let t = c.self.inside.tables in
     let found = c.get.ensures ∙ ap (λ (v : Viewed). value_at v.versions v.place c.args.key.now) c.view.ensures in
     subst (λ (s : CoreState). IsHeldTo s.store.revision (option_map kv_view c.get.result)) c.self.view_is
-    (subst (IsHeldTo t.revision) (sym found) (held-counted t (end_of t.revision) c.args.key.now c.self.invariant))
+    (subst (IsHeldTo t.revision) (sym found) (held-counted t (end_of t.revision) c.args.key.now c.self.invariant.0))

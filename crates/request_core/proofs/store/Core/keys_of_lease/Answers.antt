@@ -1,11 +1,15 @@
-use Rattle.std.proofs.Common.{◌∙◌, ap, map, filter, rules}
-use Rattle.std.specs.Ordering.{int_eq}
-use Rattle.std.proofs.lemmas.Fn.{filter_same}
-use Rattle.kv_model.specs.History.{KeyValue}
-use Rattle.range_view.specs.Replies.{kv_view}
-use Rattle.request_core.proofs.Leases.{leased-views}
+-- The index has every key that is seen at the end of the present revision.
+use Rattle.std.proofs.Common.{sym, ◌∙◌, ap, subst}
+use Rattle.kv_model.specs.declared.version.Rev.{Rev}
+use Rattle.kv_model.specs.History.{value_at, end_of}
+use Rattle.lease_keys.specs.Holding.{Holds}
+use Rattle.range_view.specs.Stored.{Viewed, seen_at}
+use Rattle.request_core.proofs.Leased.{holds-seen}
 use Rattle.request_core.proofs.store.Core.keys_of_lease.Goals as goal
 
-pub returns : goal.returns
-returns c = ap (map kv_view) (filter_same _ _ _ (λ x b f' k. search rules) _ _ c.retain.ensures.filtered)
-    ∙ leased-views c.args.id _ ∙ ap (filter (λ (kv : KeyValue). int_eq kv.lease c.args.id)) (search rules)
+pub live-requires : goal.live-requires
+live-requires c =
+    let u = c.self.inside in
+    let seen = c.view_at.ensures ∙ ap (λ (p : Rev). seen_at p u.tables) (c.end_of-place.ensures ∙ ap end_of c.revision.ensures.value) in
+    subst (λ (v : Viewed). Holds u.keys (value_at v.versions v.place)) (sym seen)
+    (holds-seen u.keys u.tables c.revision.ensures.stored c.self.invariant.0 c.self.invariant.1)

@@ -1,0 +1,4 @@
+pub mod Sets
+pub mod Pairs
+pub mod Holding
+pub mod Live

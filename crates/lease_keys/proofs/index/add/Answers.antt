@@ -1,0 +1,24 @@
+use Rattle.std.proofs.Common.{◌≡◌, Some, sym, ◌∙◌, ap}
+use Rattle.std.proofs.lemmas.Int.{to_z-of_z}
+use Rattle.std.specs.Int.{w64}
+use Rattle.std.specs.Map.{set_value}
+use Rattle.std.specs.BTreeMap.{is_at}
+use Rattle.std.specs.Ordering.{int_cmp}
+use Rattle.std.proofs.lemmas.Map.Steps.{set_value_same}
+use Rattle.lease_keys.proofs.Pairs.{on_ok, on_err, added-through}
+use Rattle.lease_keys.proofs.index.add.Goals as goal
+
+pub returns-in-Some-clause-ok : goal.returns-in-Some-clause-ok
+returns-in-Some-clause-ok c =
+    let here = rw (to_z-of_z w64 c.args.lease c.ranges.lease) at c.in-Some.ensures.value in
+    let writes = rw (to_z-of_z w64 c.args.lease c.ranges.lease) at (c.get_mut.follows.holds c.add.new.self).3 in
+    on_ok c.add.result _ _ c.add.ensures.ok
+    (added-through c.args.lease c.args.key.now c.args.leases.now.entries (c.get_mut.follows.lender c.add.new.self).entries c.in-Some.keys.now c.add.new.self here (λ some. (writes some).0))
+
+pub returns-in-Some-clause-err : goal.returns-in-Some-clause-err
+returns-in-Some-clause-err c =
+    let here = rw (to_z-of_z w64 c.args.lease c.ranges.lease) at c.in-Some.ensures.value in
+    let whole = rw (to_z-of_z w64 c.args.lease c.ranges.lease) at (c.get_mut.follows.holds c.add.new.self).0 in
+    on_err c.add.result _ _ c.add.ensures.err
+    (λ same. whole ∙ ap (set_value (is_at (int_cmp c.args.lease)) c.args.leases.now.entries) same
+    ∙ set_value_same (is_at (int_cmp c.args.lease)) c.args.leases.now.entries c.in-Some.keys.now (sym here))

@@ -1,0 +1,126 @@
+//! From each lease to its keys.
+ghost use Rattle.std.specs.Prelude.{◌≡◌, ℕ, [], ◌∷◌, map, take, IfOk, OnOk, OnErr};
+ghost use Rattle.kv_model.specs.Laws.{IsStrictlyAscending};
+ghost use Rattle.lease_keys.specs.Holding.{ArePut, lease_of};
+ghost use Rattle.lease_keys.specs.Pairs.{AreAdded, keys_at};
+
+use crate::set::KeySet;
+use bytes::Bytes;
+use kv_model::version::{Body, Version};
+use std::alloc::{AllocError, Global};
+use std::collections::BTreeMap;
+use std::marker::Model;
+
+/// Pairs of a lease and a key: of each lease an ordered set of its keys.
+#[derive(Debug, Drop)]
+pub struct LeaseKeys {
+    alloc: Global,
+    leases: BTreeMap<i64, KeySet>,
+}
+
+impl Model for LeaseKeys {
+    ghost use Rattle.lease_keys.specs.Pairs.{Pairs};
+
+    ghost Value = { Pairs };
+
+    ghost view = { λ x. x.leases.entries };
+}
+
+impl LeaseKeys {
+    ghost use Rattle.lease_keys.specs.Pairs.{AreForgotten};
+
+    /// No pair. What comes takes its memory from `alloc`.
+    pub fn new(alloc: Global) -> Self
+        ensures { result ≡ [] }
+    {
+        LeaseKeys {
+            alloc,
+            leases: BTreeMap::new(alloc),
+        }
+    }
+
+    /// Adds a key to those of a lease, where it is not there. The key's bytes are shared, not copied.
+    ///
+    /// The error is want of memory, and all pairs are then as they were. The time is logarithmic in the number of leases and in
+    /// that of the lease's keys.
+    pub fn add(&mut self, lease: i64, key: &Bytes) -> Result<(), AllocError>
+        ensures ok { OnOk result (AreAdded lease key.now self.old self.new) }
+        ensures err { OnErr result (self.new ≡ self.old) }
+    {
+        add(self.alloc, &mut self.leases, lease, key)
+    }
+
+    /// Adds, of each of the versions that puts its key under a lease, that pair. 0 is no lease.
+    ///
+    /// The error is want of memory, and the pairs of some of the versions, the first ones, are then added. The time is that of
+    /// `add` for each of the versions.
+    pub fn add_all(&mut self, versions: &[Version]) -> Result<(), AllocError>
+        ensures ok { OnOk result (ArePut versions.now self.old self.new) }
+        ensures err { OnErr result ((n : ℕ) × ArePut (take n versions.now) self.old self.new) }
+    {
+        for version in versions {
+            self.add_version(version)?;
+        }
+        Ok(())
+    }
+
+    /// Adds the pair of a version, where it puts its key under a lease.
+    fn add_version(&mut self, version: &Version) -> Result<(), AllocError>
+        ensures ok { OnOk result (ArePut (version.now ∷ []) self.old self.new) }
+        ensures err { OnErr result (self.new ≡ self.old) }
+    {
+        match lease_of(&version.body) {
+            Some(lease) => self.add(lease, &version.key),
+            None => Ok(()),
+        }
+    }
+
+    /// Takes all keys of a lease out. Takes no memory. The time is logarithmic in the number of leases, and linear in that of the
+    /// lease's keys.
+    pub fn forget(&mut self, lease: i64)
+        ensures { AreForgotten lease self.old self.new }
+    {
+        let _keys = self.leases.remove(&lease);
+    }
+
+    /// The keys of a lease, ascending.
+    ///
+    /// The error is want of memory. The time is logarithmic in the number of leases, and linear in that of the lease's keys.
+    pub fn keys_of(&self, lease: i64) -> Result<Vec<&Bytes>, AllocError>
+        ensures keys { IfOk result (λ ks. map (λ k. k.now) ks.items ≡ keys_at lease self.now) }
+        ensures ascending { IsStrictlyAscending (keys_at lease self.now) }
+    {
+        match self.leases.get(&lease) {
+            Some(keys) => keys.keys(self.alloc),
+            None => Ok(Vec::new(self.alloc)),
+        }
+    }
+}
+
+/// The lease that a put names, where it names one.
+fn lease_of(body: &Body) -> Option<i64>
+    ensures { result ≡ lease_of body.now }
+{
+    match body {
+        Body::Put { lease, .. } if *lease != 0 => Some(*lease),
+        _ => None,
+    }
+}
+
+/// Adds a key to those of a lease.
+fn add(
+    alloc: Global,
+    leases: &mut BTreeMap<i64, KeySet>,
+    lease: i64,
+    key: &Bytes,
+) -> Result<(), AllocError>
+    ensures ok { OnOk result (AreAdded lease key.now leases.old.entries leases.new.entries) }
+    ensures err { OnErr result (leases.new.entries ≡ leases.old.entries) }
+{
+    if let Some(keys) = leases.get_mut(&lease) {
+        return keys.add(key);
+    }
+    let keys = KeySet::one(alloc, key)?;
+    leases.insert(lease, keys)?;
+    Ok(())
+}

@@ -1,0 +1,67 @@
+//! What no clause says: that calls succeed with ample memory.
+use super::LeaseKeys;
+use bytes::Bytes;
+use kv_model::version::{Body, Rev, Version};
+use std::alloc::{AllocError, Global};
+use std::test::Fail;
+
+fn key(letter: &'static [u8]) -> Bytes {
+    Bytes::from_static(letter)
+}
+
+/// How many keys a lease has, and the first byte of the first of them.
+fn seen(index: &LeaseKeys, lease: i64) -> Result<(usize, Option<u8>), AllocError> {
+    let keys = index.keys_of(lease)?;
+    let first = match keys.first() {
+        Some(key) => key.as_slice().first().copied(),
+        None => None,
+    };
+    Ok((keys.len(), first))
+}
+
+#[test]
+fn keys_stand_with_their_lease(rt: HostRuntime) -> Result<(), Fail> {
+    let mut index = LeaseKeys::new(rt.alloc());
+    index.add(7, &key(b"b"))?;
+    index.add(7, &key(b"a"))?;
+    index.add(-2, &key(b"b"))?;
+    index.add(7, &key(b"b"))?;
+    assert_eq!(rt; seen(&index, 7)?, (2, Some(97)));
+    assert_eq!(rt; seen(&index, -2)?, (1, Some(98)));
+    index.forget(7);
+    index.forget(8);
+    assert_eq!(rt; seen(&index, 7)?, (0, None));
+    assert_eq!(rt; seen(&index, -2)?, (1, Some(98)));
+    Ok(())
+}
+
+fn version(sub: u64, letter: &'static [u8], body: Body) -> Version {
+    Version {
+        rev: Rev { main: 2, sub },
+        key: key(letter),
+        body,
+    }
+}
+
+fn put(lease: i64) -> Body {
+    Body::Put {
+        create: 2,
+        version: 1,
+        lease,
+        value: Bytes::new(),
+    }
+}
+
+#[test]
+fn puts_under_a_lease_are_added(rt: HostRuntime) -> Result<(), Fail> {
+    let mut index = LeaseKeys::new(rt.alloc());
+    let versions = [
+        version(0, b"c", put(5)),
+        version(1, b"b", put(0)),
+        version(2, b"a", Body::Gone),
+    ];
+    index.add_all(versions.as_slice())?;
+    assert_eq!(rt; seen(&index, 5)?, (1, Some(99)));
+    assert_eq!(rt; seen(&index, 0)?, (0, None));
+    Ok(())
+}
