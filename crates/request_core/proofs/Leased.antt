@@ -19,9 +19,10 @@ use Rattle.lease_keys.specs.Pairs.{Pairs}
 use Rattle.lease_keys.specs.Holding.{Holds, AreNotUnder}
 use Rattle.lease_keys.proofs.Live.{leased-has}
 use Rattle.range_view.specs.Stored.{Stored, IsStored, blank_at}
-use Rattle.request_core.specs.Writing.{tombstone, tombstones}
+use Rattle.txn_core.specs.KeyWrites.{tombstone}
+use Rattle.request_core.specs.Writing.{tombstones}
 use Rattle.request_core.specs.State.{CoreState, IsSound, AreReached, added_by_revoke, leased_in, with_any}
-use Rattle.request_core.proofs.Back.{last_that-holds}
+use Rattle.txn_core.proofs.PutCounts.{last_that-holds}
 
 -- what a call ensures where it succeeds
 pub succeeded : {E : Type 0} (r : Result (Unit {0}) E) (P : Type 0) → is_err r ≡ false → OnOk r P → P
