@@ -1,5 +1,6 @@
 pub mod Integers
-pub mod Base64
 pub mod Readings
 pub mod Enums
 pub mod Transactions
+pub mod Marks
+pub mod Signs

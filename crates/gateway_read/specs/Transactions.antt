@@ -1,10 +1,10 @@
 -- Parts of the reading of a transaction.
 use Rattle.std.specs.Prelude.{ℕ, List, codes, Option, None, Some, Ok, Err}
-use Rattle.serde_json.specs.Data.{Data, Members}
-use Rattle.serde_json.specs.View.{members_view}
+use Rattle.serde_json.specs.Data.{Data, Items, Members}
 use Rattle.kv_model.specs.declared.call.Compare.{Compare}
-use Rattle.kv_model.specs.Calls.{Ops}
-use Rattle.kv_model.specs.Requests.{Read, ◌>>=◌, bad_field, some_or, members_of, given, list_field, each, compare_request, range_query, put_request, delete_request}
+use Rattle.kv_model.specs.Calls.{Ops, joined}
+use Rattle.kv_model.specs.Requests.{Read, ◌>>=◌, bad_field, some_or, members_of, given, list_field, each, operation, compare_request, range_query, put_request, delete_request}
+use Rattle.gateway_read.specs.Objects.{seen}
 use Rattle.gateway_read.specs.declared.transacting.Kind.{Kind}
 use Rattle.gateway_read.specs.declared.transacting.Kind.TheVariants.{Range, Put, Delete, Inner}
 
@@ -16,10 +16,10 @@ pub data Message : Type 0 where
   inner : Members → Message
 
 abbrev pub message_of : Kind → Message
-message_of (Range object) = Message.range (members_view object.now.entries)
-message_of (Put object) = Message.put (members_view object.now.entries)
-message_of (Delete object) = Message.delete (members_view object.now.entries)
-message_of (Inner object) = Message.inner (members_view object.now.entries)
+message_of (Range object) = Message.range (seen object)
+message_of (Put object) = Message.put (seen object)
+message_of (Delete object) = Message.delete (seen object)
+message_of (Inner object) = Message.inner (seen object)
 
 abbrev pub object_under : List ℕ → Data → Read Members
 object_under name d = some_or (bad_field name) (members_of d)
@@ -43,6 +43,10 @@ message_read txn (Message.range ms) = range_query ms >>= λ q. Ok (Ops.range q O
 message_read txn (Message.put ms) = put_request ms >>= λ p. Ok (Ops.put p Ops.no_ops)
 message_read txn (Message.delete ms) = delete_request ms >>= λ r. Ok (Ops.delete r Ops.no_ops)
 message_read txn (Message.inner ms) = txn ms
+
+-- the operations that the values of a list ask for
+abbrev pub operations_read : (Members → Read Ops) → List ℕ → Items → Read Ops
+operations_read txn name items = each (operation txn name) items >>= λ ops. Ok (joined ops)
 
 -- the compares of a transaction
 abbrev pub compares_read : Members → Read (List Compare)

@@ -1,18 +1,20 @@
 //! A compare of a Txn.
 ghost use Rattle.std.specs.Prelude.{◌≡◌};
-ghost use Rattle.serde_json.specs.View.{view, members_view};
+ghost use Rattle.serde_json.specs.View.{view};
 ghost use Rattle.kv_model.specs.declared.call.Relation.TheVariants.{IsEqual};
 ghost use Rattle.kv_model.specs.Requests as requests;
 ghost use Rattle.gateway_read.specs.Compares.{target_of, compared};
 ghost use Rattle.gateway_read.specs.Fields.{snake_of};
+ghost use Rattle.gateway_read.specs.Objects.{seen};
 ghost use Rattle.gateway_read.specs.Reading.{Gives};
 
 use crate::bad::Bad;
 use crate::field::Field;
-use crate::members::{bytes_field, enum_field, integer_field};
+use crate::members::{bytes_field, enum_field, integer_field, object_under};
+use crate::object::Object;
 use kv_model::call::{Compare, Operand, Relation};
 use kv_model::version::KeyRange;
-use serde_json::{Map, Value};
+use serde_json::Value;
 use std::alloc::Global;
 
 /// What a compare looks at.
@@ -48,7 +50,7 @@ const TARGETS: [(&str, Target); 5] = [
 pub fn compare_request(alloc: Global, value: &Value) -> Result<Compare, Bad>
     ensures { Gives (λ compare. compare) result (requests.compare_request (view value.now)) }
 {
-    let object = value.as_object().ok_or(Bad::BadField(Field::Compare))?;
+    let object = &object_under(value, Field::Compare)?;
     let relation = enum_field(object, Field::Result, Relation::IsEqual, &RELATIONS)?;
     let target = target_field(object)?;
     let key = bytes_field(alloc, object, Field::Key)?;
@@ -56,9 +58,9 @@ pub fn compare_request(alloc: Global, value: &Value) -> Result<Compare, Bad>
     compared(alloc, object, KeyRange { key, end }, relation, target)
 }
 
-fn target_field(object: &Map<String, Value>) -> Result<Target, Bad>
+fn target_field(object: &Object<'_>) -> Result<Target, Bad>
     ensures { Gives target_of result
-        (requests.field requests.Target.to_version (requests.enum_of requests.targets) (snake_of Field.Target) (members_view object.now.entries)) }
+        (requests.field requests.Target.to_version (requests.enum_of requests.targets) (snake_of Field.Target) (seen object.now)) }
 {
     enum_field(object, Field::Target, Target::Version, &TARGETS)
 }
@@ -67,13 +69,13 @@ fn target_field(object: &Map<String, Value>) -> Result<Target, Bad>
 #[tactic(auto, unfolding(crate::specs::Fields::snake_of, crate::specs::Compares::compared))]
 fn compared(
     alloc: Global,
-    object: &Map<String, Value>,
+    object: &Object<'_>,
     range: KeyRange,
     relation: Relation,
     target: Target,
 ) -> Result<Compare, Bad>
     ensures { Gives (λ compare. compare) result
-        (compared range relation (target_of target) (members_view object.now.entries)) }
+        (compared range relation (target_of target) (seen object.now)) }
 {
     let version = integer_field(object, Field::Version)?;
     let create = integer_field(object, Field::CreateRevision)?;

@@ -1,19 +1,19 @@
 //! The lease requests, each from the fields of its object.
-ghost use Rattle.serde_json.specs.View.{members_view};
 ghost use Rattle.kv_model.specs.Calls.{Call, call_of};
 ghost use Rattle.kv_model.specs.Requests as requests;
+ghost use Rattle.gateway_read.specs.Objects.{seen};
 ghost use Rattle.gateway_read.specs.Reading.{Gives};
 
 use crate::bad::Bad;
 use crate::field::Field;
 use crate::members::{integer_field, truth_field};
+use crate::object::Object;
 use kv_model::call::Command;
-use serde_json::{Map, Value};
 
 /// Reads the fields `TTL` and `ID`, in this order (the etcd documentation, LeaseGrantRequest). The first fault counts: `BadField`.
 #[tactic(auto, unfolding(kv_model::specs::Requests::grant_request, crate::specs::Fields::snake_of))]
-pub(crate) fn grant_request(object: &Map<String, Value>) -> Result<Command, Bad>
-    ensures { Gives call_of result (requests.grant_request (members_view object.now.entries)) }
+pub(crate) fn grant_request(object: &Object<'_>) -> Result<Command, Bad>
+    ensures { Gives call_of result (requests.grant_request (seen object.now)) }
 {
     let ttl = integer_field(object, Field::Ttl)?;
     let id = integer_field(object, Field::Id)?;
@@ -22,9 +22,9 @@ pub(crate) fn grant_request(object: &Map<String, Value>) -> Result<Command, Bad>
 
 /// Reads the field `ID` of a LeaseRevoke. Its fault is `BadField`.
 #[tactic(auto, unfolding(crate::specs::Fields::snake_of))]
-pub(crate) fn revoke_request(object: &Map<String, Value>) -> Result<Command, Bad>
+pub(crate) fn revoke_request(object: &Object<'_>) -> Result<Command, Bad>
     ensures { Gives call_of result
-        (requests.id_request Call.revoke (members_view object.now.entries)) }
+        (requests.id_request Call.revoke (seen object.now)) }
 {
     let id = integer_field(object, Field::Id)?;
     Ok(Command::Revoke { id })
@@ -32,9 +32,9 @@ pub(crate) fn revoke_request(object: &Map<String, Value>) -> Result<Command, Bad
 
 /// Reads the field `ID` of a LeaseKeepAlive. Its fault is `BadField`.
 #[tactic(auto, unfolding(crate::specs::Fields::snake_of))]
-pub(crate) fn keep_alive_request(object: &Map<String, Value>) -> Result<Command, Bad>
+pub(crate) fn keep_alive_request(object: &Object<'_>) -> Result<Command, Bad>
     ensures { Gives call_of result
-        (requests.id_request Call.keep_alive (members_view object.now.entries)) }
+        (requests.id_request Call.keep_alive (seen object.now)) }
 {
     let id = integer_field(object, Field::Id)?;
     Ok(Command::KeepAlive { id })
@@ -42,9 +42,9 @@ pub(crate) fn keep_alive_request(object: &Map<String, Value>) -> Result<Command,
 
 /// Reads the fields `ID` and `keys`, in this order (the etcd documentation, LeaseTimeToLiveRequest). The first fault counts: `BadField`.
 #[tactic(auto, unfolding(kv_model::specs::Requests::time_to_live_request, crate::specs::Fields::snake_of))]
-pub(crate) fn time_to_live_request(object: &Map<String, Value>) -> Result<Command, Bad>
+pub(crate) fn time_to_live_request(object: &Object<'_>) -> Result<Command, Bad>
     ensures { Gives call_of result
-        (requests.time_to_live_request (members_view object.now.entries)) }
+        (requests.time_to_live_request (seen object.now)) }
 {
     let id = integer_field(object, Field::Id)?;
     let keys = truth_field(object, Field::Keys)?;

@@ -7,6 +7,7 @@ ghost use Rattle.gateway_read.specs.Reading.{Gives};
 
 use bad::Bad;
 use kv_model::call::Command;
+use object::Object;
 use requests::Request;
 use std::alloc::Global;
 
@@ -18,6 +19,7 @@ pub mod field;
 mod kinds;
 mod leasing;
 mod members;
+mod object;
 mod requests;
 mod sorting;
 mod symbols;
@@ -52,6 +54,6 @@ pub fn read(alloc: Global, path: &[u8], body: &[u8]) -> Result<Command, Bad>
     let Some(request) = kinds::named(&PATHS, path) else {
         return Err(Bad::NoPath);
     };
-    let object = body::object_of(alloc, body)?;
-    requests::command(alloc, request, &object)
+    let members = body::object_of(alloc, body)?;
+    requests::command(alloc, request, &Object::new(&members))
 }

@@ -1,45 +1,36 @@
 //! The fields of an object, each by its kind. An absent field is at its kind's default, and so is one that is null.
 ghost use Rattle.std.specs.Prelude.{◌≡◌, map, option_map};
-ghost use Rattle.serde_json.specs.Find as find;
-ghost use Rattle.serde_json.specs.View.{view, members_view, items_view};
+ghost use Rattle.serde_json.specs.View.{view, items_view};
 ghost use Rattle.kv_model.specs.Requests as requests;
 ghost use Rattle.gateway_read.specs.Fields.{snake_of};
+ghost use Rattle.gateway_read.specs.Objects.{seen};
 ghost use Rattle.gateway_read.specs.Reading.{Gives};
+ghost use Rattle.gateway_read.specs.Transactions.{object_under};
 
 use crate::bad::Bad;
 use crate::field::Field;
+use crate::object::Object;
 use crate::{kinds, symbols};
 use bytes::Bytes;
-use serde_json::{Map, Value};
+use serde_json::Value;
 use std::alloc::Global;
 
-fn member<'v>(object: &'v Map<String, Value>, name: &str) -> Option<&'v Value>
-    ensures { option_map (λ v. view v.now) result
-        ≡ find.get_member name.now (members_view object.now.entries) }
-{
-    object.get(name)
-}
-
 /// The value under a name of the field, the snake one first, unless it is null.
-pub(crate) fn given<'v>(object: &'v Map<String, Value>, field: Field) -> Option<&'v Value>
+pub(crate) fn given<'v>(object: &Object<'v>, field: Field) -> Option<&'v Value>
     ensures { option_map (λ v. view v.now) result
-        ≡ requests.given (snake_of field) (members_view object.now.entries) }
+        ≡ requests.given (snake_of field) (seen object.now) }
 {
-    let value = match member(object, field.snake()) {
+    let value = match object.get(field.snake()) {
         Some(value) => value,
-        None => member(object, field.camel())?,
+        None => object.get(field.camel())?,
     };
     if value.is_null() { None } else { Some(value) }
 }
 
 /// Bytes in base64. The default is no bytes.
-pub(crate) fn bytes_field(
-    alloc: Global,
-    object: &Map<String, Value>,
-    field: Field,
-) -> Result<Bytes, Bad>
+pub(crate) fn bytes_field(alloc: Global, object: &Object<'_>, field: Field) -> Result<Bytes, Bad>
     ensures { Gives (λ bytes. bytes) result
-        (requests.bytes_field (snake_of field) (members_view object.now.entries)) }
+        (requests.bytes_field (snake_of field) (seen object.now)) }
 {
     let Some(value) = given(object, field) else {
         return Ok(Bytes::new());
@@ -51,9 +42,9 @@ pub(crate) fn bytes_field(
 }
 
 /// A 64-bit integer. The default is 0.
-pub(crate) fn integer_field(object: &Map<String, Value>, field: Field) -> Result<i64, Bad>
+pub(crate) fn integer_field(object: &Object<'_>, field: Field) -> Result<i64, Bad>
     ensures { Gives (λ number. number) result
-        (requests.integer_field (snake_of field) (members_view object.now.entries)) }
+        (requests.integer_field (snake_of field) (seen object.now)) }
 {
     match given(object, field) {
         None => Ok(0),
@@ -62,9 +53,9 @@ pub(crate) fn integer_field(object: &Map<String, Value>, field: Field) -> Result
 }
 
 /// A truth value. The default is false.
-pub(crate) fn truth_field(object: &Map<String, Value>, field: Field) -> Result<bool, Bad>
+pub(crate) fn truth_field(object: &Object<'_>, field: Field) -> Result<bool, Bad>
     ensures { Gives (λ truth. truth) result
-        (requests.truth_field (snake_of field) (members_view object.now.entries)) }
+        (requests.truth_field (snake_of field) (seen object.now)) }
 {
     match given(object, field) {
         None => Ok(false),
@@ -74,13 +65,13 @@ pub(crate) fn truth_field(object: &Map<String, Value>, field: Field) -> Result<b
 
 /// An enum's value, by its name or by its place in the table.
 pub(crate) fn enum_field<T: Copy>(
-    object: &Map<String, Value>,
+    object: &Object<'_>,
     field: Field,
     default: T,
     table: &[(&str, T)],
 ) -> Result<T, Bad>
     ensures { Gives (λ meant. meant) result
-        (requests.field default (requests.enum_of (map (λ e. (e.0.now, e.1)) table.now)) (snake_of field) (members_view object.now.entries)) }
+        (requests.field default (requests.enum_of (map (λ e. (e.0.now, e.1)) table.now)) (snake_of field) (seen object.now)) }
 {
     match given(object, field) {
         None => Ok(default),
@@ -89,12 +80,9 @@ pub(crate) fn enum_field<T: Copy>(
 }
 
 /// A list. The default is an empty one.
-pub(crate) fn list_field<'v>(
-    object: &'v Map<String, Value>,
-    field: Field,
-) -> Result<&'v [Value], Bad>
+pub(crate) fn list_field<'v>(object: &Object<'v>, field: Field) -> Result<&'v [Value], Bad>
     ensures { Gives (λ values. items_view values.now) result
-        (requests.list_field (snake_of field) (members_view object.now.entries)) }
+        (requests.list_field (snake_of field) (seen object.now)) }
 {
     match given(object, field) {
         None => Ok(&[]),
@@ -103,4 +91,12 @@ pub(crate) fn list_field<'v>(
             None => Err(Bad::BadField(field)),
         },
     }
+}
+
+/// The object that is the value of this field.
+pub(crate) fn object_under<'v>(value: &'v Value, field: Field) -> Result<Object<'v>, Bad>
+    ensures { Gives seen result
+        (object_under (snake_of field) (view value.now)) }
+{
+    Ok(Object::new(value.as_object().ok_or(Bad::BadField(field))?))
 }

@@ -1,8 +1,8 @@
 //! The requests, each from the fields of its object, in the order of the etcd documentation's message.
-ghost use Rattle.serde_json.specs.View.{members_view};
 ghost use Rattle.kv_model.specs.Calls.{call_of};
 ghost use Rattle.kv_model.specs.Requests as requests;
 ghost use Rattle.gateway_read.specs.Parts.{filtered, call_read};
+ghost use Rattle.gateway_read.specs.Objects.{seen};
 ghost use Rattle.gateway_read.specs.Reading.{Gives};
 
 use crate::bad::Bad;
@@ -10,11 +10,11 @@ use crate::deleting::delete_request;
 use crate::field::Field;
 use crate::leasing::{grant_request, keep_alive_request, revoke_request, time_to_live_request};
 use crate::members::{bytes_field, integer_field, truth_field};
+use crate::object::Object;
 use crate::sorting::{sort_order, sort_target};
 use crate::transacting::txn_request;
 use kv_model::call::{Command, PutRequest, RangeQuery};
 use kv_model::version::KeyRange;
-use serde_json::{Map, Value};
 use std::alloc::Global;
 
 /// What a path asks for.
@@ -32,12 +32,8 @@ pub(crate) enum Request {
 }
 
 /// Reads the fields of a request. The first fault counts.
-pub(crate) fn command(
-    alloc: Global,
-    request: Request,
-    object: &Map<String, Value>,
-) -> Result<Command, Bad>
-    ensures { Gives call_of result (call_read request (members_view object.now.entries)) }
+pub(crate) fn command(alloc: Global, request: Request, object: &Object<'_>) -> Result<Command, Bad>
+    ensures { Gives call_of result (call_read request (seen object.now)) }
 {
     match request {
         Request::Range => Ok(Command::Range(range_query(alloc, object)?)),
@@ -53,9 +49,9 @@ pub(crate) fn command(
 }
 
 #[tactic(auto, unfolding(kv_model::specs::Requests::range_query, crate::specs::Fields::snake_of, crate::specs::Parts::filtered))]
-pub(crate) fn range_query(alloc: Global, object: &Map<String, Value>) -> Result<RangeQuery, Bad>
+pub(crate) fn range_query(alloc: Global, object: &Object<'_>) -> Result<RangeQuery, Bad>
     ensures { Gives (λ query. query) result
-        (requests.range_query (members_view object.now.entries)) }
+        (requests.range_query (seen object.now)) }
 {
     let key = bytes_field(alloc, object, Field::Key)?;
     let end = bytes_field(alloc, object, Field::RangeEnd)?;
@@ -82,8 +78,8 @@ pub(crate) fn range_query(alloc: Global, object: &Map<String, Value>) -> Result<
 
 /// The query with what is left to read of a Range.
 #[tactic(auto, unfolding(crate::specs::Fields::snake_of, crate::specs::Parts::filtered))]
-fn filtered(object: &Map<String, Value>, query: RangeQuery) -> Result<RangeQuery, Bad>
-    ensures { Gives (λ query. query) result (filtered query (members_view object.now.entries)) }
+fn filtered(object: &Object<'_>, query: RangeQuery) -> Result<RangeQuery, Bad>
+    ensures { Gives (λ query. query) result (filtered query (seen object.now)) }
 {
     Ok(RangeQuery {
         serializable: truth_field(object, Field::Serializable)?,
@@ -98,9 +94,9 @@ fn filtered(object: &Map<String, Value>, query: RangeQuery) -> Result<RangeQuery
 }
 
 #[tactic(auto, unfolding(kv_model::specs::Requests::put_request, crate::specs::Fields::snake_of))]
-pub(crate) fn put_request(alloc: Global, object: &Map<String, Value>) -> Result<PutRequest, Bad>
+pub(crate) fn put_request(alloc: Global, object: &Object<'_>) -> Result<PutRequest, Bad>
     ensures { Gives (λ request. request) result
-        (requests.put_request (members_view object.now.entries)) }
+        (requests.put_request (seen object.now)) }
 {
     Ok(PutRequest {
         key: bytes_field(alloc, object, Field::Key)?,

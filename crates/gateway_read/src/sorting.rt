@@ -1,17 +1,17 @@
 //! The enums of a Range.
 ghost use Rattle.std.specs.Prelude.{◌≡◌};
-ghost use Rattle.serde_json.specs.View.{members_view};
 ghost use Rattle.kv_model.specs.Requests as requests;
 ghost use Rattle.kv_model.specs.declared.call.SortOrder.TheVariants.{Unsorted};
 ghost use Rattle.kv_model.specs.declared.call.SortTarget.TheVariants.{ByKey};
 ghost use Rattle.gateway_read.specs.Fields.{snake_of};
+ghost use Rattle.gateway_read.specs.Objects.{seen};
 ghost use Rattle.gateway_read.specs.Reading.{Gives};
 
 use crate::bad::Bad;
 use crate::field::Field;
 use crate::members::enum_field;
+use crate::object::Object;
 use kv_model::call::{SortOrder, SortTarget};
-use serde_json::{Map, Value};
 
 const SORT_ORDERS: [(&str, SortOrder); 3] = [
     ("NONE", SortOrder::Unsorted),
@@ -27,16 +27,16 @@ const SORT_TARGETS: [(&str, SortTarget); 5] = [
     ("VALUE", SortTarget::ByValue),
 ];
 
-pub(crate) fn sort_order(object: &Map<String, Value>) -> Result<SortOrder, Bad>
+pub(crate) fn sort_order(object: &Object<'_>) -> Result<SortOrder, Bad>
     ensures { Gives (λ order. order) result
-        (requests.field Unsorted (requests.enum_of requests.sort_orders) (snake_of Field.SortOrder) (members_view object.now.entries)) }
+        (requests.field Unsorted (requests.enum_of requests.sort_orders) (snake_of Field.SortOrder) (seen object.now)) }
 {
     enum_field(object, Field::SortOrder, SortOrder::Unsorted, &SORT_ORDERS)
 }
 
-pub(crate) fn sort_target(object: &Map<String, Value>) -> Result<SortTarget, Bad>
+pub(crate) fn sort_target(object: &Object<'_>) -> Result<SortTarget, Bad>
     ensures { Gives (λ target. target) result
-        (requests.field ByKey (requests.enum_of requests.sort_targets) (snake_of Field.SortTarget) (members_view object.now.entries)) }
+        (requests.field ByKey (requests.enum_of requests.sort_targets) (snake_of Field.SortTarget) (seen object.now)) }
 {
     enum_field(object, Field::SortTarget, SortTarget::ByKey, &SORT_TARGETS)
 }

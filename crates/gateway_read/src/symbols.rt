@@ -1,7 +1,10 @@
 //! Bytes in base64 (RFC 4648).
-ghost use Rattle.std.specs.Prelude.{◌≡◌, map, IfOk};
+ghost use Rattle.std.specs.Prelude.{◌≡◌, ◌||◌, if◌then◌else◌, map, IfOk};
+ghost use Rattle.std.specs.List.{list_any};
+ghost use Rattle.base64.specs.Engines.{standard, standard_no_pad};
 ghost use Rattle.base64.specs.GeneralPurpose.{decoded_of};
 ghost use Rattle.kv_model.specs.Requests as requests;
+ghost use Rattle.gateway_read.specs.Signs.{is_url, is_padding};
 
 use base64::DecodeAllocError;
 use base64::engine::general_purpose::{GeneralPurpose, STANDARD, STANDARD_NO_PAD};
@@ -40,15 +43,60 @@ fn decoded_by(
     }
 }
 
+/// The bytes that symbols of the standard alphabet stand for, which have their exact padding or none.
+fn decoded_with(alloc: Global, symbols: &[u8], padding: bool) -> Result<Option<Bytes>, AllocError>
+    ensures { IfOk result (λ found. found ≡ decoded_of (if padding then standard else standard_no_pad) symbols.now) }
+{
+    if padding {
+        decoded_by(alloc, &STANDARD, symbols)
+    } else {
+        decoded_by(alloc, &STANDARD_NO_PAD, symbols)
+    }
+}
+
+/// What a text in base64 has beside letters and digits.
+#[derive(Clone, Copy)]
+struct Signs {
+    /// A symbol that only the URL alphabet has.
+    url: bool,
+    padding: bool,
+}
+
+/// What is in a text, in one pass.
+fn signs_of(text: &[u8]) -> Signs
+    ensures url { result.url ≡ list_any is_url text.now }
+    ensures padding { result.padding ≡ list_any is_padding text.now }
+{
+    let mut signs = Signs {
+        url: false,
+        padding: false,
+    };
+    for symbol in text {
+        signs = with_symbol(signs, *symbol);
+    }
+    signs
+}
+
+fn with_symbol(signs: Signs, symbol: u8) -> Signs
+    ensures url { result.url ≡ (signs.url || is_url symbol) }
+    ensures padding { result.padding ≡ (signs.padding || is_padding symbol) }
+{
+    Signs {
+        url: signs.url | (symbol == b'-') | (symbol == b'_'),
+        padding: signs.padding | (symbol == b'='),
+    }
+}
+
 /// The bytes that a text of either alphabet stands for: one with `=` has its exact padding, and one with none has no
-/// padding. No text stands for bytes where the bits left over are not zero. The cost is linear in the text.
+/// padding. No text stands for bytes where the bits left over are not zero. The cost is linear in the text, which is copied
+/// only where it has symbols of the URL alphabet.
 pub(crate) fn decoded(alloc: Global, text: &str) -> Result<Option<Bytes>, AllocError>
     ensures { IfOk result (λ found. found ≡ requests.decoded text.now) }
 {
-    let symbols = standard_symbols(alloc, text)?;
-    if symbols.contains(&b'=') {
-        decoded_by(alloc, &STANDARD, &symbols)
+    let signs = signs_of(text.as_bytes());
+    if signs.url {
+        decoded_with(alloc, &standard_symbols(alloc, text)?, signs.padding)
     } else {
-        decoded_by(alloc, &STANDARD_NO_PAD, &symbols)
+        decoded_with(alloc, text.as_bytes(), signs.padding)
     }
 }

@@ -2,6 +2,7 @@
 use crate::bad::Bad;
 use crate::comparing::compare_request;
 use crate::field::Field;
+use crate::object::Object;
 use crate::{kinds, read, sorting, symbols};
 use kv_model::call::{Command, Operand, Relation, SortOrder, SortTarget};
 use serde_json::Value;
@@ -259,8 +260,8 @@ fn names_of_enums(rt: HostRuntime) -> Result<(), Fail> {
     ];
     for (body, expected) in cases {
         let value = Value::from_str(alloc, body)?;
-        let object = value.as_object().ok_or("no object")?;
-        assert_eq!(rt; sorting::sort_target(object), expected, "of {body}");
+        let object = Object::new(value.as_object().ok_or("no object")?);
+        assert_eq!(rt; sorting::sort_target(&object), expected, "of {body}");
     }
     Ok(())
 }

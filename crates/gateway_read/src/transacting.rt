@@ -1,39 +1,42 @@
 //! The fields of a transaction, and of those within it.
 ghost use Rattle.std.specs.Prelude.{◌≡◌};
-ghost use Rattle.serde_json.specs.View.{view, members_view, items_view};
+ghost use Rattle.serde_json.specs.View.{view, items_view};
 ghost use Rattle.kv_model.specs.Calls.{txn_view, op_view, ops_view};
 ghost use Rattle.kv_model.specs.Requests as requests;
 ghost use Rattle.gateway_read.specs.Fields.{snake_of};
+ghost use Rattle.gateway_read.specs.Objects.{seen};
 ghost use Rattle.gateway_read.specs.Reading.{Gives};
-ghost use Rattle.gateway_read.specs.Transactions.{message_of, object_under, kind_read, compares_read};
+ghost use Rattle.gateway_read.specs.Transactions.{message_of, kind_read, operations_read, compares_read};
 
 use crate::bad::Bad;
 use crate::comparing::compare_request;
 use crate::deleting::delete_request;
 use crate::field::Field;
-use crate::members::{given, list_field};
+use crate::members::{given, list_field, object_under};
+use crate::object::Object;
 use crate::requests::{put_request, range_query};
 use kv_model::call::{Compare, Operation, Txn};
-use serde_json::{Map, Value};
+use serde_json::Value;
 use std::alloc::Global;
 
 /// How many transactions may lie in one another: more than a JSON text nests.
 const MOST_NESTED: u8 = 127;
 
 /// What an operation asks for, with the object of its fields.
+#[derive(Drop)]
 enum Kind<'v> {
-    Range(&'v Map<String, Value>),
-    Put(&'v Map<String, Value>),
-    Delete(&'v Map<String, Value>),
-    Inner(&'v Map<String, Value>),
+    Range(Object<'v>),
+    Put(Object<'v>),
+    Delete(Object<'v>),
+    Inner(Object<'v>),
 }
 
 /// Reads the fields `compare`, `success` and `failure`, in this order (the etcd documentation, TxnRequest), and the
 /// transactions that lie within. The first fault counts: `BadField` or `BadBase64`. An operation is of one kind, or it is
 /// `BadField` of its list. `Memory` comes where a growth finds no memory. Linear in the number of compares and operations.
-pub(crate) fn txn_request(alloc: Global, object: &Map<String, Value>) -> Result<Txn, Bad>
+pub(crate) fn txn_request(alloc: Global, object: &Object<'_>) -> Result<Txn, Bad>
     ensures { Gives txn_view result
-        (requests.txn_request requests.most_nested (members_view object.now.entries)) }
+        (requests.txn_request requests.most_nested (seen object.now)) }
 {
     txn_within(alloc, object, MOST_NESTED)
 }
@@ -41,9 +44,9 @@ pub(crate) fn txn_request(alloc: Global, object: &Map<String, Value>) -> Result<
 /// The transaction, where so many may lie in one another.
 #[cycle(transacting)]
 #[tactic(auto, unfolding(crate::specs::Fields::snake_of))]
-fn txn_within(alloc: Global, object: &Map<String, Value>, depth: u8) -> Result<Txn, Bad>
+fn txn_within(alloc: Global, object: &Object<'_>, depth: u8) -> Result<Txn, Bad>
     ensures { Gives txn_view result
-        (requests.txn_request depth (members_view object.now.entries)) }
+        (requests.txn_request depth (seen object.now)) }
 {
     if depth == 0 {
         return Err(Bad::NotJson);
@@ -60,16 +63,25 @@ fn txn_within(alloc: Global, object: &Map<String, Value>, depth: u8) -> Result<T
 
 /// The operations of a list, where so many transactions may lie in one another.
 #[cycle(transacting)]
-fn branch(
+fn branch(alloc: Global, object: &Object<'_>, list: Field, depth: u8) -> Result<Vec<Operation>, Bad>
+    ensures { Gives (λ operations. ops_view operations.items) result
+        (requests.branch (requests.txn_request depth) (snake_of list) (seen object.now)) }
+{
+    let values = list_field(object, list)?;
+    operations(alloc, values, list, depth)
+}
+
+/// The operations that these values of a list ask for, where so many transactions may lie in one another.
+#[cycle(transacting)]
+fn operations(
     alloc: Global,
-    object: &Map<String, Value>,
+    values: &[Value],
     list: Field,
     depth: u8,
 ) -> Result<Vec<Operation>, Bad>
     ensures { Gives (λ operations. ops_view operations.items) result
-        (requests.branch (requests.txn_request depth) (snake_of list) (members_view object.now.entries)) }
+        (operations_read (requests.txn_request depth) (snake_of list) (items_view values.now)) }
 {
-    let values = list_field(object, list)?;
     let mut operations = Vec::with_capacity(alloc, values.len())?;
     for value in values {
         let operation = operation(alloc, value, list, depth)?;
@@ -85,10 +97,10 @@ fn operation(alloc: Global, value: &Value, list: Field, depth: u8) -> Result<Ope
         (requests.operation (requests.txn_request depth) (snake_of list) (view value.now)) }
 {
     match kind_of(value, list)? {
-        Kind::Range(object) => Ok(Operation::Range(range_query(alloc, object)?)),
-        Kind::Put(object) => Ok(Operation::Put(put_request(alloc, object)?)),
-        Kind::Delete(object) => Ok(Operation::Delete(delete_request(alloc, object)?)),
-        Kind::Inner(object) => Ok(Operation::Inner(txn_within(alloc, object, depth)?)),
+        Kind::Range(object) => Ok(Operation::Range(range_query(alloc, &object)?)),
+        Kind::Put(object) => Ok(Operation::Put(put_request(alloc, &object)?)),
+        Kind::Delete(object) => Ok(Operation::Delete(delete_request(alloc, &object)?)),
+        Kind::Inner(object) => Ok(Operation::Inner(txn_within(alloc, &object, depth)?)),
     }
 }
 
@@ -97,7 +109,7 @@ fn operation(alloc: Global, value: &Value, list: Field, depth: u8) -> Result<Ope
 fn kind_of<'v>(value: &'v Value, list: Field) -> Result<Kind<'v>, Bad>
     ensures { Gives message_of result (kind_read (snake_of list) (view value.now)) }
 {
-    let object = object_under(value, list)?;
+    let object = &object_under(value, list)?;
     let range = given(object, Field::RequestRange);
     let put = given(object, Field::RequestPut);
     let delete = given(object, Field::RequestDeleteRange);
@@ -118,20 +130,19 @@ fn kind_of<'v>(value: &'v Value, list: Field) -> Result<Kind<'v>, Bad>
     }
 }
 
-/// The members of a value under this name.
-fn object_under<'v>(value: &'v Value, field: Field) -> Result<&'v Map<String, Value>, Bad>
-    ensures { Gives (λ members. members_view members.now.entries) result
-        (object_under (snake_of field) (view value.now)) }
-{
-    value.as_object().ok_or(Bad::BadField(field))
-}
-
 #[tactic(auto, unfolding(crate::specs::Fields::snake_of))]
-fn compares(alloc: Global, object: &Map<String, Value>) -> Result<Vec<Compare>, Bad>
+fn compares(alloc: Global, object: &Object<'_>) -> Result<Vec<Compare>, Bad>
     ensures { Gives (λ compares. compares.items) result
-        (compares_read (members_view object.now.entries)) }
+        (compares_read (seen object.now)) }
 {
     let values = list_field(object, Field::Compare)?;
+    compares_of(alloc, values)
+}
+
+fn compares_of(alloc: Global, values: &[Value]) -> Result<Vec<Compare>, Bad>
+    ensures { Gives (λ compares. compares.items) result
+        (requests.each requests.compare_request (items_view values.now)) }
+{
     let mut compares = Vec::with_capacity(alloc, values.len())?;
     for value in values {
         let compare = compare_request(alloc, value)?;

@@ -3,7 +3,7 @@
 //! Each function here fails for want of memory alone. A body is reserved at once; the base64 of each key and value is
 //! made in a second buffer, which grows to the longest of them, and is copied into the body. So an answer costs two
 //! allocations and a few more as the second buffer grows, and time for the bytes of its body.
-ghost use Rattle.std.specs.Prelude.{◌≡◌, ◌++◌, map, IfOk, OnOk, option_map};
+ghost use Rattle.std.specs.Prelude.{◌≡◌, ◌≤◌, ◌++◌, map, IfOk, OnOk, option_map};
 ghost use Rattle.kv_model.specs.Told as told;
 ghost use Rattle.kv_model.specs.Answers as texts;
 ghost use Rattle.kv_model.specs.Answers.{answered};
@@ -11,15 +11,19 @@ ghost use Rattle.range_view.specs.Replies.{kv_view, reply_view};
 ghost use Rattle.gateway_text.specs.Tokens.{data_tokens};
 ghost use Rattle.gateway_text.specs.Views.{header_data};
 
-use crate::header::Header;
+use crate::header::{Header, digits, room_of as room_of_header};
 use crate::json_text::JsonText;
 use crate::key_value::room_of;
 use kv_model::ids::Ids;
 use range_view::reply::{KvRef, RangeReply};
 use std::alloc::{AllocError, Global};
 
-/// The bytes of a body without its lists, at most.
+/// The bytes of a body without its lists, at most, where it is about a lease.
 pub(crate) const FRAME: usize = 256;
+
+/// The bytes of the names of a Range's answer, at most, without its header and its key-values. Those of the answers to a
+/// Put, a DeleteRange and a Txn are fewer.
+pub(crate) const NAMES: usize = 48;
 
 /// The body of a Range's answer. Its header has the reply's revision.
 #[tactic(auto, using(crate::proofs::Objects::written), unfolding(kv_model::specs::Answers::reply_text))]
@@ -27,7 +31,8 @@ pub fn range_text(alloc: Global, reply: &RangeReply<'_>, ids: &Ids) -> Result<Ve
     ensures { IfOk result (λ v. v.items ≡ (answered ids.now
         (record { reply = told.Reply.range (reply_view reply.now); revision = reply.now.revision })).body) }
 {
-    let mut out = JsonText::with_capacity(alloc, room_for(FRAME, &reply.kvs))?;
+    let frame = frame_of(ids, reply.revision, reply.count);
+    let mut out = JsonText::with_capacity(alloc, room_for(frame, &reply.kvs))?;
     write_range(&mut out, &Header::Whole(*ids, reply.revision), reply)?;
     Ok(out.into_bytes())
 }
@@ -43,9 +48,10 @@ pub fn put_text(
     ensures { IfOk result (λ v. v.items ≡ (answered ids.now
         (record { reply = told.Reply.put (option_map kv_view previous.entry); revision = revision })).body) }
 {
+    let frame = frame_of(ids, revision, 0);
     let room = match &previous {
-        Some(kv) => room_of(kv).saturating_add(FRAME),
-        None => FRAME,
+        Some(kv) => room_of(kv).saturating_add(frame),
+        None => frame,
     };
     let mut out = JsonText::with_capacity(alloc, room)?;
     write_put(&mut out, &Header::Whole(*ids, revision), previous)?;
@@ -65,7 +71,8 @@ pub fn delete_text(
     ensures { IfOk result (λ v. v.items ≡ (answered ids.now
         (record { reply = told.Reply.delete deleted (map kv_view previous.now); revision = revision })).body) }
 {
-    let mut out = JsonText::with_capacity(alloc, room_for(FRAME, previous))?;
+    let frame = frame_of(ids, revision, deleted);
+    let mut out = JsonText::with_capacity(alloc, room_for(frame, previous))?;
     write_delete(&mut out, &Header::Whole(*ids, revision), deleted, previous)?;
     Ok(out.into_bytes())
 }
@@ -114,6 +121,13 @@ pub(crate) fn write_delete(
     out.member("header", header)?;
     out.list_member("prev_kvs", previous)?;
     out.end_object()
+}
+
+/// Room for the text of an answer without its lists, which tells this count.
+pub(crate) fn frame_of(ids: &Ids, revision: u64, count: u64) -> usize
+    ensures { result ≤ 256 }
+{
+    room_of_header(ids, revision) + NAMES + digits(count)
 }
 
 /// So much room, and room for these key-values.

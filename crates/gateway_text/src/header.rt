@@ -1,5 +1,5 @@
 //! The header of an answer.
-ghost use Rattle.std.specs.Prelude.{◌≡◌, ◌++◌, OnOk};
+ghost use Rattle.std.specs.Prelude.{◌≡◌, ◌≤◌, ◌++◌, OnOk};
 ghost use Rattle.kv_model.specs.Answers as answers;
 ghost use Rattle.gateway_text.specs.Tokens.{data_tokens};
 
@@ -27,6 +27,25 @@ impl WriteJson for Header {
             Header::Short(revision) => short_header(out, revision),
         }
     }
+}
+
+/// The bytes of the names of a whole header, at most.
+const NAMES: usize = 64;
+
+/// Room for the text of a whole header.
+pub(crate) fn room_of(ids: &Ids, revision: u64) -> usize
+    ensures { result ≤ 127 }
+{
+    NAMES + digits(ids.cluster) + digits(ids.member) + digits(revision)
+}
+
+/// At least as many as the decimal digits of a number, and at most one more: ten bits have three digits, and five bits of
+/// sixteen are a little more than that.
+pub(crate) fn digits(n: u64) -> usize
+    ensures { result ≤ 21 }
+{
+    let bits = 64 - n.leading_zeros() as usize;
+    bits * 5 / 16 + 1
 }
 
 fn whole_header(out: &mut JsonText, ids: Ids, revision: u64) -> Result<(), AllocError>

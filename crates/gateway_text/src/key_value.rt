@@ -1,15 +1,20 @@
 //! A key-value in an answer.
+use crate::header::digits;
 use crate::json_text::{JsonText, WriteJson};
 use range_view::reply::KvRef;
 use std::alloc::AllocError;
 
-/// The bytes of a key-value's text without its key and value, at most: six names and four numbers.
-const FRAME: usize = 192;
+/// The bytes of a key-value's text without its numbers, its key and its value: six names.
+const NAMES: usize = 88;
+
+/// The bytes of a lease, at most: nineteen digits and a sign.
+const LEASE: usize = 20;
 
 /// Room for the text of a key-value: base64 has four symbols for three bytes.
 pub(crate) fn room_of(kv: &KvRef<'_>) -> usize {
-    let bytes = kv.key.len().saturating_add(kv.value.len());
-    (bytes / 3).saturating_mul(4).saturating_add(FRAME)
+    let groups = kv.key.len() / 3 + kv.value.len() / 3 + 2;
+    let numbers = digits(kv.create) + digits(kv.modified) + digits(kv.version) + LEASE;
+    groups.saturating_mul(4).saturating_add(NAMES + numbers)
 }
 
 /// A key-value (the etcd documentation's KeyValue).

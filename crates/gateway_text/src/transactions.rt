@@ -8,15 +8,15 @@ ghost use Rattle.range_view.specs.Replies.{kv_view, reply_view, replies_view};
 ghost use Rattle.gateway_text.specs.Tokens.{data_tokens, field_tokens};
 ghost use Rattle.gateway_text.specs.Views.{header_data, response_of};
 
-use crate::answers::{FRAME, room_for, write_delete, write_put, write_range};
-use crate::header::Header;
+use crate::answers::{NAMES, frame_of, room_for, write_delete, write_put, write_range};
+use crate::header::{Header, digits};
 use crate::json_text::JsonText;
 use kv_model::ids::Ids;
 use range_view::reply::{KvRef, OpReply, RangeReply};
 use std::alloc::{AllocError, Global};
 
-/// The bytes of a response without its lists, at most: six names and two numbers.
-const RESPONSE: usize = 128;
+/// The bytes of the names of a response, at most: those of its kind and of its header.
+const RESPONSE: usize = 56;
 
 /// The body of a Txn's answer, with the revision after it, whether its compares held, and the answers to the operations
 /// that ran, in order.
@@ -34,7 +34,8 @@ pub fn txn_text(
     ensures { IfOk result (λ v. v.items ≡ (answered ids.now
         (record { reply = told.Reply.txn succeeded (replies_view replies.now); revision = revision })).body) }
 {
-    let mut out = JsonText::with_capacity(alloc, room_of_all(replies, FRAME))?;
+    let frame = frame_of(ids, revision, 0);
+    let mut out = JsonText::with_capacity(alloc, room_of_all(replies, revision, frame))?;
     let header = Header::Whole(*ids, revision);
     write_txn(&mut out, &header, revision, succeeded, replies)?;
     Ok(out.into_bytes())
@@ -165,23 +166,26 @@ fn write_delete_response(
     out.end_object()
 }
 
-/// So much room, and room for these responses.
+/// So much room, and room for these responses at a revision.
 #[cycle(room)]
-fn room_of_all(replies: &[OpReply<'_>], room: usize) -> usize {
+fn room_of_all(replies: &[OpReply<'_>], revision: u64, room: usize) -> usize {
     let mut room = room;
     for reply in replies {
-        room = room.saturating_add(room_of_one(reply));
+        room = room.saturating_add(room_of_one(reply, revision));
     }
     room
 }
 
 #[cycle(room)]
-fn room_of_one(reply: &OpReply<'_>) -> usize {
+fn room_of_one(reply: &OpReply<'_>, revision: u64) -> usize {
+    let response = RESPONSE + digits(revision);
     match reply {
-        OpReply::Range(reply) => room_for(RESPONSE, &reply.kvs),
-        OpReply::Put(Some(kv)) => room_for(RESPONSE, &[*kv]),
-        OpReply::Put(None) => RESPONSE,
-        OpReply::Delete { previous, .. } => room_for(RESPONSE, previous),
-        OpReply::Inner { replies, .. } => room_of_all(replies, RESPONSE),
+        OpReply::Range(reply) => room_for(response + NAMES + digits(reply.count), &reply.kvs),
+        OpReply::Put(Some(kv)) => room_for(response, &[*kv]),
+        OpReply::Put(None) => response,
+        OpReply::Delete { deleted, previous } => {
+            room_for(response + NAMES + digits(*deleted), previous)
+        }
+        OpReply::Inner { replies, .. } => room_of_all(replies, revision, response + NAMES),
     }
 }

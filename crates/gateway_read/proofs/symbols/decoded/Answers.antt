@@ -1,18 +1,16 @@
-use Rattle.std.proofs.Common.{◌≡◌, ◌∙◌, true, false, sym}
-use Rattle.base64.specs.GeneralPurpose.{decoded_of}
-use Rattle.gateway_read.proofs.Base64.{has_padding, decoded-padded, decoded-unpadded}
+use Rattle.std.proofs.Common.{sym, ap, ◌∙◌}
+use Rattle.std.specs.List.{list_any}
+use Rattle.gateway_read.specs.Signs.{is_url, is_padding}
+use Rattle.gateway_read.proofs.Signs.{plain, decoded-by}
 use Rattle.gateway_read.proofs.symbols.decoded.Goals as goal
 
-pub returns-then-contains : goal.returns-then-contains
-unfolding decoded_of
-returns-then-contains c =
-    let padded : has_padding c.in_ok-symbols.symbols.items ≡ true =
-    rw (← c.deref.ensures.value) (sym c.contains.ensures.value ∙ c.if-contains.true) in
-    rw (decoded-padded _ _ c.in_ok-symbols.ensures padded, ← c.deref-then-contains.ensures.value) c.decoded_by.ensures
+pub returns-in_ok-standard_symbols : goal.returns-in_ok-standard_symbols
+returns-in_ok-standard_symbols c =
+    let padding = c.signs_of-signs.ensures.padding ∙ ap (list_any is_padding) c.as_bytes.ensures.value in
+    rw (decoded-by c.args.text.now _ _ padding (c.deref.ensures.value ∙ c.in_ok-standard_symbols.ensures)) c.decoded_with.ensures
 
-pub returns : goal.returns
-unfolding decoded_of
-returns c =
-    let bare : has_padding c.in_ok-symbols.symbols.items ≡ false =
-    rw (← c.deref.ensures.value) (sym c.contains.ensures.value ∙ c.if-contains.false) in
-    rw (decoded-unpadded _ _ c.in_ok-symbols.ensures bare, ← c.deref-else-contains.ensures.value) c.decoded_by-else-contains.ensures
+pub returns-else-signs : goal.returns-else-signs
+returns-else-signs c =
+    let padding = c.signs_of-signs.ensures.padding ∙ ap (list_any is_padding) c.as_bytes.ensures.value in
+    let bare = sym (c.signs_of-signs.ensures.url ∙ ap (list_any is_url) c.as_bytes.ensures.value) ∙ c.if-signs.false in
+    rw (decoded-by c.args.text.now _ _ padding (c.as_bytes-else-signs.ensures.value ∙ sym (plain c.args.text.now bare))) c.decoded_with-else-signs.ensures

@@ -1,8 +1,9 @@
 use Rattle.std.proofs.Common.{◌-◌, arith, rules}
-use Rattle.serde_json.specs.View.{view, members_view}
+use Rattle.serde_json.specs.View.{view}
 use Rattle.kv_model.specs.Requests as requests
 use Rattle.kv_model.specs.declared.call.Operation.{the_lemmas}
 use Rattle.gateway_read.specs.Fields.{snake_of}
+use Rattle.gateway_read.specs.Objects.{seen}
 use Rattle.gateway_read.proofs.Transactions.{op_view-Range, op_view-Put, op_view-Delete, op_view-Inner, by_kind, not_nested, nested}
 use Rattle.gateway_read.proofs.transacting.+transacting.Goals as goal
 
@@ -10,19 +11,19 @@ pub txn_within-returns-then-depth-eq0 : goal.txn_within-returns-then-depth-eq0
 txn_within-returns-then-depth-eq0 t c = not_nested c.args.depth _ c.if-depth-eq0.true
 
 pub txn_within-returns-in_err-compare : goal.txn_within-returns-in_err-compare
-txn_within-returns-in_err-compare t c = rw (nested c.args.depth (c.args.depth - 1) (members_view c.args.object.now.entries) (omega (arith, c.if-depth-eq0.false))) (search rules)
+txn_within-returns-in_err-compare t c = rw (nested c.args.depth (c.args.depth - 1) (seen c.args.object.now) (omega (arith, c.if-depth-eq0.false))) (search rules)
 
 pub txn_within-returns-in_err-success : goal.txn_within-returns-in_err-success
 unfolding snake_of
-txn_within-returns-in_err-success t c = rw (nested c.args.depth (c.args.depth - 1) (members_view c.args.object.now.entries) (omega (arith, c.if-depth-eq0.false))) (search rules)
+txn_within-returns-in_err-success t c = rw (nested c.args.depth (c.args.depth - 1) (seen c.args.object.now) (omega (arith, c.if-depth-eq0.false))) (search rules)
 
 pub txn_within-returns-in_err-failure : goal.txn_within-returns-in_err-failure
 unfolding snake_of
-txn_within-returns-in_err-failure t c = rw (nested c.args.depth (c.args.depth - 1) (members_view c.args.object.now.entries) (omega (arith, c.if-depth-eq0.false))) (search rules)
+txn_within-returns-in_err-failure t c = rw (nested c.args.depth (c.args.depth - 1) (seen c.args.object.now) (omega (arith, c.if-depth-eq0.false))) (search rules)
 
 pub txn_within-returns : goal.txn_within-returns
 unfolding snake_of
-txn_within-returns t c = rw (nested c.args.depth (c.args.depth - 1) (members_view c.args.object.now.entries) (omega (arith, c.if-depth-eq0.false))) (search (rules, the_lemmas))
+txn_within-returns t c = rw (nested c.args.depth (c.args.depth - 1) (seen c.args.object.now) (omega (arith, c.if-depth-eq0.false))) (search (rules, the_lemmas))
 
 pub operation-returns-in_err-object : goal.operation-returns-in_err-object
 operation-returns-in_err-object t c = rw (by_kind (requests.txn_request c.args.depth) (snake_of c.args.list) (view c.args.value.now)) (search rules)

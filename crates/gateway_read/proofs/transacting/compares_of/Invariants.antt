@@ -2,7 +2,7 @@ use Rattle.std.proofs.Common.{◌≡◌, drop}
 use Rattle.serde_json.specs.View.{items_view}
 use Rattle.kv_model.specs.Requests.{each, compare_request}
 use Rattle.gateway_read.proofs.Transactions.{with_front}
-use Rattle.gateway_read.proofs.transacting.compares.Given as goal
+use Rattle.gateway_read.proofs.transacting.compares_of.Given as goal
 
 abbrev pub invariant-loop-value : goal.invariant-loop-value
 invariant-loop-value l = with_front l.compares.items (each compare_request (items_view (drop l.value-index l.values))) ≡ each compare_request (items_view l.values)

@@ -1,0 +1,47 @@
+-- The symbols of a base64 text, and those of the same text in the standard alphabet.
+use Rattle.std.proofs.Common.{◌≡◌, ℕ, List, [], ◌∷◌, map, Bool, true, false, true≢false, cond, eqb, refl, sym, arith, ◌∙◌}
+use Rattle.std.proofs.lemmas.Bool.Decides.{nat_tests}
+use Rattle.std.specs.Prelude.{◌||◌}
+use Rattle.std.specs.List.{list_any}
+use Rattle.base64.specs.Engines.{standard, standard_no_pad}
+use Rattle.base64.specs.GeneralPurpose.{decoded_of}
+use Rattle.kv_model.specs.Requests.{decoded, standard_symbol}
+use Rattle.gateway_read.specs.Signs.{is_url, is_padding}
+
+-- two tests of a number, as a symbol's are
+with_tests : (a b : Bool) (x : ℕ) → eqb x 45 ≡ a → eqb x 95 ≡ b → is_padding (cond a 43 (cond b 47 x)) ≡ is_padding x
+with_tests true b x dash line = sym other
+  where
+    other : is_padding x ≡ false
+    other = grind (arith, nat_tests)
+with_tests false true x dash line = sym other
+  where
+    other : is_padding x ≡ false
+    other = grind (arith, nat_tests)
+with_tests false false x dash line = refl
+
+padding_of : (x : ℕ) → is_padding (standard_symbol x) ≡ is_padding x
+padding_of x = with_tests (eqb x 45) (eqb x 95) x refl refl
+
+pub padding-standard : (s : List ℕ) → list_any is_padding (map standard_symbol s) ≡ list_any is_padding s
+padding-standard [] = refl
+padding-standard (x ∷ s) = rw (padding_of x, padding-standard s) refl
+
+either : (a b : Bool) → (a || b) ≡ false → (a ≡ false) × (b ≡ false)
+either true b is = absurd (true≢false is)
+either false b is = (refl, is)
+
+plain_symbol : (x : ℕ) → is_url x ≡ false → standard_symbol x ≡ x
+plain_symbol x is = let tests = either (eqb x 45) (eqb x 95) is in rw (tests.0, tests.1) refl
+
+pub plain : (s : List ℕ) → list_any is_url s ≡ false → map standard_symbol s ≡ s
+plain [] is = refl
+plain (x ∷ s) is = let parts = either (is_url x) (list_any is_url s) is in rw (plain_symbol x parts.0, plain s parts.1) refl
+
+by_engine : (s : List ℕ) → decoded s ≡ decoded_of (cond (list_any is_padding (map standard_symbol s)) standard standard_no_pad) (map standard_symbol s)
+unfolding decoded decoded_of
+by_engine s = refl
+
+-- what a text stands for, by whether it has padding, and by its symbols in the standard alphabet
+pub decoded-by : (s t : List ℕ) (padding : Bool) → padding ≡ list_any is_padding s → t ≡ map standard_symbol s → decoded s ≡ decoded_of (cond padding standard standard_no_pad) t
+decoded-by s t padding has is = by_engine s ∙ rw (has, is, padding-standard s) refl
