@@ -1,12 +1,12 @@
 -- Pairs as they change.
-use Rattle.std.proofs.Common.{◌≡◌, ℕ, ℤ, List, [], ◌∷◌, Bool, true, false, ◌||◌, ◌&&◌, cond, Option, None, Some, unwrap_or, Result, Ok, Err, OnOk, OnErr, refl, sym, ◌∙◌, ap, subst}
+use Rattle.std.proofs.Common.{◌≡◌, ℕ, ℤ, List, [], Bool, true, false, cond, Option, Some, unwrap_or, Result, Ok, Err, OnOk, OnErr, refl, ◌∙◌, ap, subst}
 use Rattle.std.specs.Prelude.{IsSome}
 use Rattle.std.specs.Map.{lookup}
 use Rattle.std.specs.Ordering.{int_cmp, int_eq}
 use Rattle.std.specs.BTreeMap.{is_at}
 use Rattle.std.specs.BTreeSet.{insert_key}
-use Rattle.kv_model.specs.Keys.{key_cmp, same_key}
-use Rattle.lease_keys.specs.Pairs.{Pairs, keys_at, has_pair, AreSet, AreAdded}
+use Rattle.kv_model.specs.Keys.{key_cmp}
+use Rattle.lease_keys.specs.Pairs.{Pairs, keys_at, AreSet, AreAdded}
 
 abbrev pub found : ℤ → Pairs → Option (List (List ℕ))
 found l ps = lookup (is_at (int_cmp l)) ps

@@ -5,7 +5,6 @@ use Rattle.std.specs.Map.{lookup}
 use Rattle.std.specs.Ordering.{int_cmp, int_eq}
 use Rattle.std.specs.BTreeMap.{is_at}
 use Rattle.std.specs.BTreeSet.{insert_key}
-use Rattle.std.specs.Set.{remove_key}
 use Rattle.kv_model.specs.Keys.{key_cmp, same_key}
 
 -- each lease with its keys
@@ -30,7 +29,3 @@ AreAdded l k old new = AreSet l (insert_key key_cmp (keys_at l old) k) old new
 -- a lease has no key any more
 abbrev pub AreForgotten : ℤ → Pairs → Pairs → Type 0
 AreForgotten l old new = AreSet l [] old new
-
--- a lease has a key no more
-abbrev pub AreDropped : ℤ → List ℕ → Pairs → Pairs → Type 0
-AreDropped l k old new = AreSet l (remove_key (is_at (key_cmp k)) (keys_at l old)) old new

@@ -118,9 +118,9 @@ fn add(
     ensures err { OnErr result (leases.new.entries ≡ leases.old.entries) }
 {
     if let Some(keys) = leases.get_mut(&lease) {
-        return keys.add(key);
+        return keys.add(alloc, key);
     }
-    let keys = KeySet::one(alloc, key)?;
+    let keys = KeySet::one(key)?;
     leases.insert(lease, keys)?;
     Ok(())
 }

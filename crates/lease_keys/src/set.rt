@@ -1,8 +1,6 @@
 //! The keys of one lease, in order.
 ghost use Rattle.std.specs.Prelude.{◌≡◌, [], ◌∷◌, map, IfOk, OnOk, OnErr};
-ghost use Rattle.std.specs.BTreeMap.{is_at};
 ghost use Rattle.std.specs.BTreeSet.{insert_key};
-ghost use Rattle.std.specs.Set.{remove_key};
 ghost use Rattle.kv_model.specs.Keys.{key_cmp};
 ghost use Rattle.kv_model.specs.Laws.{IsStrictlyAscending};
 
@@ -11,44 +9,53 @@ use std::alloc::{AllocError, Global};
 use std::collections::BTreeSet;
 use std::marker::Model;
 
-/// The keys of one lease: an ordered set of the standard library.
+/// The keys of one lease. A single one, as most leases have, takes no memory of its own; more stand in an ordered set of the
+/// standard library.
 #[derive(Debug, Drop)]
 pub(crate) struct KeySet {
-    keys: BTreeSet<Bytes>,
+    held: Held,
+}
+
+#[derive(Debug, Drop)]
+enum Held {
+    One(Bytes),
+    Many(BTreeSet<Bytes>),
 }
 
 impl Model for KeySet {
     ghost use Rattle.std.specs.Prelude.{ℕ, List};
+    ghost use Rattle.lease_keys.specs.Sets.{held_keys};
 
     ghost Value = { List (List ℕ) };
 
-    ghost view = { λ s. s.keys.keys };
+    ghost view = { λ s. held_keys s.held };
 }
 
 impl KeySet {
     /// One key.
-    pub(crate) fn one(alloc: Global, key: &Bytes) -> Result<Self, AllocError>
+    pub(crate) fn one(key: &Bytes) -> Result<Self, AllocError>
         ensures { IfOk result (λ s. s ≡ key.now ∷ []) }
     {
-        let mut keys = BTreeSet::new(alloc);
-        keys.insert(key.clone()?)?;
-        Ok(KeySet { keys })
+        Ok(KeySet {
+            held: Held::One(key.clone()?),
+        })
     }
 
     /// Adds a key, where it is not there.
-    pub(crate) fn add(&mut self, key: &Bytes) -> Result<(), AllocError>
+    pub(crate) fn add(&mut self, alloc: Global, key: &Bytes) -> Result<(), AllocError>
         ensures ok { OnOk result (self.new ≡ insert_key key_cmp self.old key.now) }
         ensures err { OnErr result (self.new ≡ self.old) }
     {
-        self.keys.insert(key.clone()?)?;
+        match &mut self.held {
+            Held::One(one) => {
+                let keys = two(alloc, one, key)?;
+                self.held = Held::Many(keys);
+            }
+            Held::Many(keys) => {
+                keys.insert(key.clone()?)?;
+            }
+        }
         Ok(())
-    }
-
-    /// Takes a key out, where it is there. Takes no memory.
-    pub(crate) fn remove(&mut self, key: &Bytes)
-        ensures { self.new ≡ remove_key (is_at (key_cmp key.now)) self.old }
-    {
-        self.keys.remove(key);
     }
 
     /// The keys, ascending.
@@ -56,6 +63,36 @@ impl KeySet {
         ensures keys { IfOk result (λ ks. map (λ k. k.now) ks.items ≡ self.now) }
         ensures ascending { IsStrictlyAscending self.now }
     {
-        self.keys.iter().collect(alloc)
+        match &self.held {
+            Held::One(one) => just(alloc, one),
+            Held::Many(keys) => all(alloc, keys),
+        }
     }
+}
+
+/// A set of two keys, or of one where they are the same.
+fn two(alloc: Global, one: &Bytes, other: &Bytes) -> Result<BTreeSet<Bytes>, AllocError>
+    ensures { IfOk result (λ s. s.keys ≡ insert_key key_cmp (one.now ∷ []) other.now) }
+{
+    let mut keys = BTreeSet::new(alloc);
+    keys.insert(one.clone()?)?;
+    keys.insert(other.clone()?)?;
+    Ok(keys)
+}
+
+/// A key by itself.
+fn just(alloc: Global, one: &Bytes) -> Result<Vec<&Bytes>, AllocError>
+    ensures { IfOk result (λ ks. map (λ k. k.now) ks.items ≡ one.now ∷ []) }
+{
+    let mut keys = Vec::with_capacity(alloc, 1)?;
+    keys.push(one)?;
+    Ok(keys)
+}
+
+/// The keys of a set.
+fn all(alloc: Global, keys: &BTreeSet<Bytes>) -> Result<Vec<&Bytes>, AllocError>
+    ensures keys { IfOk result (λ ks. map (λ k. k.now) ks.items ≡ keys.now.keys) }
+    ensures ascending { IsStrictlyAscending keys.now.keys }
+{
+    keys.iter().collect(alloc)
 }

@@ -4,7 +4,7 @@ ghost use Rattle.range_view.specs.Replies.{kv_view, reply_view};
 ghost use Rattle.request_core.specs.Writing.{AreNext, IsHeldTo};
 ghost use Rattle.kv_model.specs.Step.{last_main};
 ghost use Rattle.kv_model.specs.Wire.{changes_beside};
-ghost use Rattle.std.specs.Prelude.{◌≡◌, false, option_map, ◌<◌, ◌≤◌, length, IfOk, IfErr, OnOk, OnErr};
+ghost use Rattle.std.specs.Prelude.{◌≡◌, [], false, option_map, ◌<◌, ◌≤◌, length, IfOk, IfErr, OnOk, OnErr};
 
 mod deleting;
 mod expiring;
@@ -57,16 +57,26 @@ impl Core {
     ghost use Rattle.kv_model.specs.World.{World, opening};
     ghost use Rattle.kv_model.specs.Stands.{StandsFor};
     ghost use Rattle.kv_model.specs.Step.{perform};
-    ghost use Rattle.request_core.specs.State.{CoreState, IsTold, added_by, held_in, is_spent, with_versions};
+    ghost use Rattle.request_core.specs.State.{CoreState, IsTold, added_by, held_in, is_spent, store_of, with_versions};
+    ghost use Rattle.range_view.specs.Stored.{blank_at};
     ghost use Rattle.request_core.specs.Answers.{Accepts, IsRefusal, IsReadable, answer_view, answer_of, first_refusal, has_changed, is_beside};
 
     /// The store before the first event. Takes no memory.
     pub fn new(alloc: Global) -> Self
         ensures { StandsFor result.store opening }
     {
+        Core::at(alloc, 1)
+    }
+
+    /// A store that has come to a revision and keeps no version and no lease.
+    fn at(alloc: Global, revision: u64) -> Self
+        requires opened { 1 ≤ revision }
+        requires fits { revision ≤ last_main }
+        ensures { result.store ≡ store_of (blank_at revision) (record { leases = []; clock = 0 }) }
+    {
         Core {
             alloc,
-            tables: Tables::new(alloc),
+            tables: Tables::at(alloc, revision),
             book: LeaseBook::new(alloc),
             keys: LeaseKeys::new(alloc),
             stamp: 0,
@@ -257,12 +267,6 @@ fn batch_of(alloc: Global, versions: &[Version]) -> Result<Op, AllocError>
 impl Core {
     /// A core that keeps no version and no lease, at the last revision but one.
     pub(crate) fn at_last_but_one(alloc: Global) -> Self {
-        Core {
-            alloc,
-            tables: Tables::at(alloc, LAST_MAIN - 1),
-            book: LeaseBook::new(alloc),
-            keys: LeaseKeys::new(alloc),
-            stamp: 0,
-        }
+        Core::at(alloc, LAST_MAIN - 1)
     }
 }

@@ -1,4 +1,4 @@
-use Rattle.std.proofs.Common.{◌≡◌, sym, ◌∙◌, ap, map, filter, rules}
+use Rattle.std.proofs.Common.{◌∙◌, ap, map, filter, rules}
 use Rattle.std.specs.Ordering.{int_eq}
 use Rattle.std.proofs.lemmas.Fn.{filter_same}
 use Rattle.kv_model.specs.History.{KeyValue}

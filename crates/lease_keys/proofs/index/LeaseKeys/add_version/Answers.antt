@@ -1,4 +1,4 @@
-use Rattle.std.proofs.Common.{◌≡◌, sym, ◌∙◌, rules, FitsSigned}
+use Rattle.std.proofs.Common.{sym, ◌∙◌, rules, FitsSigned}
 use Rattle.std.proofs.lemmas.Int.{to_z-of_z}
 use Rattle.std.specs.Int.{w64}
 use Rattle.lease_keys.proofs.Pairs.{on_ok}

@@ -1,9 +1,8 @@
-use Rattle.std.proofs.Common.{◌≡◌, Some, None, [], map, IfOk, unwrap_or, sym, ◌∙◌, ap, subst}
+use Rattle.std.proofs.Common.{◌≡◌, [], map, IfOk, unwrap_or, ◌∙◌, ap, subst}
 use Rattle.std.proofs.lemmas.Int.{to_z-of_z}
 use Rattle.std.specs.Int.{w64}
 use Rattle.kv_model.specs.Laws.{IsStrictlyAscending}
 use Rattle.lease_keys.specs.Pairs.{keys_at}
-use Rattle.lease_keys.proofs.Pairs.{found}
 use Rattle.lease_keys.proofs.index.LeaseKeys.keys_of.Goals as goal
 
 pub returns-in-Some-clause-keys : goal.returns-in-Some-clause-keys

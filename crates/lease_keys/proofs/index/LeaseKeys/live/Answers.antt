@@ -1,9 +1,8 @@
 -- The keys that the index has for the lease are enough.
-use Rattle.std.proofs.Common.{◌≡◌, ℤ, ℕ, List, ◌∙◌, ap, sym, subst, map, filter, filter_map, IfOk, false, true, not, pos, rules}
+use Rattle.std.proofs.Common.{◌≡◌, ℕ, List, ◌∙◌, ap, subst, map, filter_map, IfOk, true, rules}
 use Rattle.std.proofs.lemmas.Int.{to_z-of_z}
 use Rattle.std.specs.Int.{w64}
-use Rattle.std.specs.Ordering.{int_eq}
-use Rattle.kv_model.specs.History.{KeyValue, value_at}
+use Rattle.kv_model.specs.History.{value_at}
 use Rattle.range_view.specs.Replies.{kv_view}
 use Rattle.lease_keys.specs.Holding.{under, is_lease}
 use Rattle.lease_keys.proofs.Live.{live-found}
