@@ -1,5 +1,5 @@
 -- A script line by line, and a line word by word.
-use Rattle.std.proofs.Common.{◌≡◌, ℕ, ◌<◌, ◌≤◌, List, [], ◌∷◌, length, None, Some, false, nat_eq, cond, refl, sym, ap, ◌∙◌, arith, get_or}
+use Rattle.std.proofs.Common.{◌≡◌, ℕ, ◌<◌, ◌≤◌, List, [], ◌∷◌, length, None, Some, Bool, true, false, nat_eq, cond, refl, sym, ap, ◌∙◌, arith, get_or}
 use Rattle.std.specs.List.{slice_split, position_or_len, before_first, after_first}
 use Rattle.std.specs.Str.Lines.{lines, lines_of_parts, strip_carriage_return}
 use Rattle.std.proofs.lemmas.Bool.{lt-ltb, le-ltb}
@@ -58,3 +58,8 @@ found_none at text before = sym (position_or_len_is (is at) text (length text) 0
 -- such a line has no line feed before it
 pub whole_line : (text : List ℕ) → length text ≤ position_or_len (is 10) text → before_first (is 10) text ≡ text
 whole_line text none = take_all _ text none
+
+-- a test that is not passed answers so
+pub refuted : (b : Bool) → (b ≡ true → ⊥) → b ≡ false
+refuted true h = absurd (h refl)
+refuted false h = refl

@@ -10,6 +10,7 @@ ghost use Rattle.json_gateway.specs.Runs.{event_view};
 ghost use Rattle.etcd_one.specs.Script as script;
 
 use json_gateway::WireEvent;
+use memchr::memchr;
 use std::alloc::{AllocError, Global};
 use std::str;
 
@@ -158,10 +159,8 @@ fn cut(text: &[u8], at: u8) -> (&[u8], Option<&[u8]>)
 fn index_or_len(text: &[u8], at: u8) -> usize
     ensures { result ≡ position_or_len (script.is at) text.now }
 {
-    for (index, byte) in text.iter().enumerate() {
-        if *byte == at {
-            return index;
-        }
+    match memchr(at, text) {
+        Some(index) => index,
+        None => text.len(),
     }
-    text.len()
 }

@@ -1,12 +1,42 @@
 -- The symbols of a base64 text, and those of the same text in the standard alphabet.
-use Rattle.std.proofs.Common.{◌≡◌, ℕ, List, [], ◌∷◌, map, Bool, true, false, true≢false, cond, eqb, refl, sym, arith, ◌∙◌}
+use Rattle.std.proofs.Common.{◌≡◌, ℕ, zero, suc, ◌<◌, List, [], ◌∷◌, length, get_or, map, Option, None, Some, is_some, Bool, true, false, true≢false, cond, eqb, refl, sym, arith, ◌∙◌}
 use Rattle.std.proofs.lemmas.Bool.Decides.{nat_tests}
 use Rattle.std.specs.Prelude.{◌||◌}
 use Rattle.std.specs.List.{list_any}
+use Rattle.memchr.specs.Find.{IsFirstByte, IsLastByte}
 use Rattle.base64.specs.Engines.{standard, standard_no_pad}
 use Rattle.base64.specs.GeneralPurpose.{decoded_of}
 use Rattle.kv_model.specs.Requests.{decoded, standard_symbol}
 use Rattle.gateway_read.specs.Signs.{is_url, is_padding}
+
+-- ---- a byte that a search looks for
+
+either_true : (a b : Bool) → b ≡ true → (a || b) ≡ true
+either_true true b is = refl
+either_true false b is = is
+
+any_at : (p : ℕ → Bool) (xs : List ℕ) (k : ℕ) → k < length xs → p (get_or xs k 0) ≡ true → list_any p xs ≡ true
+any_at p [] k h is = absurd (omega (arith, h))
+any_at p (x ∷ xs) zero h is = rw is refl
+any_at p (x ∷ xs) (suc k) h is = either_true (p x) _ (any_at p xs k (omega (arith, h)) is)
+
+refuted : (b : Bool) → (b ≡ true → ⊥) → b ≡ false
+refuted true h = absurd (h refl)
+refuted false h = refl
+
+any_nowhere : (p : ℕ → Bool) (xs : List ℕ) → ((k : ℕ) → k < length xs → p (get_or xs k 0) ≡ true → ⊥) → list_any p xs ≡ false
+any_nowhere p [] h = refl
+any_nowhere p (x ∷ xs) h = rw (refuted (p x) (h 0 (omega arith)), any_nowhere p xs (λ k below is. h (suc k) (omega (arith, below)) is)) refl
+
+pub some-first : (p : ℕ → Bool) (xs : List ℕ) (r : Option ℕ) → IsFirstByte p xs r → is_some r ≡ list_any p xs
+some-first p xs None h = sym (any_nowhere p xs (λ k below is. h k (omega arith) below is))
+some-first p xs (Some k) h = sym (any_at p xs k h.0.high h.1)
+
+pub some-last : (p : ℕ → Bool) (xs : List ℕ) (r : Option ℕ) → IsLastByte p xs r → is_some r ≡ list_any p xs
+some-last p xs None h = sym (any_nowhere p xs (λ k below is. h k (omega arith) below is))
+some-last p xs (Some k) h = sym (any_at p xs k h.0.high h.1)
+
+-- ---- the symbols of a text
 
 -- two tests of a number, as a symbol's are
 with_tests : (a b : Bool) (x : ℕ) → eqb x 45 ≡ a → eqb x 95 ≡ b → is_padding (cond a 43 (cond b 47 x)) ≡ is_padding x

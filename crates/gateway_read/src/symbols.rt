@@ -1,5 +1,5 @@
 //! Bytes in base64 (RFC 4648).
-ghost use Rattle.std.specs.Prelude.{◌≡◌, ◌||◌, if◌then◌else◌, map, IfOk};
+ghost use Rattle.std.specs.Prelude.{◌≡◌, if◌then◌else◌, map, IfOk};
 ghost use Rattle.std.specs.List.{list_any};
 ghost use Rattle.base64.specs.Engines.{standard, standard_no_pad};
 ghost use Rattle.base64.specs.GeneralPurpose.{decoded_of};
@@ -9,6 +9,7 @@ ghost use Rattle.gateway_read.specs.Signs.{is_url, is_padding};
 use base64::DecodeAllocError;
 use base64::engine::general_purpose::{GeneralPurpose, STANDARD, STANDARD_NO_PAD};
 use bytes::Bytes;
+use memchr::{memchr2, memrchr};
 use std::alloc::{AllocError, Global};
 
 /// The URL alphabet's symbol in the standard alphabet (RFC 4648, sections 4 and 5).
@@ -62,28 +63,15 @@ struct Signs {
     padding: bool,
 }
 
-/// What is in a text, in one pass.
 fn signs_of(text: &[u8]) -> Signs
     ensures url { result.url ≡ list_any is_url text.now }
     ensures padding { result.padding ≡ list_any is_padding text.now }
 {
-    let mut signs = Signs {
-        url: false,
-        padding: false,
-    };
-    for symbol in text {
-        signs = with_symbol(signs, *symbol);
-    }
-    signs
-}
-
-fn with_symbol(signs: Signs, symbol: u8) -> Signs
-    ensures url { result.url ≡ (signs.url || is_url symbol) }
-    ensures padding { result.padding ≡ (signs.padding || is_padding symbol) }
-{
+    let url = memchr2(b'-', b'_', text);
+    let padding = memrchr(b'=', text);
     Signs {
-        url: signs.url | (symbol == b'-') | (symbol == b'_'),
-        padding: signs.padding | (symbol == b'='),
+        url: url.is_some(),
+        padding: padding.is_some(),
     }
 }
 

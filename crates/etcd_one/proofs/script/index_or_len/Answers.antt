@@ -1,9 +1,12 @@
 use Rattle.std.proofs.Common.{arith}
-use Rattle.etcd_one.proofs.Lines.{found_at, found_none}
+use Rattle.std.proofs.lemmas.Bool.{eqb-true}
+use Rattle.etcd_one.proofs.Lines.{found_at, found_none, refuted}
 use Rattle.etcd_one.proofs.script.index_or_len.Goals as goal
 
-pub returns-then-byte-at : goal.returns-then-byte-at
-returns-then-byte-at c = found_at _ _ _ c.loop-index-test.true c.loop-index.invariant c.if-byte-at.true
+pub returns-in-Some : goal.returns-in-Some
+returns-in-Some c =
+    let first = c.in-Some.ensures in
+    found_at _ _ _ first.0.high (λ k h. refuted _ (first.0.before k (omega arith) h)) (eqb-true _ _ first.1)
 
-pub returns : goal.returns
-returns c = found_none _ _ (λ k h. c.loop-index.invariant k (omega (arith, c.loop-index.auto.index-end, c.loop-index-test.false, h)))
+pub returns-in-None : goal.returns-in-None
+returns-in-None c = found_none _ _ (λ k h. refuted _ (c.in-None.ensures k (omega arith) h))
