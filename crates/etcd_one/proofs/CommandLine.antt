@@ -1,5 +1,5 @@
 -- What clap makes of a command whose one subcommand is `replay`, which is required.
-use Rattle.std.proofs.Common.{◌≡◌, ℕ, ◌<◌, List, [], ◌∷◌, length, Bool, true, false, not, ◌&&◌, Option, None, Some, cond, subst, codes, refl, sym, ap, ◌∙◌, arith, is_some, true≢false}
+use Rattle.std.proofs.Common.{◌≡◌, List, [], ◌∷◌, length, Bool, true, false, not, ◌&&◌, Option, None, Some, cond, subst, codes, refl, sym, ap, ◌∙◌, arith, is_some, true≢false}
 use Rattle.std.specs.List.{list_any}
 use Rattle.std.specs.Str.{bytes_eq}
 use Rattle.std.proofs.lemmas.Slice.Eq.{bytes_eq-Decides}

@@ -1,18 +1,17 @@
 -- The digits of a number: what `parse` answers is what a script's definition reads.
-use Rattle.std.proofs.Common.{◌≡◌, ℕ, ◌+◌, ◌-◌, ◌*◌, ◌^◌, ◌<◌, ◌≢◌, List, [], ◌∷◌, length, get_or, Bool, true, false, cond, not, ◌&&◌, nat_lt, None, Some, option_and_then, Result, Ok, Err, refl, sym, ap, ◌∙◌, arith, rules, true≢false}
-use Rattle.std.specs.Prelude.{fold}
+use Rattle.std.proofs.Common.{◌≡◌, ℕ, ◌^◌, ◌<◌, ◌≢◌, List, get_or, Bool, true, false, cond, not, ◌&&◌, nat_lt, None, Some, option_and_then, Result, refl, sym, ap, ◌∙◌, arith}
 use Rattle.std.specs.Bool.{Decides}
 use Rattle.std.specs.Char.{is_ascii_digit}
 use Rattle.std.specs.List.{list_all}
-use Rattle.std.specs.Result.{OkIff, result_ok}
+use Rattle.std.specs.Result.{result_ok}
 use Rattle.std.specs.Str.{IsUtf8}
 use Rattle.std.specs.Str.Parse.{ParsesUnsigned}
 use Rattle.std.proofs.lemmas.Bool.Decides.{Decides-and, Decides-like, nat_tests}
 use Rattle.std.proofs.lemmas.Fmt.{IsAscii-from_digits}
 use Rattle.std.proofs.lemmas.Str.{IsUtf8-from_ascii}
-use Rattle.std.proofs.lemmas.Str.Parse.{IsNumeralModel, numerals_by_fold, parse_plain}
+use Rattle.std.proofs.lemmas.Str.Parse.{parse_plain}
 use Rattle.kv_model.specs.Lists.{is_empty}
-use Rattle.gateway_read.proofs.Integers.{AllDigits, read_on, own, chosen, some_digit}
+use Rattle.gateway_read.proofs.Integers.{read_on, own, chosen, some_digit}
 use Rattle.etcd_one.specs.Script.{if_unsigned_64, number_of}
 
 -- digits, and then a number that fits

@@ -1,6 +1,6 @@
 -- The changes of one command behind a history: what they add to its versions, and why a good part stays good with them.
-use Rattle.std.proofs.Common.{◌≡◌, ◌≤◌, ◌<◌, ◌≢◌, ◌⊎◌, inl, inr, ℕ, zero, suc, ◌+◌, ◌-◌, ◌^◌, List, [], ◌∷◌, ◌++◌, length, Bool, true, false, ◌&&◌, cond, Option, None, Some, option_and_then, filter, map, refl, sym, ◌∙◌, ap, subst, arith, append_assoc}
-use Rattle.std.specs.Prelude.{nat_eq, ◌==◌}
+use Rattle.std.proofs.Common.{◌≡◌, ◌≤◌, ◌<◌, ◌≢◌, ◌⊎◌, inl, inr, ℕ, ◌+◌, ◌-◌, List, [], ◌∷◌, ◌++◌, Bool, true, false, ◌&&◌, cond, Option, None, filter, map, refl, sym, ◌∙◌, ap, subst, arith, append_assoc}
+use Rattle.std.specs.Prelude.{◌==◌}
 use Rattle.std.specs.List.{AllByRecursion}
 use Rattle.std.proofs.lemmas.List.{append-nil}
 use Rattle.std.proofs.lemmas.List.Sums.{fold-append}
@@ -9,20 +9,18 @@ use Rattle.std.proofs.lemmas.Bool.{cases_lt, eqb-true}
 use Rattle.kv_model.specs.declared.version.Rev.{Rev}
 use Rattle.kv_model.specs.declared.version.Version.{Version}
 use Rattle.kv_model.specs.declared.version.KeyRange.{KeyRange}
-use Rattle.kv_model.specs.declared.call.RangeQuery.{RangeQuery}
 use Rattle.kv_model.specs.declared.call.Watched.{Watched}
 use Rattle.kv_model.specs.Lists.{IsPart, nothing, keep, leave}
-use Rattle.kv_model.specs.Keys.{same_key}
-use Rattle.kv_model.specs.History.{Mutation, IsChange, IsBefore, IsHistory, IsBatch, now, now_after, dress, value_at, value_now, end_of, rev_le, rev_lt, KeyValue}
-use Rattle.kv_model.specs.Ranges.{live, range_answer}
+use Rattle.kv_model.specs.History.{Mutation, IsBefore, IsHistory, IsBatch, now, now_after, dress, value_at, value_now, end_of, rev_le, KeyValue}
+use Rattle.kv_model.specs.Ranges.{live}
 use Rattle.kv_model.specs.Events.{WatchEvent, matches, event_of, events_of, before_is_kept}
 use Rattle.kv_model.specs.Txns.{extend, extend_all, next_body, next_version, added_by}
-use Rattle.kv_model.specs.Questions.{Question, IsQuestion, IsRangeAt, IsKept, Answered, answered, IsGood}
+use Rattle.kv_model.specs.Questions.{Question, IsQuestion, IsKept, Answered, answered, IsGood}
 use Rattle.kv_model.proofs.KeyLaws.{live-same}
 use Rattle.kv_model.proofs.GrowthLaws.{dress-extend_all}
 use Rattle.kv_model.proofs.Compacting.{same_ranges}
-use Rattle.kv_model.proofs.PlaceLaws.{AreBy, AreBehind, each-map, each-append, each-part, each-dressed, each-change, mains-by, now-above, rev_le-end, rev_le-after, rev_lt-mains, value_at-by, value_at-behind, value_at-grows, value_now-grows}
-use Rattle.kv_model.proofs.GoodLaws.{dressed-by, dressed-before, part-by, part-value_now, now-kept, good-value_at, good-value_now}
+use Rattle.kv_model.proofs.PlaceLaws.{AreBehind, each-map, each-append, each-part, each-dressed, mains-by, now-above, rev_le-after, rev_lt-mains, value_at-by, value_at-behind, value_at-grows, value_now-grows}
+use Rattle.kv_model.proofs.GoodLaws.{dressed-before, good-value_at, good-value_now}
 
 -- ---- what changes add
 

@@ -1,19 +1,18 @@
 -- A Compact asks for less, so a good part stays good behind it.
-use Rattle.std.proofs.Common.{◌≡◌, ◌≤◌, ◌<◌, ◌≢◌, ℕ, zero, suc, ◌-◌, ℤ, List, [], ◌∷◌, length, Bool, true, false, ◌&&◌, ◌||◌, cond, Option, None, Some, Result, Ok, Err, map, filter, refl, sym, ◌∙◌, ap, subst, arith}
-use Rattle.std.specs.Prelude.{pos, negsuc, nat_lt, nat_le, ◌==◌, ⊤}
+use Rattle.std.proofs.Common.{◌≡◌, ◌≤◌, ℕ, ◌-◌, ℤ, List, [], ◌∷◌, Bool, true, false, ◌&&◌, ◌||◌, cond, Option, None, Some, Ok, map, filter, refl, sym, ◌∙◌, ap, arith}
+use Rattle.std.specs.Prelude.{pos, negsuc, nat_lt, nat_le, ◌==◌}
 use Rattle.std.specs.List.{AllByRecursion}
 use Rattle.std.proofs.lemmas.Bool.{ltb-false}
 use Rattle.std.proofs.lemmas.Bool.Decides.{nat_tests}
 use Rattle.kv_model.specs.declared.version.Version.{Version}
 use Rattle.kv_model.specs.declared.call.Watched.{Watched}
-use Rattle.kv_model.specs.declared.refusal.Refusal.{Refusal}
 use Rattle.kv_model.specs.declared.refusal.Refusal.TheVariants.{Compacted, Future}
 use Rattle.kv_model.specs.History.{Mutation, IsHistory, KeyValue, now, dress, value_at, end_of}
 use Rattle.kv_model.specs.Ranges.{refuse_if}
 use Rattle.kv_model.specs.Events.{WatchEvent, event_of, events_of, before_is_kept}
 use Rattle.kv_model.specs.Calls.{Call}
 use Rattle.kv_model.specs.Told.{Reply}
-use Rattle.kv_model.specs.World.{World, IsSound, revision}
+use Rattle.kv_model.specs.World.{World, revision}
 use Rattle.kv_model.specs.Questions.{Question, IsQuestion, IsKept, Answered, answered, IsGood}
 use Rattle.kv_model.specs.Step.{refused_or, compact_refusal, at_least_zero, compact_in, made_in}
 use Rattle.kv_model.specs.Stands.{Store, StandsFor}

@@ -1,5 +1,5 @@
 -- The deletes of live keys: the keys ascend and are not empty, so their deletes are the changes of one revision.
-use Rattle.std.proofs.Common.{◌≡◌, ◌≤◌, ◌<◌, ◌≢◌, ℕ, zero, suc, ◌+◌, ◌^◌, List, [], ◌∷◌, length, map, Bool, true, false, ◌&&◌, cond, Option, None, Some, option_and_then, is_some, filter, filter_map, refl, sym, ◌∙◌, ap, subst, arith}
+use Rattle.std.proofs.Common.{◌≡◌, ◌≤◌, ◌<◌, ◌≢◌, ℕ, suc, ◌+◌, ◌^◌, List, [], ◌∷◌, length, Bool, true, false, ◌&&◌, cond, Option, None, Some, option_and_then, is_some, filter, filter_map, refl, sym, ◌∙◌, ap, subst, arith}
 use Rattle.std.specs.Option.{option_or}
 use Rattle.std.specs.List.{AllByRecursion, cons_option}
 use Rattle.std.specs.declared.cmp.Ordering.{Ordering}
@@ -12,7 +12,7 @@ use Rattle.kv_model.specs.declared.version.Body.TheVariants.{Put, Gone}
 use Rattle.kv_model.specs.declared.version.KeyRange.{KeyRange}
 use Rattle.kv_model.specs.Lists.{last_that}
 use Rattle.kv_model.specs.Keys.{key_cmp, same_key, in_range}
-use Rattle.kv_model.specs.History.{Mutation, Action, IsChange, IsBefore, IsHistory, IsBatch, KeyValue, shown, key_value, latest, value_at, rev_le}
+use Rattle.kv_model.specs.History.{Mutation, Action, IsBefore, IsHistory, IsBatch, KeyValue, shown, key_value, latest, value_at, rev_le}
 use Rattle.kv_model.specs.Ranges.{insert_key, keys, live, value_within, keys_of}
 use Rattle.kv_model.specs.Txns.{deletes_of}
 use Rattle.kv_model.proofs.HistoryLaws.{same_key-eq}

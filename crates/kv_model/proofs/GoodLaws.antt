@@ -1,5 +1,5 @@
 -- A good part holds, at every revision that is kept, what the whole history holds, and so answers every read as it does.
-use Rattle.std.proofs.Common.{◌≡◌, ◌≤◌, ◌<◌, ◌≢◌, ℕ, zero, suc, ℤ, pos, negsuc, ◌^◌, List, [], ◌∷◌, ◌++◌, Bool, true, false, ◌&&◌, cond, Option, None, Some, option_and_then, filter_map, Ok, Err, refl, sym, ◌∙◌, ap, subst, arith}
+use Rattle.std.proofs.Common.{◌≡◌, ◌≤◌, ◌≢◌, ℕ, zero, suc, ℤ, pos, negsuc, List, [], ◌∷◌, Bool, true, false, cond, Option, None, Some, filter_map, Ok, refl, sym, ◌∙◌, ap, arith}
 use Rattle.std.specs.Prelude.{nat_lt}
 use Rattle.std.proofs.lemmas.Bool.{ltb-false}
 use Rattle.std.specs.Option.{option_or}
@@ -9,10 +9,10 @@ use Rattle.kv_model.specs.declared.version.Version.{Version}
 use Rattle.kv_model.specs.declared.version.KeyRange.{KeyRange}
 use Rattle.kv_model.specs.declared.call.RangeQuery.{RangeQuery}
 use Rattle.kv_model.specs.declared.refusal.Refusal.{Refusal}
-use Rattle.kv_model.specs.declared.refusal.Refusal.TheVariants.{NoKey, Compacted, Future}
+use Rattle.kv_model.specs.declared.refusal.Refusal.TheVariants.{NoKey, Compacted}
 use Rattle.kv_model.specs.Lists.{is_empty, IsPart}
 use Rattle.kv_model.specs.Keys.{same_key, in_range}
-use Rattle.kv_model.specs.History.{Mutation, IsChange, IsHistory, now, dress, value_at, value_now, end_of, rev_le, KeyValue}
+use Rattle.kv_model.specs.History.{Mutation, IsChange, IsHistory, now, dress, value_at, value_now, end_of, rev_le}
 use Rattle.kv_model.specs.Ranges.{keys, live, live_now, value_within, value_now_within, range_reply, reply_from, range_answer, range_refusal, revision_refusal, refuse_if, unless_refused, read_place}
 use Rattle.kv_model.specs.Questions.{IsKept, IsGood}
 use Rattle.kv_model.proofs.HistoryLaws.{same_key-eq}

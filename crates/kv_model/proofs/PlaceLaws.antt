@@ -1,6 +1,5 @@
 -- What a place in the history sees of versions: those behind it count for nothing, and behind all of them it sees the last.
-use Rattle.std.proofs.Common.{◌≡◌, ◌≤◌, ◌<◌, ◌≢◌, ℕ, zero, suc, ◌+◌, ◌-◌, ◌^◌, List, [], ◌∷◌, ◌++◌, Bool, true, false, ◌&&◌, cond, Option, None, Some, option_and_then, filter, map, refl, sym, ◌∙◌, ap, subst, arith}
-use Rattle.std.specs.Prelude.{nat_eq, nat_lt, nat_le}
+use Rattle.std.proofs.Common.{◌≡◌, ◌≤◌, ◌<◌, ℕ, ◌-◌, ◌^◌, List, [], ◌∷◌, ◌++◌, Bool, true, false, ◌&&◌, cond, Option, None, Some, option_and_then, refl, sym, ◌∙◌, ap, arith}
 use Rattle.std.specs.Option.{option_or}
 use Rattle.std.specs.List.{AllByRecursion}
 use Rattle.std.specs.declared.cmp.Ordering.{Ordering}
@@ -11,7 +10,7 @@ use Rattle.kv_model.specs.declared.version.Rev.{Rev}
 use Rattle.kv_model.specs.declared.version.Version.{Version}
 use Rattle.kv_model.specs.Lists.{IsPart, nothing, keep, leave, last_that}
 use Rattle.kv_model.specs.Keys.{same_key}
-use Rattle.kv_model.specs.History.{Mutation, IsChange, IsBefore, IsHistory, now, now_after, dress, dress_after, version_of, latest, value_at, value_now, key_value, rev_le, rev_lt, rev_cmp, end_of, KeyValue}
+use Rattle.kv_model.specs.History.{Mutation, IsChange, IsBefore, IsHistory, now, now_after, dress, dress_after, latest, value_at, value_now, key_value, rev_le, rev_lt, end_of}
 use Rattle.kv_model.proofs.HistoryLaws.{last_that-append}
 
 -- ---- what holds of each element

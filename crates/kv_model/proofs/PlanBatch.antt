@@ -1,24 +1,21 @@
 -- The changes of a path without a clash are the changes of one revision.
-use Rattle.std.proofs.Common.{◌≡◌, ◌≤◌, ◌<◌, ◌≢◌, ℕ, zero, suc, ◌+◌, ◌^◌, List, [], ◌∷◌, ◌++◌, length, map, Bool, true, false, not, ◌&&◌, ◌||◌, cond, Option, None, Some, is_some, filter, refl, sym, ◌∙◌, ap, subst, append_assoc, arith, length-append}
+use Rattle.std.proofs.Common.{◌≡◌, ◌≤◌, ◌<◌, ◌≢◌, ℕ, suc, ◌+◌, ◌^◌, List, [], ◌∷◌, ◌++◌, length, Bool, true, false, not, ◌||◌, cond, is_some, refl, sym, ◌∙◌, ap, subst, arith, length-append}
 use Rattle.std.specs.Prelude.{⊤}
-use Rattle.std.specs.Option.{option_or}
-use Rattle.std.specs.List.{AllByRecursion, list_any, list_all}
-use Rattle.kv_model.specs.declared.version.Rev.{Rev}
+use Rattle.std.specs.List.{AllByRecursion, list_any}
 use Rattle.kv_model.specs.declared.version.Version.{Version}
 use Rattle.kv_model.specs.declared.version.KeyRange.{KeyRange}
 use Rattle.kv_model.specs.declared.call.PutRequest.{PutRequest}
 use Rattle.kv_model.specs.declared.call.DeleteRequest.{DeleteRequest}
 use Rattle.kv_model.specs.Keys.{same_key, in_range, one_key}
-use Rattle.kv_model.specs.History.{Mutation, Action, IsChange, IsBefore, IsHistory, IsBatch, is_put, deletes_key, rev_lt}
+use Rattle.kv_model.specs.History.{Mutation, IsBefore, IsHistory, IsBatch, is_put, deletes_key}
 use Rattle.kv_model.specs.Ranges.{keys, keys_of, live_now, value_now_within}
 use Rattle.kv_model.specs.Txns.{Path, Touch, collides, put_change, deletes_of}
 use Rattle.kv_model.specs.Plans.{path_touches, is_deleted, still_live, planned}
-use Rattle.kv_model.proofs.HistoryLaws.{AllByRecursion-split, same_key-eq}
-use Rattle.kv_model.proofs.KeyLaws.{same-refl, AllAbove, IsAscending}
+use Rattle.kv_model.proofs.KeyLaws.{same-refl}
 use Rattle.kv_model.proofs.PlaceLaws.{each-map, each-append, rev_lt-subs}
 use Rattle.kv_model.proofs.GoodLaws.{each-both}
 use Rattle.kv_model.proofs.DeleteLaws.{AreGiven, given-keys, each-filter, deletes-batch}
-use Rattle.kv_model.proofs.TouchLaws.{touch_of, IsClear, AreClear, clear-one, live_now-keys, still_live-in, still_live-not, still_live-ascends}
+use Rattle.kv_model.proofs.TouchLaws.{touch_of, AreClear, clear-one, live_now-keys, still_live-in, still_live-not, still_live-ascends}
 use Rattle.kv_model.proofs.PlanLaws.{NoClash, inner-clear, clear-front, clear-head, put-clear, delete-clear}
 
 -- ---- histories that are joined

@@ -1,21 +1,19 @@
 -- Where nothing clashes, the changes of a path and its first refusal are told from the state before it.
-use Rattle.std.proofs.Common.{◌≡◌, ◌≤◌, ◌<◌, ◌≢◌, ℕ, zero, suc, ◌+◌, ◌^◌, ℤ, List, [], ◌∷◌, ◌++◌, length, map, Bool, true, false, not, ◌&&◌, ◌||◌, cond, Option, None, Some, refl, sym, ◌∙◌, ap, subst, append_assoc, add-one, arith, length-append}
+use Rattle.std.proofs.Common.{◌≡◌, ℕ, suc, ◌+◌, ℤ, List, [], ◌∷◌, ◌++◌, length, Bool, false, ◌&&◌, ◌||◌, refl, sym, ◌∙◌, ap, subst, append_assoc, add-one, length-append}
 use Rattle.std.specs.Prelude.{is_none, ⊤}
 use Rattle.std.specs.Option.{option_or}
 use Rattle.std.specs.List.{AllByRecursion}
 use Rattle.std.proofs.lemmas.List.{append-nil}
-use Rattle.kv_model.specs.declared.version.Rev.{Rev}
 use Rattle.kv_model.specs.declared.version.Version.{Version}
 use Rattle.kv_model.specs.declared.version.KeyRange.{KeyRange}
 use Rattle.kv_model.specs.declared.call.PutRequest.{PutRequest}
 use Rattle.kv_model.specs.declared.call.DeleteRequest.{DeleteRequest}
-use Rattle.kv_model.specs.declared.refusal.Refusal.{Refusal}
 use Rattle.kv_model.specs.declared.refusal.Refusal.TheVariants.{KeyMissing}
-use Rattle.kv_model.specs.Keys.{same_key, in_range}
-use Rattle.kv_model.specs.History.{Mutation, KeyValue, puts_key, value_now}
+use Rattle.kv_model.specs.Keys.{same_key}
+use Rattle.kv_model.specs.History.{Mutation, puts_key, value_now}
 use Rattle.kv_model.specs.Ranges.{keys_of, live_now, revision_refusal, refuse_if}
 use Rattle.kv_model.specs.Txns.{Path, Touch, collides, extend, extend_all, put_change, put_action, put_refusal, put_lease_refusal, deletes_of, effect, run_refusal}
-use Rattle.kv_model.specs.Plans.{path_touches, is_deleted, still_live, planned, planned_refusal}
+use Rattle.kv_model.specs.Plans.{path_touches, still_live, planned, planned_refusal}
 use Rattle.kv_model.proofs.HistoryLaws.{AllByRecursion-split}
 use Rattle.kv_model.proofs.PlaceLaws.{each-map, each-append}
 use Rattle.kv_model.proofs.GoodLaws.{each-both}

@@ -1,20 +1,15 @@
 -- Lists that hold the same of every key have the same compares, paths, changes and refusals.
-use Rattle.std.proofs.Common.{◌≡◌, ◌≤◌, ◌<◌, ◌≢◌, ℕ, zero, suc, ◌+◌, ℤ, List, [], ◌∷◌, ◌++◌, length, map, Bool, true, false, ◌&&◌, ◌||◌, cond, Option, None, Some, is_some, filter, filter_map, refl, sym, ◌∙◌, ap, subst}
+use Rattle.std.proofs.Common.{◌≡◌, ℕ, suc, ◌+◌, ℤ, List, [], ◌∷◌, ◌++◌, length, Bool, true, false, ◌&&◌, ◌||◌, cond, refl, sym, ◌∙◌, ap}
 use Rattle.std.specs.Prelude.{is_none}
 use Rattle.std.specs.Option.{option_or}
-use Rattle.std.specs.List.{list_all, list_any}
-use Rattle.kv_model.specs.declared.version.Rev.{Rev}
+use Rattle.std.specs.List.{list_all}
 use Rattle.kv_model.specs.declared.version.Version.{Version}
-use Rattle.kv_model.specs.declared.version.KeyRange.{KeyRange}
 use Rattle.kv_model.specs.declared.call.PutRequest.{PutRequest}
 use Rattle.kv_model.specs.declared.call.DeleteRequest.{DeleteRequest}
 use Rattle.kv_model.specs.declared.call.Compare.{Compare}
-use Rattle.kv_model.specs.declared.refusal.Refusal.{Refusal}
 use Rattle.kv_model.specs.declared.refusal.Refusal.TheVariants.{KeyMissing}
-use Rattle.kv_model.specs.Keys.{in_range, same_key}
-use Rattle.kv_model.specs.Lists.{last_that}
-use Rattle.kv_model.specs.History.{Mutation, KeyValue, value_at, value_now, end_of, key_value}
-use Rattle.kv_model.specs.Ranges.{keys, keys_of, live, live_now, value_now_within, value_within, revision_refusal, refuse_if}
+use Rattle.kv_model.specs.History.{Mutation, value_at, value_now, end_of}
+use Rattle.kv_model.specs.Ranges.{keys_of, revision_refusal, refuse_if}
 use Rattle.kv_model.specs.Calls.{Ops}
 use Rattle.kv_model.specs.Txns.{Path, holds, holds_of, path_of, extend, extend_all, added_by, put_change, put_action, put_refusal, put_lease_refusal, delete_changes, deletes_of, effect, run_refusal}
 use Rattle.kv_model.proofs.KeyLaws.{live-same, live_now-same}

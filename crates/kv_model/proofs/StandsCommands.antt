@@ -1,6 +1,5 @@
 -- What a Range, a Put and a DeleteRange are answered and what they change, told over a store that stands for the world.
-use Rattle.std.proofs.Common.{◌≡◌, ◌≤◌, ◌<◌, ◌≢◌, ℕ, zero, suc, ◌+◌, ◌-◌, ◌^◌, List, [], ◌∷◌, ◌++◌, length, map, Bool, true, false, cond, Option, None, Some, Result, Ok, Err, refl, sym, ◌∙◌, ap, subst, arith}
-use Rattle.std.specs.Prelude.{nat_lt, ⊤}
+use Rattle.std.proofs.Common.{◌≡◌, ◌≤◌, ◌<◌, ◌≢◌, ℕ, ◌+◌, ◌^◌, List, [], ◌∷◌, length, cond, Option, None, Some, Ok, Err, refl, sym, ◌∙◌, ap, arith}
 use Rattle.std.specs.Option.{option_or}
 use Rattle.std.proofs.lemmas.Bool.{lt-ltb, le-ltb}
 use Rattle.kv_model.specs.declared.call.RangeQuery.{RangeQuery}
@@ -9,13 +8,13 @@ use Rattle.kv_model.specs.declared.call.DeleteRequest.{DeleteRequest}
 use Rattle.kv_model.specs.declared.refusal.Refusal.{Refusal}
 use Rattle.kv_model.specs.declared.refusal.Refusal.TheVariants.{NoKey, RevisionsSpent}
 use Rattle.kv_model.specs.Lists.{is_empty}
-use Rattle.kv_model.specs.History.{Mutation, IsChange, IsBatch, now, value_at, end_of, KeyValue}
-use Rattle.kv_model.specs.Ranges.{live, keys_of, range_reply, range_answer, range_refusal, refuse_if, unless_refused}
-use Rattle.kv_model.specs.Txns.{put_fault, put_change, deletes_of, delete_changes, previous_value, if_asked}
+use Rattle.kv_model.specs.History.{Mutation, IsBatch, end_of, KeyValue}
+use Rattle.kv_model.specs.Ranges.{live, keys_of, range_reply, refuse_if, unless_refused}
+use Rattle.kv_model.specs.Txns.{put_fault, deletes_of, delete_changes, previous_value, if_asked}
 use Rattle.kv_model.specs.Calls.{Call}
-use Rattle.kv_model.specs.Told.{Reply, Answer}
+use Rattle.kv_model.specs.Told.{Reply}
 use Rattle.kv_model.specs.World.{World, revision, versions, changed}
-use Rattle.kv_model.specs.Step.{Made, last_main, refused_or, commit_at, range_in, put_in, delete_in, made_in, answer_of, world_of, perform}
+use Rattle.kv_model.specs.Step.{last_main, refused_or, commit_at, range_in, put_in, delete_in, made_in, answer_of, world_of, perform}
 use Rattle.kv_model.specs.Stands.{Store, StandsFor, grown}
 use Rattle.kv_model.specs.Stores.{refusal_of_range, reply_of_range, refusal_of_put, reply_of_put, changes_of_put, refusal_of_delete, reply_of_delete, changes_of_delete}
 use Rattle.kv_model.proofs.PlaceLaws.{now-above}

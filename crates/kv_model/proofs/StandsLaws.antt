@@ -1,28 +1,25 @@
 -- What a store that stands for a world may say of it.
-use Rattle.std.proofs.Common.{◌≡◌, ◌≤◌, ◌<◌, ◌≢◌, ℕ, zero, suc, ◌+◌, ◌-◌, ◌^◌, List, [], ◌∷◌, ◌++◌, length, map, Bool, true, false, ◌&&◌, ◌||◌, not, cond, Option, None, Some, Result, Ok, Err, refl, sym, ◌∙◌, ap, subst, arith}
-use Rattle.std.specs.Prelude.{nat_lt, pos, is_none, ⊤}
+use Rattle.std.proofs.Common.{◌≡◌, ◌≤◌, ◌≢◌, ℕ, ◌+◌, List, [], ◌∷◌, ◌++◌, map, ◌&&◌, ◌||◌, not, sym, ◌∙◌, ap, subst, arith}
+use Rattle.std.specs.Prelude.{pos, is_none}
 use Rattle.std.specs.Option.{option_or}
 use Rattle.std.specs.Ordering.{int_eq}
 use Rattle.std.specs.List.{AllByRecursion}
 use Rattle.std.proofs.lemmas.List.Sums.{fold-append}
-use Rattle.std.proofs.lemmas.Bool.{lt-ltb, le-ltb}
 use Rattle.kv_model.specs.declared.version.Version.{Version}
 use Rattle.kv_model.specs.declared.version.KeyRange.{KeyRange}
 use Rattle.kv_model.specs.declared.call.RangeQuery.{RangeQuery}
 use Rattle.kv_model.specs.declared.call.PutRequest.{PutRequest}
 use Rattle.kv_model.specs.declared.call.DeleteRequest.{DeleteRequest}
-use Rattle.kv_model.specs.declared.refusal.Refusal.{Refusal}
-use Rattle.kv_model.specs.declared.refusal.Refusal.TheVariants.{KeyMissing, LeaseMissing, RevisionsSpent}
-use Rattle.kv_model.specs.History.{Mutation, IsChange, IsHistory, IsBatch, now, now_after, dress, value_at, value_now, end_of, KeyValue}
-use Rattle.kv_model.specs.Ranges.{live, live_now, range_answer, range_refusal, range_reply, refuse_if, unless_refused, RangeReply}
-use Rattle.kv_model.specs.Txns.{extend_all, added_by, put_change, put_action, put_refusal, delete_changes, deletes_of}
+use Rattle.kv_model.specs.declared.refusal.Refusal.TheVariants.{KeyMissing, LeaseMissing}
+use Rattle.kv_model.specs.History.{Mutation, IsChange, IsBatch, now, now_after, value_at, value_now, end_of, KeyValue}
+use Rattle.kv_model.specs.Ranges.{live, live_now, range_answer, range_refusal, refuse_if}
+use Rattle.kv_model.specs.Txns.{put_change, put_action, put_refusal, delete_changes, deletes_of}
 use Rattle.kv_model.specs.Leases.{is_granted}
-use Rattle.kv_model.specs.World.{World, Watch, IsSound, revision, versions, changed}
-use Rattle.kv_model.specs.Questions.{IsKept, IsGood}
+use Rattle.kv_model.specs.World.{World, Watch, revision, versions, changed}
 use Rattle.kv_model.specs.Stands.{Store, Tracked, TracksAll, StandsFor, grown}
 use Rattle.kv_model.proofs.PlaceLaws.{AreBy, each-map, each-part, each-dressed, each-change, value_at-by}
 use Rattle.kv_model.proofs.GoodLaws.{dressed-by, part-by, now-kept, good-value_at, good-value_now, good-live, good-range_answer, live_now-by}
-use Rattle.kv_model.proofs.BatchLaws.{good-grows, good-added, history-more, now-least, now-grows}
+use Rattle.kv_model.proofs.BatchLaws.{good-grows, history-more, now-least}
 
 -- ---- what is read
 

@@ -1,23 +1,20 @@
 -- What the calls of leases are answered and change, told over a store that stands for the world.
-use Rattle.std.proofs.Common.{◌≡◌, ◌≤◌, ◌<◌, ◌≢◌, ℕ, ◌+◌, ◌^◌, ℤ, List, [], ◌∷◌, ◌++◌, length, map, Bool, true, false, not, cond, Option, None, Some, Result, Ok, Err, filter, refl, sym, ◌∙◌, ap, subst, arith}
-use Rattle.std.specs.Prelude.{nat_lt, nat_le, pos, negsuc, min, max}
+use Rattle.std.proofs.Common.{◌≡◌, ◌≤◌, ℕ, ◌+◌, ◌^◌, ℤ, List, [], length, map, Bool, not, Option, None, Some, Ok, filter, refl, sym, ◌∙◌, ap, arith}
+use Rattle.std.specs.Prelude.{nat_lt, nat_le, pos, min, max}
 use Rattle.std.specs.Option.{option_or}
 use Rattle.std.specs.Ordering.{int_eq}
-use Rattle.std.proofs.lemmas.List.{length-map}
-use Rattle.kv_model.specs.declared.refusal.Refusal.{Refusal}
 use Rattle.kv_model.specs.declared.refusal.Refusal.TheVariants.{TtlTooLarge, LeaseExists, TooManyLeases, LeaseMissing}
 use Rattle.kv_model.specs.Keys.{all_keys}
-use Rattle.kv_model.specs.History.{Mutation, IsBatch, now, end_of, KeyValue}
+use Rattle.kv_model.specs.History.{IsBatch, end_of, KeyValue}
 use Rattle.kv_model.specs.Ranges.{live, refuse_if}
 use Rattle.kv_model.specs.Txns.{deletes_of, if_asked}
 use Rattle.kv_model.specs.Calls.{Call}
 use Rattle.kv_model.specs.Told.{Reply}
 use Rattle.kv_model.specs.Leases.{Lease, is_granted, lease_at, id_asked, ttl_asked, deadline_of, longest_ttl, most_leases, insert_lease, without_lease, keys_of_lease, renewed, seconds_left, due}
 use Rattle.kv_model.specs.World.{World, revision, versions, changed, at_moment}
-use Rattle.kv_model.specs.Step.{Made, last_main, refused_or, commit_at, grant_in, revoke_in, keep_alive_in, time_to_live_in, made_in}
+use Rattle.kv_model.specs.Step.{refused_or, commit_at, grant_in, revoke_in, keep_alive_in, time_to_live_in, made_in}
 use Rattle.kv_model.specs.Stands.{Store, StandsFor, grown}
 use Rattle.kv_model.specs.Stores.{with_leases, refusal_of_grant, granted_lease, refusal_of_revoke, changes_of_revoke, renewed_leases, reply_of_time_to_live, reply_of_leases, at_store_moment}
-use Rattle.kv_model.proofs.PlaceLaws.{now-above}
 use Rattle.kv_model.proofs.DeleteLaws.{live-ascends, live-given, ascending-some, given-some, deletes-batch}
 use Rattle.kv_model.proofs.StandsLaws.{store-given, live_stands, grown_stands}
 use Rattle.kv_model.proofs.StandsCommands.{store-one}

@@ -1,24 +1,20 @@
 -- A watch that is made: what it has still to be told of is found in the versions that are kept.
-use Rattle.std.proofs.Common.{◌≡◌, ◌≤◌, ◌<◌, ◌≢◌, ◌⊎◌, inl, inr, ℕ, zero, suc, ◌+◌, ℤ, List, [], ◌∷◌, ◌++◌, length, map, filter, Bool, true, false, ◌&&◌, ◌||◌, cond, Option, None, Some, Result, Ok, Err, refl, sym, ◌∙◌, ap, subst, arith}
-use Rattle.std.specs.Prelude.{nat_lt, nat_le, ◌==◌, MatchBool, ⊤}
+use Rattle.std.proofs.Common.{◌≡◌, ◌≤◌, ℕ, suc, ◌+◌, ℤ, List, [], ◌∷◌, ◌++◌, length, map, filter, Bool, true, false, ◌&&◌, cond, refl, sym, ◌∙◌, ap, arith}
+use Rattle.std.specs.Prelude.{nat_lt, nat_le, MatchBool, ⊤}
 use Rattle.std.specs.List.{AllByRecursion}
 use Rattle.std.proofs.lemmas.Bool.{eq-eqb, ltb-false}
 use Rattle.std.proofs.lemmas.Bool.Decides.{nat_tests}
 use Rattle.kv_model.specs.declared.version.Version.{Version}
 use Rattle.kv_model.specs.declared.call.Watched.{Watched}
-use Rattle.kv_model.specs.declared.refusal.Refusal.TheVariants.{TooManyWatches}
 use Rattle.kv_model.specs.Lists.{IsPart, nothing, keep, leave}
 use Rattle.kv_model.specs.History.{Mutation, IsChange, IsHistory, now, dress}
-use Rattle.kv_model.specs.Ranges.{refuse_if}
-use Rattle.kv_model.specs.Events.{WatchEvent, matches, event_of, events_of}
-use Rattle.kv_model.specs.Questions.{IsKept, IsGood}
-use Rattle.kv_model.specs.World.{World, Watch, IsSound, revision, versions}
+use Rattle.kv_model.specs.Events.{WatchEvent, matches}
+use Rattle.kv_model.specs.Questions.{IsGood}
+use Rattle.kv_model.specs.World.{World, Watch, revision, versions}
 use Rattle.kv_model.specs.Watches.{undelivered}
-use Rattle.kv_model.specs.Calls.{Call}
-use Rattle.kv_model.specs.Told.{Reply}
-use Rattle.kv_model.specs.Step.{refused_or, most_watches, last_main, start_of, watched_range, new_watch, watch_in, made_in}
+use Rattle.kv_model.specs.Step.{start_of}
 use Rattle.kv_model.specs.Stands.{Store, Tracked, TracksNext, Tracks, TracksAll, StandsFor, first_main_of, ahead_of}
-use Rattle.kv_model.specs.Stores.{refusal_of_watch, watch_made, tracked_made, with_watch}
+use Rattle.kv_model.specs.Stores.{watch_made, tracked_made, with_watch}
 use Rattle.kv_model.proofs.PlaceLaws.{each-map, each-dressed, each-change, above-one}
 use Rattle.kv_model.proofs.BatchLaws.{is_told, good-events, dressed-mains}
 use Rattle.kv_model.proofs.CompactLaws.{versions-told}

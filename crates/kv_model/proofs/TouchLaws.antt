@@ -1,20 +1,19 @@
 -- What changes leave of the keys that they do not touch.
-use Rattle.std.proofs.Common.{◌≡◌, ◌≢◌, ℕ, zero, suc, ◌+◌, List, [], ◌∷◌, ◌++◌, length, map, Bool, true, false, not, ◌&&◌, ◌||◌, cond, Option, None, Some, option_and_then, is_some, filter, filter_map, refl, sym, ◌∙◌, ap, subst}
+use Rattle.std.proofs.Common.{◌≡◌, ℕ, suc, List, [], ◌∷◌, ◌++◌, Bool, true, false, not, ◌&&◌, ◌||◌, cond, Option, None, Some, option_and_then, is_some, filter, refl, sym, ◌∙◌, ap, subst}
 use Rattle.std.specs.Option.{option_or}
-use Rattle.std.specs.List.{AllByRecursion, list_any}
-use Rattle.kv_model.specs.declared.version.Rev.{Rev}
+use Rattle.std.specs.List.{AllByRecursion}
 use Rattle.kv_model.specs.declared.version.Version.{Version}
 use Rattle.kv_model.specs.declared.version.KeyRange.{KeyRange}
 use Rattle.kv_model.specs.Lists.{last_that}
 use Rattle.kv_model.specs.Keys.{same_key, in_range, one_key}
-use Rattle.kv_model.specs.History.{Mutation, Action, KeyValue, is_put, puts_key, deletes_key, key_value, shown, value_now}
+use Rattle.kv_model.specs.History.{Mutation, Action, KeyValue, is_put, puts_key, key_value, shown, value_now}
 use Rattle.kv_model.specs.Ranges.{keys, keys_of, live_now, value_now_within}
 use Rattle.kv_model.specs.Txns.{Touch, collides, next_body, next_version, extend, extend_all, deletes_of}
 use Rattle.kv_model.specs.Plans.{is_deleted, still_live}
 use Rattle.kv_model.proofs.HistoryLaws.{last_that-append, same_key-eq}
 use Rattle.kv_model.proofs.KeyLaws.{has_key, IsAscending, same_keys, ascending-filter, ascending-keys, has_key-filter, now_within-some, value_now-has_key}
 use Rattle.kv_model.proofs.SmallLaws.{same_key-comm}
-use Rattle.kv_model.proofs.PlaceLaws.{each-map, each-append}
+use Rattle.kv_model.proofs.PlaceLaws.{each-map}
 use Rattle.kv_model.proofs.DeleteLaws.{mapped-keys, each-filter, last_that-passes, shown-key}
 
 -- ---- what a change touches

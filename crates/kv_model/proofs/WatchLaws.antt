@@ -1,18 +1,17 @@
 -- What a store holds of its watches, as it grows.
-use Rattle.std.proofs.Common.{◌≡◌, ◌≤◌, ◌<◌, ◌≢◌, ℕ, zero, suc, ◌+◌, List, [], ◌∷◌, ◌++◌, length, map, filter, Bool, true, false, ◌&&◌, cond, Option, None, Some, refl, sym, ◌∙◌, ap, subst, arith}
+use Rattle.std.proofs.Common.{◌≡◌, ◌≤◌, ℕ, ◌+◌, List, [], ◌∷◌, ◌++◌, map, filter, Bool, true, false, ◌&&◌, cond, None, Some, refl, sym, ◌∙◌, ap, subst, arith}
 use Rattle.std.specs.Prelude.{nat_lt, nat_le, MatchBool, ⊤}
 use Rattle.std.specs.Option.{option_or}
 use Rattle.std.specs.List.{AllByRecursion}
 use Rattle.std.proofs.lemmas.List.Elements.{filter-append}
 use Rattle.std.proofs.lemmas.Bool.Decides.{nat_tests}
 use Rattle.kv_model.specs.declared.version.Version.{Version}
-use Rattle.kv_model.specs.declared.call.Watched.{Watched}
-use Rattle.kv_model.specs.History.{Mutation, IsBatch, IsHistory, now, now_after, dress}
+use Rattle.kv_model.specs.History.{Mutation, IsBatch, now, now_after}
 use Rattle.kv_model.specs.Events.{matches}
-use Rattle.kv_model.specs.Txns.{extend_all, added_by}
-use Rattle.kv_model.specs.World.{World, Watch, IsSound, revision, versions, changed}
+use Rattle.kv_model.specs.Txns.{added_by}
+use Rattle.kv_model.specs.World.{World, Watch, revision, versions, changed}
 use Rattle.kv_model.specs.Watches.{undelivered}
-use Rattle.kv_model.specs.Stands.{Store, Tracked, TracksNext, Tracks, TracksAll, StandsFor, first_main_of, ahead_of, is_reached, still_ahead, noted, grown, grown_noted}
+use Rattle.kv_model.specs.Stands.{Store, Tracked, TracksNext, Tracks, TracksAll, StandsFor, first_main_of, ahead_of, is_reached, still_ahead, noted, grown_noted}
 use Rattle.kv_model.proofs.PlaceLaws.{each-map}
 use Rattle.kv_model.proofs.BatchLaws.{history-more, now-least, good-grows, dress-added, added_by-same, each-added}
 use Rattle.kv_model.proofs.StandsLaws.{value_now_stands, grown_revision}

@@ -3,7 +3,6 @@ use Rattle.std.specs.Prelude.{ℕ, zero, suc, ◌+◌, ◌-◌, ◌*◌, ◌^◌
 use Rattle.std.specs.Option.{option_or}
 use Rattle.std.specs.List.{list_any, list_all}
 use Rattle.std.specs.Result.{result_ok}
-use Rattle.std.specs.Ordering.{int_eq}
 use Rattle.std.specs.Char.{is_ascii_digit, to_ascii_uppercase}
 use Rattle.std.specs.Str.{is_utf8}
 use Rattle.serde_json.specs.Data.{Num, Data, Items, Members}

@@ -1,4 +1,4 @@
-use Rattle.std.proofs.Common.{◌≡◌, ◌∙◌, List, [], map, string_bytes, length, ap, sym}
+use Rattle.std.proofs.Common.{◌≡◌, ◌∙◌, [], map, string_bytes, length, ap, sym}
 use Rattle.std.proofs.lemmas.List.{length-map}
 use Rattle.clap.specs.Faults.{fault_of, is_simple_and_free}
 use Rattle.clap.specs.Simple.{App}
