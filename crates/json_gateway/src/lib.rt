@@ -12,4 +12,3 @@ pub use kv_model::refusal::Refusal;
 pub use outcome::{Outcome, Reply, Settled};
 pub use request_core::answer::Expiry;
 pub use wire::{WireEvent, WireOutcome, WireRun, run_wire};
-
