@@ -7,12 +7,12 @@ use Rattle.kv_model.specs.declared.version.Version.{Version}
 use Rattle.kv_model.specs.Keys.{same_key}
 use Rattle.kv_model.specs.History.{rev_lt}
 use Rattle.key_index.specs.declared.revisions.Mark.{Mark}
-use Rattle.key_index.specs.Marks.{IsBehind, undone}
-use Rattle.key_index.specs.Index.{Index, marks, with_mark, without_front, retracted}
+use Rattle.key_index.specs.Marks.{IsBehind, undone, without}
+use Rattle.key_index.specs.Index.{Index, marks, with_mark, without_front, without_mark, retracted}
 use Rattle.key_index.specs.Agrees.{mark_of, marks_of, Agrees}
-use Rattle.key_index.proofs.Marks.{undone-append}
+use Rattle.key_index.proofs.Marks.{IsAbove, undone-append, without-middle}
 use Rattle.key_index.proofs.Keys.{same-eq}
-use Rattle.key_index.proofs.Entries.{index-with_mark, index-with_marks, index-retracted, marks-with_mark, marks-without_front, marks-retracted, changes_key}
+use Rattle.key_index.proofs.Entries.{index-with_mark, index-with_marks, index-retracted, marks-with_mark, marks-without_front, marks-without_mark, marks-retracted, changes_key}
 
 -- ---- the revisions of a list of versions
 
@@ -26,7 +26,7 @@ marks_of-append k (x ∷ xs) ys = by (same_key x.key k) (marks_of-append k xs ys
     by true rest = ap (λ ms. mark_of x ∷ ms) rest
     by false rest = rest
 
-marks_of-cons : (k : List ℕ) (v : Version) (vs : List Version) → marks_of k (v ∷ vs) ≡ cond (same_key v.key k) (mark_of v ∷ marks_of k vs) (marks_of k vs)
+pub marks_of-cons : (k : List ℕ) (v : Version) (vs : List Version) → marks_of k (v ∷ vs) ≡ cond (same_key v.key k) (mark_of v ∷ marks_of k vs) (marks_of k vs)
 marks_of-cons k v vs = by (same_key v.key k)
   where
     by : (b : Bool) → map mark_of (cond b (v ∷ filter (λ w. same_key w.key k) vs) (filter (λ w. same_key w.key k) vs)) ≡ cond b (mark_of v ∷ marks_of k vs) (marks_of k vs)
@@ -45,6 +45,14 @@ behind-marks_of p k [] h = tt
 behind-marks_of p k (v ∷ vs) h = subst (IsBehind p) (sym (marks_of-cons k v vs)) (by (same_key v.key k) (behind-marks_of p k vs h.1))
   where
     by : (b : Bool) → IsBehind p (marks_of k vs) → IsBehind p (cond b (mark_of v ∷ marks_of k vs) (marks_of k vs))
+    by true rest = (h.0, rest)
+    by false rest = rest
+
+above-marks_of : (p : Rev) (k : List ℕ) (vs : List Version) → AllByRecursion (λ v. rev_lt p v.rev ≡ true) vs → IsAbove p (marks_of k vs)
+above-marks_of p k [] h = tt
+above-marks_of p k (v ∷ vs) h = subst (IsAbove p) (sym (marks_of-cons k v vs)) (by (same_key v.key k) (above-marks_of p k vs h.1))
+  where
+    by : (b : Bool) → IsAbove p (marks_of k vs) → IsAbove p (cond b (mark_of v ∷ marks_of k vs) (marks_of k vs))
     by true rest = (h.0, rest)
     by false rest = rest
 
@@ -85,6 +93,25 @@ drop_front-agrees i xs v ys a h = record {
         let none : marks_of k xs ≡ [] = ap (λ j. marks_of j xs) (sym (same-eq v.key k e)) ∙ h in
         ap (λ ms. drop 1 (ms ++ mark_of v ∷ marks_of k ys)) none ∙ ap (λ ms. ms ++ marks_of k ys) (sym none)
     by k false e = refl
+
+-- ---- a version goes
+
+-- from wherever it stands
+pub remove-agrees : (i : Index) (xs : List Version) (v : Version) (ys : List Version) → Agrees i (xs ++ v ∷ ys)
+    → AllByRecursion (λ u. rev_lt u.rev v.rev ≡ true) xs → AllByRecursion (λ u. rev_lt v.rev u.rev ≡ true) ys → Agrees (without_mark v.key v.rev i) (xs ++ ys)
+remove-agrees i xs v ys a h g = record {
+  sound = index-with_marks v.key (without v.rev (marks v.key i)) i a.sound;
+  each = λ k. marks-without_mark v.rev v.key i a.sound k
+      ∙ ap (λ ms. cond (same_key v.key k) (without v.rev ms) ms) (a.each k ∙ marks_of-append k xs (v ∷ ys) ∙ ap (λ ms. marks_of k xs ++ ms) (marks_of-cons k v ys))
+      ∙ by k (same_key v.key k)
+      ∙ sym (marks_of-append k xs ys);
+}
+  where
+    by : (k : List ℕ) (b : Bool)
+        → cond b (without v.rev (marks_of k xs ++ cond b (mark_of v ∷ marks_of k ys) (marks_of k ys))) (marks_of k xs ++ cond b (mark_of v ∷ marks_of k ys) (marks_of k ys))
+        ≡ marks_of k xs ++ marks_of k ys
+    by k true = without-middle (marks_of k xs) (mark_of v) (marks_of k ys) (behind-marks_of v.rev k xs h) (above-marks_of v.rev k ys g)
+    by k false = refl
 
 -- ---- a main revision is taken back
 

@@ -12,8 +12,9 @@ use Rattle.kv_model.specs.declared.version.Version.{Version}
 use Rattle.kv_model.specs.Lists.{is_empty}
 use Rattle.kv_model.specs.Keys.{key_cmp, same_key}
 use Rattle.key_index.specs.declared.revisions.Mark.{Mark}
-use Rattle.key_index.specs.Marks.{undone}
-use Rattle.key_index.specs.Index.{Index, IsIndex, found, marks, added, with_mark, with_marks, without_front, undone_at, retracted}
+use Rattle.kv_model.specs.declared.version.Rev.{Rev}
+use Rattle.key_index.specs.Marks.{undone, without}
+use Rattle.key_index.specs.Index.{Index, IsIndex, found, marks, added, with_mark, with_marks, without_front, without_mark, undone_at, retracted}
 use Rattle.key_index.proofs.Marks.{undone-undone}
 use Rattle.key_index.proofs.Keys.{same-eq, less-greater, eq-same}
 
@@ -246,6 +247,9 @@ marks-with_marks k (m ∷ ms) i h a q = by (found k i) refl
 pub absent-front : (k : List ℕ) (i : Index) → found k i ≡ None → drop 1 (marks k i) ≡ []
 absent-front k i e = ap (λ o. drop 1 (unwrap_or o [])) e
 
+pub absent-without : (p : Rev) (k : List ℕ) (i : Index) → found k i ≡ None → without p (marks k i) ≡ []
+absent-without p k i e = ap (λ o. without p (unwrap_or o [])) e
+
 pub absent-undone : (main : ℕ) (k : List ℕ) (i : Index) → found k i ≡ None → undone main (marks k i) ≡ []
 absent-undone main k i e = ap (λ o. undone main (unwrap_or o [])) e
 
@@ -254,6 +258,13 @@ marks-without_front k i h q = marks-with_marks k (drop 1 (marks k i)) i h (absen
   where
     by : (b : Bool) → same_key k q ≡ b → cond b (drop 1 (marks k i)) (marks q i) ≡ cond b (drop 1 (marks q i)) (marks q i)
     by true e = ap (λ j. drop 1 (marks j i)) (same-eq k q e)
+    by false e = refl
+
+pub marks-without_mark : (p : Rev) (k : List ℕ) (i : Index) → IsIndex i → (q : List ℕ) → marks q (without_mark k p i) ≡ cond (same_key k q) (without p (marks q i)) (marks q i)
+marks-without_mark p k i h q = marks-with_marks k (without p (marks k i)) i h (absent-without p k i) q ∙ by (same_key k q) refl
+  where
+    by : (b : Bool) → same_key k q ≡ b → cond b (without p (marks k i)) (marks q i) ≡ cond b (without p (marks q i)) (marks q i)
+    by true e = ap (λ j. without p (marks j i)) (same-eq k q e)
     by false e = refl
 
 marks-undone_at : (main : ℕ) (k : List ℕ) (i : Index) → IsIndex i → (q : List ℕ) → marks q (undone_at main k i) ≡ cond (same_key k q) (undone main (marks q i)) (marks q i)

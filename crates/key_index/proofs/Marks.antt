@@ -1,5 +1,5 @@
 -- Rising revisions of one key.
-use Rattle.std.proofs.Common.{◌≡◌, ◌≢◌, ℕ, zero, suc, ◌<◌, ◌≤◌, ◌-◌, List, [], ◌∷◌, ◌++◌, length, get_or, Bool, true, false, ◌&&◌, ◌==◌, cond, Option, None, Some, option_map, Bor, refl, sym, ◌∙◌, ap, subst, arith, length-append}
+use Rattle.std.proofs.Common.{◌≡◌, ◌≢◌, ℕ, zero, suc, ◌<◌, ◌≤◌, ◌-◌, List, [], ◌∷◌, ◌++◌, length, get_or, Bool, true, false, not, ◌&&◌, ◌==◌, cond, drop, find, filter, Option, None, Some, option_map, Bor, refl, sym, ◌∙◌, ap, subst, arith, length-append}
 use Rattle.std.proofs.lemmas.Bool.Decides.{nat_tests}
 use Rattle.std.proofs.lemmas.List.{append-nil}
 use Rattle.std.proofs.lemmas.Option.{slice_get_read}
@@ -12,8 +12,8 @@ use Rattle.kv_model.specs.declared.version.Rev.{Rev}
 use Rattle.kv_model.specs.Lists.{last_that, is_empty}
 use Rattle.kv_model.specs.History.{rev_lt, rev_le}
 use Rattle.key_index.specs.declared.revisions.Mark.{Mark}
-use Rattle.key_index.specs.Marks.{IsBehind, IsRising, rev_of, newest, is_of, ends_in, at_place, undone, count_up_to}
-use Rattle.key_index.proofs.RevOrder.{rev_lt-trans, rev_le-before, rev_le-behind}
+use Rattle.key_index.specs.Marks.{IsBehind, IsRising, rev_of, newest, is_of, ends_in, at_place, undone, count_up_to, is_rev, is_oldest, without}
+use Rattle.key_index.proofs.RevOrder.{rev_lt-trans, rev_le-before, rev_le-behind, rev_lt-opposite, rev_lt-other, rev_lt-earlier, rev-alike, rev_lt-at}
 
 abbrev pub IsAbove : Rev → List Mark → Type 0
 IsAbove p ms = AllByRecursion (λ n. rev_lt p n.rev ≡ true) ms
@@ -207,3 +207,53 @@ count_point p (m ∷ ms) zero h t = ap (λ b. cond b (suc (count_up_to p ms)) ze
 count_point p (m ∷ ms) (suc n) h t =
     ap suc (count_point p ms n (omega arith) ((λ k d l m. t.0 (suc k) d (omega arith) (omega arith)), (λ k d l m. t.1 (suc k) d (omega arith) (omega arith))))
     ∙ ap (λ b. cond b (suc (count_up_to p ms)) zero) (sym (t.0 0 m (omega arith) (omega arith)))
+
+-- ---- what is after a place
+
+pub find-after : (p : Rev) (ms : List Mark) → find (λ m. rev_lt p m.rev) ms ≡ slice_get ms (count_up_to p ms)
+find-after p [] = refl
+find-after p (m ∷ ms) = ap (λ b. cond b (Some m) (find (λ n. rev_lt p n.rev) ms)) (rev_lt-opposite p m.rev) ∙ by (rev_le m.rev p) (find-after p ms)
+  where
+    by : (b : Bool) → find (λ n. rev_lt p n.rev) ms ≡ slice_get ms (count_up_to p ms)
+        → cond (not b) (Some m) (find (λ n. rev_lt p n.rev) ms) ≡ slice_get (m ∷ ms) (cond b (suc (count_up_to p ms)) zero)
+    by true rest = rest
+    by false rest = refl
+
+-- ---- a revision taken out
+
+above-without : (q p : Rev) (ms : List Mark) → IsAbove q ms → IsAbove q (without p ms)
+above-without q p [] a = tt
+above-without q p (m ∷ ms) a = by (is_rev p m) (above-without q p ms a.1)
+  where
+    by : (b : Bool) → IsAbove q (without p ms) → IsAbove q (cond (not b) (m ∷ without p ms) (without p ms))
+    by true rest = rest
+    by false rest = (a.0, rest)
+
+pub rising-without : (p : Rev) (ms : List Mark) → IsRising ms → IsRising (without p ms)
+rising-without p [] r = tt
+rising-without p (m ∷ ms) r = by (is_rev p m) (rising-without p ms r.1)
+  where
+    by : (b : Bool) → IsRising (without p ms) → IsRising (cond (not b) (m ∷ without p ms) (without p ms))
+    by true rest = rest
+    by false rest = (above-without m.rev p ms r.0, rest)
+
+-- what is behind the place stays
+pub all-without : (p : Rev) (ms : List Mark) → IsAbove p ms → without p ms ≡ ms
+all-without p [] a = refl
+all-without p (m ∷ ms) a = ap (λ b. cond (not b) (m ∷ without p ms) (without p ms)) (rev_lt-other p m.rev a.0) ∙ ap (λ ns. m ∷ ns) (all-without p ms a.1)
+
+-- the first one that is at the place goes alone
+pub oldest-without : (p : Rev) (ms : List Mark) → IsRising ms → is_oldest p ms ≡ true → drop 1 ms ≡ without p ms
+oldest-without p [] r h = refl
+oldest-without p (m ∷ ms) r h = sym (ap (λ b. cond (not b) (m ∷ without p ms) (without p ms)) h ∙ all-without p ms (above ms r.0))
+  where
+    above : (ns : List Mark) → IsAbove m.rev ns → IsAbove p ns
+    above [] a = tt
+    above (n ∷ ns) a = (rev_lt-at p m.rev n.rev h a.0, above ns a.1)
+
+-- and so does one between others
+pub without-middle : (ms : List Mark) (m : Mark) (ns : List Mark) → IsBehind m.rev ms → IsAbove m.rev ns → without m.rev (ms ++ m ∷ ns) ≡ ms ++ ns
+without-middle [] m ns b a = ap (λ b. cond (not b) (m ∷ without m.rev ns) (without m.rev ns)) (rev-alike m.rev) ∙ all-without m.rev ns a
+without-middle (l ∷ ls) m ns b a =
+    ap (λ b. cond (not b) (l ∷ without m.rev (ls ++ m ∷ ns)) (without m.rev (ls ++ m ∷ ns))) (rev_lt-earlier m.rev l.rev b.0)
+    ∙ ap (λ us. l ∷ us) (without-middle ls m ns b.1 a)

@@ -8,7 +8,8 @@ use Rattle.kv_model.specs.declared.version.KeyRange.{KeyRange}
 use Rattle.kv_model.specs.declared.version.Version.{Version}
 use Rattle.kv_model.specs.Keys.{key_cmp, in_range}
 use Rattle.key_index.specs.declared.revisions.Mark.{Mark}
-use Rattle.key_index.specs.Marks.{undone}
+use Rattle.kv_model.specs.declared.version.Rev.{Rev}
+use Rattle.key_index.specs.Marks.{undone, without}
 
 abbrev pub Index : Type 0
 Index = List (List ℕ × List Mark)
@@ -41,6 +42,10 @@ with_marks k (m ∷ ms) i = set_value (is_key (key_cmp k)) i (m ∷ ms)
 -- without the oldest revision of a key
 abbrev pub without_front : List ℕ → Index → Index
 without_front k i = with_marks k (drop 1 (marks k i)) i
+
+-- without a revision of a key
+abbrev pub without_mark : List ℕ → Rev → Index → Index
+without_mark k p i = with_marks k (without p (marks k i)) i
 
 -- without the revisions of a main revision at the end of a key's
 abbrev pub undone_at : ℕ → List ℕ → Index → Index

@@ -1,6 +1,6 @@
 -- The revisions of one key, in order.
-use Rattle.std.specs.Prelude.{◌≡◌, ℕ, zero, suc, List, [], ◌∷◌, Bool, true, false, ◌&&◌, ◌==◌, Option, None, Some, option_map, if◌then◌else◌, ⊤}
-use Rattle.std.specs.List.{AllByRecursion}
+use Rattle.std.specs.Prelude.{◌≡◌, ℕ, zero, suc, List, [], ◌∷◌, Bool, true, false, not, ◌&&◌, ◌==◌, Option, None, Some, option_map, filter, if◌then◌else◌, ⊤}
+use Rattle.std.specs.List.{AllByRecursion, find, slice_get}
 use Rattle.kv_model.specs.declared.version.Rev.{Rev}
 use Rattle.kv_model.specs.Lists.{last_that, is_empty}
 use Rattle.kv_model.specs.History.{rev_lt, rev_le}
@@ -21,6 +21,10 @@ rev_of m = m.rev
 -- the last revision that is not after the place, a tombstone's too
 abbrev pub at_place : Rev → List Mark → Option Rev
 at_place p ms = option_map rev_of (last_that (λ m. rev_le m.rev p) ms)
+
+-- the first revision after the place, a tombstone's too
+abbrev pub after_place : Rev → List Mark → Option Rev
+after_place p ms = option_map rev_of (find (λ m. rev_lt p m.rev) ms)
 
 -- the last one
 abbrev pub newest : List Mark → Option Mark
@@ -43,3 +47,20 @@ undone main (m ∷ ms) = if is_empty (undone main ms) && m.rev.main == main then
 abbrev pub count_up_to : Rev → List Mark → ℕ
 count_up_to p [] = zero
 count_up_to p (m ∷ ms) = if rev_le m.rev p then suc (count_up_to p ms) else zero
+
+-- ---- a revision taken out
+
+abbrev pub is_rev : Rev → Mark → Bool
+is_rev p m = m.rev.main == p.main && m.rev.sub == p.sub
+
+abbrev pub is_same : Rev → Option Rev → Bool
+is_same p None = false
+is_same p (Some q) = q.main == p.main && q.sub == p.sub
+
+-- the first one is at the place
+abbrev pub is_oldest : Rev → List Mark → Bool
+is_oldest p ms = is_same p (option_map rev_of (slice_get ms 0))
+
+-- the revisions without the one at a place
+abbrev pub without : Rev → List Mark → List Mark
+without p ms = filter (λ m. not (is_rev p m)) ms

@@ -1,10 +1,11 @@
 //! Changes of the map from each key to its revisions. A key without revisions does not stay in it.
 ghost use Rattle.std.specs.Prelude.{◌≡◌, OnOk, OnErr};
 ghost use Rattle.key_index.specs.Marks.{IsBehind};
-ghost use Rattle.key_index.specs.Index.{marks, undone_at, with_mark, without_front};
+ghost use Rattle.key_index.specs.Index.{marks, undone_at, with_mark, without_front, without_mark};
 
 use crate::revisions::{Mark, Revisions};
 use bytes::Bytes;
+use kv_model::version::Rev;
 use std::alloc::{AllocError, Global};
 use std::collections::BTreeMap;
 
@@ -48,6 +49,19 @@ pub(crate) fn drop_front(keys: &mut BTreeMap<Bytes, Revisions>, key: &Bytes)
         return;
     };
     revisions.drop_front();
+    if revisions.is_empty() {
+        keys.remove(key);
+    }
+}
+
+/// Drops a revision of a key.
+pub(crate) fn drop_at(keys: &mut BTreeMap<Bytes, Revisions>, key: &Bytes, rev: Rev)
+    ensures { keys.new.entries ≡ without_mark key.now rev keys.old.entries }
+{
+    let Some(revisions) = keys.get_mut(key) else {
+        return;
+    };
+    revisions.drop_at(rev);
     if revisions.is_empty() {
         keys.remove(key);
     }

@@ -1,7 +1,7 @@
 //! From each key to its revisions (etcd: the tree index of keys).
 ghost use Rattle.std.specs.Prelude.{◌≡◌, ◌↔◌, List, [], ◌∷◌, ◌++◌, map, OnOk, OnErr, IfOk, IsTrue, Some, None, true, false};
-ghost use Rattle.key_index.specs.Marks.{IsBehind, at_place, undone};
-ghost use Rattle.key_index.specs.Index.{IsIndex, in_interval, marks, retracted, undone_at, with_mark, without_front};
+ghost use Rattle.key_index.specs.Marks.{IsBehind, after_place, at_place, undone};
+ghost use Rattle.key_index.specs.Index.{IsIndex, in_interval, marks, retracted, undone_at, with_mark, without_front, without_mark};
 
 use crate::changes;
 use crate::interval::bounds;
@@ -116,6 +116,28 @@ impl KeyIndex {
         ensures { self.new ≡ without_front key.now self.old }
     {
         changes::drop_front(&mut self.keys, key);
+    }
+
+    /// Takes out a revision of a key, and nothing where the key has it not. Takes no memory.
+    ///
+    /// The time is logarithmic in the number of keys where it is the oldest revision of the key, and else linear in that of
+    /// the key's revisions too.
+    pub fn remove(&mut self, key: &Bytes, rev: Rev)
+        ensures { self.new ≡ without_mark key.now rev self.old }
+    {
+        changes::drop_at(&mut self.keys, key, rev);
+    }
+
+    /// The first revision of a key after a place, also where it is a tombstone. Takes no memory.
+    ///
+    /// The time is logarithmic in the number of keys and in that of the key's revisions.
+    pub fn after(&self, key: &Bytes, place: Rev) -> Option<Rev>
+        ensures { result ≡ after_place place (marks key.now self.now) }
+    {
+        match self.keys.get(key) {
+            Some(revisions) => revisions.after(place),
+            None => None,
+        }
     }
 
     /// The last revision of a key that is not after a place, also where it is a tombstone. Takes no memory.

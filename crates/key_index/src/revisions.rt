@@ -3,7 +3,7 @@ ghost use Rattle.std.specs.Prelude.{◌≡◌, ◌↔◌, List, [], ◌∷◌, �
 ghost use Rattle.std.specs.List.{slice_get};
 ghost use Rattle.kv_model.specs.Lists.{is_empty};
 ghost use Rattle.kv_model.specs.History.{rev_lt, rev_le};
-ghost use Rattle.key_index.specs.Marks.{IsBehind, IsRising, at_place, count_up_to, ends_in, newest, rev_of, undone};
+ghost use Rattle.key_index.specs.Marks.{IsBehind, IsRising, after_place, at_place, count_up_to, ends_in, is_oldest, newest, rev_of, undone, without};
 
 use kv_model::version::Rev;
 use std::alloc::{AllocError, Global};
@@ -66,6 +66,15 @@ impl Revisions {
         }
     }
 
+    /// The first revision after a place, also where it is a tombstone. Takes no memory.
+    ///
+    /// It halves: the time is logarithmic in the number of the key's revisions.
+    pub fn after(&self, place: Rev) -> Option<Rev>
+        ensures { result ≡ after_place place self.now }
+    {
+        rev_at(&self.marks, count_up_to(&self.marks, place))
+    }
+
     /// Whether a revision is above all of these.
     pub(crate) fn takes(&self, rev: Rev) -> bool
         ensures { IsTrue result ↔ IsBehind rev self.now }
@@ -91,6 +100,17 @@ impl Revisions {
         ensures { self.new ≡ drop 1 self.old }
     {
         let _ = self.marks.pop_front();
+    }
+
+    /// Drops a revision, and nothing where it is not there: the oldest at once, another by a walk over all.
+    pub(crate) fn drop_at(&mut self, rev: Rev)
+        ensures { self.new ≡ without rev self.old }
+    {
+        if is_oldest(&self.marks, rev) {
+            self.drop_front();
+        } else {
+            keep_others(&mut self.marks, rev);
+        }
     }
 
     /// Drops the revisions of a main revision at the end.
@@ -146,6 +166,23 @@ fn rev_at(marks: &VecDeque<Mark>, place: usize) -> Option<Rev>
     ensures { result ≡ option_map rev_of (slice_get marks.now.items place) }
 {
     marks.get(place).map(|mark| mark.rev)
+}
+
+/// Whether the first of the revisions is this one.
+fn is_oldest(marks: &VecDeque<Mark>, rev: Rev) -> bool
+    ensures { result ≡ is_oldest rev marks.now.items }
+{
+    match rev_at(marks, 0) {
+        Some(oldest) => oldest == rev,
+        None => false,
+    }
+}
+
+/// Keeps the revisions that are others than this one.
+fn keep_others(marks: &mut VecDeque<Mark>, rev: Rev)
+    ensures { marks.new.items ≡ without rev marks.old.items }
+{
+    marks.retain(|mark| !(mark.rev == rev));
 }
 
 /// How many of the revisions, which rise, are not after a place. It halves.

@@ -115,6 +115,28 @@ fn takes_out(rt: HostRuntime) -> Result<(), Fail> {
     Ok(())
 }
 
+fn after(index: &KeyIndex, letter: &'static [u8], place: Rev) -> Option<(u64, u64)> {
+    index.after(&key(letter), place).map(|r| (r.main, r.sub))
+}
+
+#[test]
+fn takes_out_one_revision(rt: HostRuntime) -> Result<(), Fail> {
+    let mut index = index(rt.alloc())?;
+    assert_eq!(rt; after(&index, b"a", rev(0, 0)), Some((2, 0)));
+    assert_eq!(rt; after(&index, b"a", rev(4, 0)), Some((6, 1)));
+    assert_eq!(rt; after(&index, b"a", rev(6, 1)), None);
+    assert_eq!(rt; after(&index, b"x", rev(0, 0)), None);
+    index.remove(&key(b"a"), rev(3, 0));
+    assert_eq!(rt; after(&index, b"a", rev(2, 0)), Some((4, 0)));
+    index.remove(&key(b"a"), rev(2, 0));
+    assert_eq!(rt; after(&index, b"a", rev(0, 0)), Some((4, 0)));
+    index.remove(&key(b"a"), rev(5, 0));
+    index.remove(&key(b"c"), rev(6, 2));
+    assert_eq!(rt; after(&index, b"a", rev(0, 0)), Some((4, 0)));
+    assert_eq!(rt; after(&index, b"c", rev(0, 0)), None);
+    Ok(())
+}
+
 fn tombstone(letter: &'static [u8], main: u64, sub: u64) -> Version {
     Version {
         rev: Rev { main, sub },

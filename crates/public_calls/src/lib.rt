@@ -17,4 +17,6 @@ mod table;
 #[cfg(test)]
 mod texts;
 #[cfg(test)]
+mod trims;
+#[cfg(test)]
 mod views;

@@ -1,5 +1,5 @@
 -- How the versions that are kept grow by those of a revision, and lose them again.
-use Rattle.std.proofs.Common.{◌≡◌, ◌≤◌, ◌<◌, ◌+◌, ◌-◌, ◌==◌, ℕ, zero, suc, List, [], ◌∷◌, ◌++◌, Bool, true, false, ◌&&◌, cond, nat_lt, length, take, drop, get_or, refl, sym, ◌∙◌, ap, subst, arith, append_assoc, eq-eqb, None, Some}
+use Rattle.std.proofs.Common.{◌≡◌, ◌≤◌, ◌<◌, ◌+◌, ◌-◌, ◌==◌, ℕ, zero, suc, List, [], ◌∷◌, ◌++◌, Bool, true, false, ◌&&◌, cond, nat_lt, length, take, drop, filter, get_or, refl, sym, ◌∙◌, ap, subst, arith, append_assoc, eq-eqb, None, Some}
 use Rattle.std.proofs.lemmas.Bool.Decides.{nat_tests}
 use Rattle.std.specs.List.{AllByRecursion}
 use Rattle.std.specs.List.Sorted.{IsPartitionPoint, IsPartitionedBy}
@@ -11,8 +11,10 @@ use Rattle.kv_model.specs.Feed.{last_main_or}
 use Rattle.kv_model.specs.Stands.{first_main_of}
 use Rattle.version_table.specs.Rising.{IsBehind, IsRising, retracted}
 use Rattle.version_table.proofs.RevOrder.{main_le, rev_lt-trans, before_main, before_sub}
+use Rattle.version_table.proofs.Rising.{rising-filter}
 use Rattle.version_table.proofs.Changes.{retracted-append}
-use Rattle.kv_model.specs.Trimming.{oldest_place}
+use Rattle.trim_core.proofs.Stepping.{trimmed-keeps}
+use Rattle.kv_model.specs.Trimming.{oldest_place, trimmed}
 use Rattle.key_index.specs.Index.{Index}
 use Rattle.key_index.specs.Agrees.{Agrees}
 use Rattle.key_index.proofs.Agrees.{agrees-nothing}
@@ -31,6 +33,14 @@ all-front P (x ∷ xs) ys a = (a.0, all-front P xs ys a.1)
 all-weaker : {X : Type 0} (P Q : X → Type 0) → ((x : X) → P x → Q x) → (xs : List X) → AllByRecursion P xs → AllByRecursion Q xs
 all-weaker P Q f [] a = tt
 all-weaker P Q f (x ∷ xs) a = (f x a.0, all-weaker P Q f xs a.1)
+
+pub all-filter : {X : Type 0} (P : X → Type 0) (t : X → Bool) (xs : List X) → AllByRecursion P xs → AllByRecursion P (filter t xs)
+all-filter P t [] a = tt
+all-filter P t (x ∷ xs) a = by (t x) (all-filter P t xs a.1)
+  where
+    by : (b : Bool) → AllByRecursion P (filter t xs) → AllByRecursion P (cond b (x ∷ filter t xs) (filter t xs))
+    by true rest = (a.0, rest)
+    by false rest = rest
 
 at-index : {X : Type 0} (P : X → Type 0) (xs : List X) (j : ℕ) (d : X) → AllByRecursion P xs → j < length xs → P (get_or xs j d)
 at-index P [] j d a h = absurd (omega arith)
@@ -292,3 +302,12 @@ present-retracted main s h =
 
 pub other-retracted : (main : ℕ) (s : Stored) → (main == s.revision && nat_lt 1 main) ≡ false → s ≡ retracted_to main s
 other-retracted main s h = sym (ap (λ b. cond b (record s { versions = retracted main s.versions; revision = main - 1 }) s) h)
+
+-- ---- a trimming step
+
+-- what is left rises still, up to the present revision
+pub trimmed-rising : (vs : List Version) (p : Rev) (c : ℕ) → IsRising vs → IsRising (trimmed vs p c).versions
+trimmed-rising vs p c r = trimmed-keeps IsRising vs p c r (λ t. rising-filter t vs r)
+
+pub trimmed-upto : (main : ℕ) (vs : List Version) (p : Rev) (c : ℕ) → IsUpTo main vs → IsUpTo main (trimmed vs p c).versions
+trimmed-upto main vs p c u = trimmed-keeps (IsUpTo main) vs p c u (λ t. all-filter (λ (v : Version). v.rev.main ≤ main) t vs u)

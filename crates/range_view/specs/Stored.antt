@@ -4,7 +4,7 @@ use Rattle.std.specs.List.{AllByRecursion}
 use Rattle.kv_model.specs.declared.version.Rev.{Rev}
 use Rattle.kv_model.specs.declared.version.Version.{Version}
 use Rattle.kv_model.specs.Feed.{last_main_or}
-use Rattle.kv_model.specs.Trimming.{oldest_place}
+use Rattle.kv_model.specs.Trimming.{TrimStep, oldest_place, trimmed}
 use Rattle.version_table.specs.Rising.{IsRising, retracted}
 use Rattle.key_index.specs.Index.{Index}
 use Rattle.key_index.specs.Agrees.{Agrees}
@@ -84,6 +84,14 @@ retracted_to main s = if main == s.revision && nat_lt 1 main then record s { ver
 -- with a compaction more: trimming begins again at the oldest version
 abbrev pub compacted_at : ℕ → Stored → Stored
 compacted_at c s = record s { compacted = c; place = oldest_place }
+
+-- a trimming step over what is kept
+abbrev pub trim_of : Stored → TrimStep
+trim_of s = trimmed s.versions s.place s.compacted
+
+-- and what it leaves
+abbrev pub trimmed_once : Stored → Stored
+trimmed_once s = record s { versions = (trim_of s).versions; place = (trim_of s).place }
 
 -- what is kept, seen at a place
 abbrev pub seen_at : Rev → Stored → Viewed

@@ -3,7 +3,8 @@ ghost use Rattle.std.specs.Prelude.{◌≡◌, ◌<◌, ◌≤◌, ◌-◌, ◌=
 ghost use Rattle.kv_model.specs.History.{end_of};
 ghost use Rattle.kv_model.specs.Stands.{first_main_of};
 ghost use Rattle.version_table.specs.Rising.{retracted};
-ghost use Rattle.range_view.specs.Stored.{IsStored, appended, blank, blank_at, compacted_at, goes_on, is_next, retracted_to, seen_at};
+ghost use Rattle.range_view.specs.Stored.{IsStored, appended, blank, blank_at, compacted_at, goes_on, is_next, retracted_to, seen_at, trim_of, trimmed_once};
+ghost use Rattle.trim_core.specs.Steps.{told_of};
 
 use crate::growth::{add_all, take_back};
 use crate::revision::end_of;
@@ -12,6 +13,7 @@ use key_index::KeyIndex;
 use kv_model::version::{Rev, Version};
 use std::alloc::{AllocError, Global};
 use std::marker::Model;
+use trim_core::{Trim, Trimmer};
 use version_table::VersionTable;
 
 /// The versions that are kept with the index of their keys, the revision of the last compaction, the present one, and how far
@@ -22,7 +24,7 @@ pub struct Tables {
     index: KeyIndex,
     compacted: u64,
     revision: u64,
-    place: Rev,
+    trimmer: Trimmer,
 }
 
 impl Model for Tables {
@@ -30,9 +32,9 @@ impl Model for Tables {
 
     ghost Value = { Stored };
 
-    ghost view = { λ t. record { versions = t.table; compacted = t.compacted; revision = t.revision; place = t.place } };
+    ghost view = { λ t. record { versions = t.table; compacted = t.compacted; revision = t.revision; place = t.trimmer } };
 
-    ghost invariant = { λ t. AreTables t.index (record { versions = t.table; compacted = t.compacted; revision = t.revision; place = t.place }) };
+    ghost invariant = { λ t. AreTables t.index (record { versions = t.table; compacted = t.compacted; revision = t.revision; place = t.trimmer }) };
 }
 
 /// Whether each version is of the revision of the one before, and numbered behind it.
@@ -84,7 +86,7 @@ impl Tables {
             index: KeyIndex::new(alloc),
             compacted: 0,
             revision,
-            place: Rev { main: 0, sub: 0 },
+            trimmer: Trimmer::new(),
         }
     }
 
@@ -115,7 +117,7 @@ impl Tables {
     pub fn place(&self) -> Rev
         ensures { result ≡ self.now.place }
     {
-        self.place
+        self.trimmer.place()
     }
 
     /// What is kept, seen at a place.
@@ -217,6 +219,20 @@ impl Tables {
         ensures { self.new ≡ compacted_at revision self.old }
     {
         self.compacted = revision;
-        self.place = Rev { main: 0, sub: 0 };
+        self.trimmer.restart();
+    }
+
+    /// Makes one trimming step: the next version at or below the last compaction is visited, the oldest first, and taken
+    /// out where a later version of its key is at or below the compaction, or where it is a tombstone below it. Where
+    /// none is left to visit, nothing changes, and the answer is `Done` with the number of versions that are kept.
+    ///
+    /// Takes no memory. The time is logarithmic in the number of versions and of keys, but for the versions behind the one
+    /// that goes, which move one place.
+    pub fn trim_step(&mut self) -> Trim
+        ensures told { told_of result ≡ (trim_of self.old).told }
+        ensures kept { self.new ≡ trimmed_once self.old }
+    {
+        self.trimmer
+            .step(&mut self.table, &mut self.index, self.compacted)
     }
 }

@@ -25,7 +25,7 @@ pub returns-in-Ok-clause-ok : goal.returns-in-Ok-clause-ok
 returns-in-Ok-clause-ok c =
     let next = rw (← c.self.view_is) at c.requires.next in
     let last : c.args.main ≡ last_main_or c.self.inside.revision c.args.versions.items = sym (next-main c.self.inside.revision c.args.versions.items c.args.main c.requires.first next).1 in
-    rw (← c.self.view_is) (λ i. record { versions = c.in-Ok.ensures.ok i; compacted = c.self.inside.compacted; revision = last i; place = c.self.inside.place })
+    rw (← c.self.view_is) (λ i. record { versions = c.in-Ok.ensures.ok i; compacted = c.self.inside.compacted; revision = last i; place = c.self.inside.trimmer })
 
 pub returns-in-Err-clause-err : goal.returns-in-Err-clause-err
-returns-in-Err-clause-err c = rw (← c.self.view_is) (λ i. record { versions = c.in-Err.ensures.err i; compacted = c.self.inside.compacted; revision = c.self.inside.revision; place = c.self.inside.place })
+returns-in-Err-clause-err c = rw (← c.self.view_is) (λ i. record { versions = c.in-Err.ensures.err i; compacted = c.self.inside.compacted; revision = c.self.inside.revision; place = c.self.inside.trimmer })

@@ -15,4 +15,4 @@ invariant_of-self c =
     }
 
 pub returns : goal.returns
-returns c = rw (← c.self.view_is) (λ i. record { versions = c.take_back.ensures.table i; compacted = c.self.inside.compacted; revision = c.self.inside.revision - 1; place = c.self.inside.place })
+returns c = rw (← c.self.view_is) (λ i. record { versions = c.take_back.ensures.table i; compacted = c.self.inside.compacted; revision = c.self.inside.revision - 1; place = c.self.inside.trimmer })

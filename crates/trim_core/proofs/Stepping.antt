@@ -1,0 +1,196 @@
+-- A trimming step over versions that rise, and their index.
+use Rattle.std.proofs.Common.{◌≡◌, ℕ, List, [], ◌∷◌, ◌++◌, length, Bool, true, false, not, ◌&&◌, ◌||◌, cond, filter, find, Option, None, Some, option_map, refl, sym, ◌∙◌, ap, subst, arith}
+use Rattle.std.specs.Prelude.{nat_le, ◌≤◌}
+use Rattle.std.proofs.lemmas.Bool.Decides.{nat_tests}
+use Rattle.std.specs.List.{AllByRecursion, list_any}
+use Rattle.kv_model.specs.declared.version.Rev.{Rev}
+use Rattle.kv_model.specs.declared.version.Version.{Version}
+use Rattle.kv_model.specs.Keys.{same_key}
+use Rattle.kv_model.specs.History.{rev_lt}
+use Rattle.kv_model.specs.Told.{Trimmed}
+use Rattle.kv_model.specs.Trimming.{TrimStep, is_at, without_rev, is_superseded, is_trimmed, place_after, visited, finished, trimmed, trimmed_next}
+use Rattle.kv_model.proofs.PlaceSteps.{First, first-from}
+use Rattle.version_table.specs.Rising.{IsRising}
+use Rattle.version_table.proofs.RevOrder.{is_at-before, main_le}
+use Rattle.version_table.proofs.Rising.{IsAbove}
+use Rattle.version_table.proofs.Changes.{without_rev-middle}
+use Rattle.key_index.specs.declared.revisions.Mark.{Mark}
+use Rattle.key_index.specs.Marks.{after_place, rev_of}
+use Rattle.key_index.specs.Index.{Index, marks, without_mark}
+use Rattle.key_index.specs.Agrees.{Agrees, mark_of, marks_of}
+use Rattle.key_index.proofs.RevOrder.{rev-alike}
+use Rattle.key_index.proofs.Agrees.{marks_of-cons, remove-agrees}
+use Rattle.trim_core.specs.declared.trimmer.Trim.TheVariants.{Removed, Kept, Done}
+use Rattle.trim_core.specs.Steps.{if_by, next_version, step_of}
+
+-- ---- the version to visit
+
+above-find : (q : Rev) (t : Version → Bool) (vs : List Version) (v : Version) → IsAbove q vs → find t vs ≡ Some v → rev_lt q v.rev ≡ true
+above-find q t [] v a e = cc
+above-find q t (u ∷ us) v a e = by (t u) e (λ f. above-find q t us v a.1 f)
+  where
+    by : (b : Bool) → cond b (Some u) (find t us) ≡ Some v → (find t us ≡ Some v → rev_lt q v.rev ≡ true) → rev_lt q v.rev ≡ true
+    by true f rest = let same : u ≡ v = cc in subst (λ w. rev_lt q w.rev ≡ true) same a.0
+    by false f rest = rest f
+
+-- the first version that passes a test is the one at its revision
+find-first : (t : Version → Bool) (vs : List Version) (v : Version) → IsRising vs → find t vs ≡ Some v → find (is_at v.rev) vs ≡ Some v
+find-first t [] v r e = cc
+find-first t (u ∷ us) v r e = by (t u) e (λ f. find-first t us v r.1 f)
+  where
+    by : (b : Bool) → cond b (Some u) (find t us) ≡ Some v → (find t us ≡ Some v → find (is_at v.rev) us ≡ Some v) → cond (is_at v.rev u) (Some u) (find (is_at v.rev) us) ≡ Some v
+    by true f rest =
+        let same : u ≡ v = cc in
+        ap (λ b. cond b (Some u) (find (is_at v.rev) us)) (ap (is_at v.rev) same ∙ rev-alike v.rev) ∙ ap Some same
+    by false f rest = ap (λ b. cond b (Some u) (find (is_at v.rev) us)) (is_at-before v.rev u (above-find u.rev t us v r.0 f)) ∙ rest f
+
+pub found : (vs : List Version) (p : Rev) (c : ℕ) (q : Rev) → IsRising vs → Some q ≡ option_map (λ (v : Version). v.rev) (find (λ v. not (rev_lt v.rev p)) vs) → nat_le q.main c ≡ true
+    → find (is_at q) vs ≡ next_version vs p c
+found vs p c q r e h = by (find (λ v. not (rev_lt v.rev p)) vs) refl e
+  where
+    by : (o : Option Version) → find (λ v. not (rev_lt v.rev p)) vs ≡ o → Some q ≡ option_map (λ (v : Version). v.rev) o → find (is_at q) vs ≡ if_by c o
+    by None f g = cc
+    by (Some v) f g =
+        let same : q ≡ v.rev = cc in
+        ap (λ (s : Rev). find (is_at s) vs) same
+        ∙ find-first (λ u. not (rev_lt u.rev p)) vs v r f
+        ∙ sym (ap (λ b. cond b (Some v) None) (ap (λ (s : Rev). nat_le s.main c) (sym same) ∙ h))
+
+pub first-of : (vs : List Version) (p : Rev) (c : ℕ) (v : Version) → next_version vs p c ≡ Some v → find (λ u. not (rev_lt u.rev p)) vs ≡ Some v
+first-of vs p c v e = by (find (λ u. not (rev_lt u.rev p)) vs) e
+  where
+    by : (o : Option Version) → if_by c o ≡ Some v → o ≡ Some v
+    by None f = cc
+    by (Some u) f = at (nat_le u.rev.main c) f
+      where
+        at : (b : Bool) → cond b (Some u) None ≡ Some v → Some u ≡ Some v
+        at true g = g
+        at false g = cc
+
+-- ---- what a step is
+
+visits : (vs : List Version) (p : Rev) (c : ℕ) (v : Version) → next_version vs p c ≡ Some v → trimmed vs p c ≡ visited vs c v
+unfolding trimmed
+visits vs p c v e = by (find (λ u. not (rev_lt u.rev p)) vs) e
+  where
+    by : (o : Option Version) → if_by c o ≡ Some v → trimmed_next vs p c o ≡ visited vs c v
+    by None f = cc
+    by (Some u) f = at (nat_le u.rev.main c) f
+      where
+        at : (b : Bool) → cond b (Some u) None ≡ Some v → cond b (visited vs c u) (finished vs p) ≡ visited vs c v
+        at true g = let same : u ≡ v = cc in ap (visited vs c) same
+        at false g = cc
+
+pub ends : (vs : List Version) (p : Rev) (c : ℕ) → next_version vs p c ≡ None → step_of (Done (length vs)) vs p ≡ trimmed vs p c
+unfolding trimmed
+ends vs p c e = by (find (λ u. not (rev_lt u.rev p)) vs) e
+  where
+    by : (o : Option Version) → if_by c o ≡ None → finished vs p ≡ trimmed_next vs p c o
+    by None f = refl
+    by (Some u) f = at (nat_le u.rev.main c) f
+      where
+        at : (b : Bool) → cond b (Some u) None ≡ None → finished vs p ≡ cond b (visited vs c u) (finished vs p)
+        at true g = cc
+        at false g = refl
+
+abbrev either : List Version → Version → Bool → TrimStep
+either vs v b = cond {A = TrimStep} b (record { told = Trimmed.removed v.rev; versions = without_rev (Some v.rev) vs; place = place_after v.rev })
+    (record { told = Trimmed.kept v.rev; versions = vs; place = place_after v.rev })
+
+pub removes : (vs : List Version) (p : Rev) (c : ℕ) (v : Version) → next_version vs p c ≡ Some v → is_trimmed vs c v ≡ true
+    → step_of (Removed v.rev) (without_rev (Some v.rev) vs) (place_after v.rev) ≡ trimmed vs p c
+removes vs p c v e h = sym (visits vs p c v e ∙ ap (either vs v) h)
+
+pub stays : (vs : List Version) (p : Rev) (c : ℕ) (v : Version) → next_version vs p c ≡ Some v → is_trimmed vs c v ≡ false
+    → step_of (Kept v.rev) vs (place_after v.rev) ≡ trimmed vs p c
+stays vs p c v e h = sym (visits vs p c v e ∙ ap (either vs v) h)
+
+-- what holds of the versions and of each choice of them holds of those that a step leaves
+pub trimmed-keeps : (P : List Version → Type 0) (vs : List Version) (p : Rev) (c : ℕ) → P vs → ((t : Version → Bool) → P (filter t vs)) → P (trimmed vs p c).versions
+unfolding trimmed
+trimmed-keeps P vs p c h f = by (find (λ u. not (rev_lt u.rev p)) vs)
+  where
+    look : (v : Version) (b : Bool) → P (either vs v b).versions
+    look v true = f (λ u. not (is_at v.rev u))
+    look v false = h
+
+    by : (o : Option Version) → P (trimmed_next vs p c o).versions
+    by None = h
+    by (Some v) = at (nat_le v.rev.main c)
+      where
+        at : (b : Bool) → P (cond {A = TrimStep} b (visited vs c v) (finished vs p)).versions
+        at true = look v (is_trimmed vs c v)
+        at false = h
+
+-- ---- whether a later version of the key is there
+
+abbrev is_by : ℕ → Option Rev → Bool
+is_by c None = false
+is_by c (Some q) = nat_le q.main c
+
+above-number : (a b c : ℕ) → a ≤ b → nat_le a c ≡ false → nat_le b c ≡ false
+above-number a b c h g = grind (arith, nat_tests)
+
+none-of : (a b : Bool) → (a && b && false) ≡ false
+none-of true true = refl
+none-of true false = refl
+none-of false b = refl
+
+module _ (k : List ℕ) (p : Rev) (c : ℕ) where
+  abbrev later : Version → Bool
+  later u = same_key u.key k && rev_lt p u.rev && nat_le u.rev.main c
+
+  none-later : (q : Rev) (vs : List Version) → IsAbove q vs → nat_le q.main c ≡ false → list_any later vs ≡ false
+  none-later q [] a h = refl
+  none-later q (u ∷ us) a h =
+      let high : nat_le u.rev.main c ≡ false = above-number q.main u.rev.main c (main_le q u.rev a.0) h in
+      ap (λ b. (same_key u.key k && rev_lt p u.rev && b) || list_any later us) high
+      ∙ ap (λ b. b || list_any later us) (none-of (same_key u.key k) (rev_lt p u.rev))
+      ∙ none-later q us a.1 h
+
+  superseded : (vs : List Version) → IsRising vs → list_any later vs ≡ is_by c (after_place p (marks_of k vs))
+  superseded [] r = refl
+  superseded (v ∷ vs) r =
+      by (same_key v.key k) (rev_lt p v.rev) refl (nat_le v.rev.main c) refl (superseded vs r.1)
+      ∙ sym (ap (λ ms. is_by c (after_place p ms)) (marks_of-cons k v vs))
+    where
+      behind : Option Mark
+      behind = find (λ m. rev_lt p m.rev) (marks_of k vs)
+
+      here : (d : Bool) → nat_le v.rev.main c ≡ d → (d || list_any later vs) ≡ nat_le v.rev.main c
+      here true f = sym f
+      here false f = none-later v.rev vs r.0 f ∙ sym f
+
+      by : (a b : Bool) → rev_lt p v.rev ≡ b → (d : Bool) → nat_le v.rev.main c ≡ d → list_any later vs ≡ is_by c (after_place p (marks_of k vs))
+          → ((a && b && d) || list_any later vs) ≡ is_by c (after_place p (cond a (mark_of v ∷ marks_of k vs) (marks_of k vs)))
+      by true true e d f rest = here d f ∙ sym (ap (λ b. is_by c (option_map rev_of (cond b (Some (mark_of v)) (find (λ m. rev_lt p m.rev) (marks_of k vs))))) e)
+      by true false e d f rest = rest ∙ sym (ap (λ b. is_by c (option_map rev_of (cond b (Some (mark_of v)) (find (λ m. rev_lt p m.rev) (marks_of k vs))))) e)
+      by false b e d f rest = rest
+
+pub superseded-some : (i : Index) (vs : List Version) (v : Version) (c : ℕ) (q : Rev) → IsRising vs → Agrees i vs → Some q ≡ after_place v.rev (marks v.key i) → nat_le q.main c ≡ is_superseded vs c v
+unfolding is_superseded
+superseded-some i vs v c q r a e = ap (is_by c) (e ∙ ap (after_place v.rev) (a.each v.key)) ∙ sym (superseded v.key v.rev c vs r)
+
+pub superseded-none : (i : Index) (vs : List Version) (v : Version) (c : ℕ) → IsRising vs → Agrees i vs → None ≡ after_place v.rev (marks v.key i) → false ≡ is_superseded vs c v
+unfolding is_superseded
+superseded-none i vs v c r a e = ap (is_by c) (e ∙ ap (after_place v.rev) (a.each v.key)) ∙ sym (superseded v.key v.rev c vs r)
+
+-- ---- the index of what is left
+
+pub parts : (xs : List Version) (v : Version) (ys : List Version) → IsRising (xs ++ v ∷ ys) → AllByRecursion (λ u. rev_lt u.rev v.rev ≡ true) xs × IsAbove v.rev ys
+parts [] v ys r = (tt, r.0)
+parts (x ∷ xs) v ys r = let m = parts xs v ys r.1 in ((at x.rev xs r.0, m.0), m.1)
+  where
+    at : (q : Rev) (zs : List Version) → IsAbove q (zs ++ v ∷ ys) → rev_lt q v.rev ≡ true
+    at q [] a = a.0
+    at q (z ∷ zs) a = at q zs a.1
+
+pub out-agrees : (i : Index) (vs : List Version) (p : Rev) (c : ℕ) (v : Version) → Agrees i vs → IsRising vs → next_version vs p c ≡ Some v
+    → Agrees (without_mark v.key v.rev i) (without_rev (Some v.rev) vs)
+out-agrees i vs p c v a r e =
+    let f : First p v vs = first-from p v vs (first-of vs p c v e) in
+    let rising : IsRising (f.before ++ v ∷ f.after) = subst IsRising f.is r in
+    let m = parts f.before v f.after rising in
+    let left : Agrees (without_mark v.key v.rev i) (f.before ++ f.after) = remove-agrees i f.before v f.after (subst (Agrees i) f.is a) m.0 m.1 in
+    subst (λ (us : List Version). Agrees (without_mark v.key v.rev i) (without_rev (Some v.rev) us)) (sym f.is)
+    (subst (Agrees (without_mark v.key v.rev i)) (sym (without_rev-middle f.before v f.after rising)) left)

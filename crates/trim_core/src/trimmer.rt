@@ -1,0 +1,91 @@
+//! One trimming step after another.
+ghost use Rattle.std.specs.Prelude.{◌≡◌};
+ghost use Rattle.kv_model.specs.Trimming.{oldest_place, trimmed};
+ghost use Rattle.key_index.specs.Agrees.{Agrees};
+ghost use Rattle.trim_core.specs.Steps.{step_of};
+
+use crate::rule::{is_trimmed, next_version, place_after};
+use key_index::KeyIndex;
+use kv_model::version::Rev;
+use std::marker::Model;
+use version_table::VersionTable;
+
+/// What a trimming step did.
+#[derive(Clone, Copy, Debug, PartialEq, Eq)]
+pub enum Trim {
+    /// The version at this revision was taken out.
+    Removed(Rev),
+    /// The version at this revision stays.
+    Kept(Rev),
+    /// No version was left to visit. So many are kept, those above the compaction too.
+    Done(u64),
+}
+
+/// How far trimming has come since the last compaction: the first place in the history that it has not looked at.
+#[derive(Debug, Drop)]
+pub struct Trimmer {
+    place: Rev,
+}
+
+impl Model for Trimmer {
+    ghost use Rattle.kv_model.specs.declared.version.Rev.{Rev};
+
+    ghost Value = { Rev };
+
+    ghost view = { λ t. t.place };
+}
+
+impl Trimmer {
+    /// A trimmer that has looked at nothing. Takes no memory.
+    pub fn new() -> Self
+        ensures { result ≡ oldest_place }
+    {
+        Trimmer {
+            place: Rev { main: 0, sub: 0 },
+        }
+    }
+
+    /// The first place in the history that trimming has not looked at.
+    pub fn place(&self) -> Rev
+        ensures { result ≡ self.now }
+    {
+        self.place
+    }
+
+    /// Begins again at the oldest version, as after each compaction. Takes no memory.
+    pub fn restart(&mut self)
+        ensures { self.new ≡ oldest_place }
+    {
+        self.place = Rev { main: 0, sub: 0 };
+    }
+
+    /// Visits the next version at or below `compacted`, the revision of the last compaction, the oldest first. It is taken
+    /// out of the table and of the index where a later version of its key is at or below the compaction, or where it is
+    /// a tombstone below it; else it stays. Where none is left to visit, nothing changes and the answer is `Done`.
+    ///
+    /// The index is that of the versions in the table, and is so again. Takes no memory.
+    ///
+    /// The time is logarithmic in the number of versions and of keys, but for two things: the versions behind the one that
+    /// goes move one place, and where it is not the oldest of its key, the revisions of that key are walked. It is the
+    /// oldest where trimming began again at each compaction, and versions above it came since (`laws::visited_is_oldest`).
+    pub fn step(&mut self, table: &mut VersionTable, index: &mut KeyIndex, compacted: u64) -> Trim
+        requires { Agrees index.old table.old }
+        ensures exact { step_of result table.new self.new ≡ trimmed table.old self.old compacted }
+        ensures agrees { Agrees index.new table.new }
+    {
+        match next_version(table, self.place, compacted) {
+            Some(version) => {
+                let rev = version.rev;
+                self.place = place_after(rev);
+                if is_trimmed(index, version, compacted) {
+                    index.remove(&version.key, rev);
+                    table.remove(rev);
+                    Trim::Removed(rev)
+                } else {
+                    Trim::Kept(rev)
+                }
+            }
+            None => Trim::Done(table.len() as u64),
+        }
+    }
+}

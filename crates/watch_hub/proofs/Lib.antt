@@ -1,0 +1,5 @@
+pub mod Finding
+pub mod Placing
+pub mod Matches
+pub mod Standing
+pub mod Delivering

@@ -1,0 +1,56 @@
+-- The first match among versions that rise.
+use Rattle.std.proofs.Common.{◌≡◌, ℕ, zero, suc, ◌<◌, ◌≤◌, List, [], ◌∷◌, length, take, drop, get_or, filter, Bool, true, false, ◌&&◌, cond, Some, option_map, refl, sym, ◌∙◌, ap, arith}
+use Rattle.std.specs.Prelude.{nat_lt, nat_le}
+use Rattle.std.specs.List.{AllByRecursion, find}
+use Rattle.std.specs.List.Sorted.{IsPartitionedBy, IsPartitionPoint}
+use Rattle.std.proofs.lemmas.Bool.Decides.{nat_tests}
+use Rattle.kv_model.specs.declared.version.Version.{Version}
+use Rattle.kv_model.specs.History.{rev_lt}
+use Rattle.kv_model.specs.Stands.{first_main_of}
+use Rattle.version_table.specs.Rising.{IsRising}
+use Rattle.version_table.proofs.RevOrder.{main_le}
+
+-- ---- the first that passes a test
+
+pub first-found : (p : Version → Bool) (vs : List Version) → first_main_of (filter p vs) ≡ option_map (λ v. v.rev.main) (find p vs)
+first-found p [] = refl
+first-found p (v ∷ vs) = by (p v) (first-found p vs)
+  where
+    by : (b : Bool) → first_main_of (filter p vs) ≡ option_map (λ v. v.rev.main) (find p vs)
+        → first_main_of (cond b (v ∷ filter p vs) (filter p vs)) ≡ option_map (λ v. v.rev.main) (cond b (Some v) (find p vs))
+    by true e = refl
+    by false e = e
+
+-- ---- those before a revision
+
+above-at : (m : ℕ) (vs : List Version) (j : ℕ) (d : Version) → AllByRecursion (λ w. m ≤ w.rev.main) vs → j < length vs → m ≤ (get_or vs j d).rev.main
+above-at m [] j d a h = absurd (omega arith)
+above-at m (v ∷ vs) zero d a h = a.0
+above-at m (v ∷ vs) (suc j) d a h = above-at m vs j d a.1 (omega arith)
+
+mains-above : (v : Version) (vs : List Version) → AllByRecursion (λ w. rev_lt v.rev w.rev ≡ true) vs → AllByRecursion (λ w. v.rev.main ≤ w.rev.main) vs
+mains-above v [] a = tt
+mains-above v (w ∷ vs) a = (main_le v.rev w.rev a.0, mains-above v vs a.1)
+
+pub partitioned : (next : ℕ) (vs : List Version) → IsRising vs → IsPartitionedBy (λ v. nat_lt v.rev.main next) vs
+partitioned next [] r i j d l m h = absurd (omega arith)
+partitioned next (v ∷ vs) r zero zero d l m h = h
+partitioned next (v ∷ vs) r zero (suc j) d l m h =
+    let below : v.rev.main ≤ (get_or vs j d).rev.main = above-at v.rev.main vs j d (mains-above v vs r.0) (omega arith) in
+    grind (arith, nat_tests)
+partitioned next (v ∷ vs) r (suc i) zero d l m h = absurd (omega arith)
+partitioned next (v ∷ vs) r (suc i) (suc j) d l m h = partitioned next vs r.1 i j d (omega arith) (omega arith) h
+
+pub before-point : (next : ℕ) (vs : List Version) (n : ℕ) → n ≤ length vs → IsPartitionPoint (λ v. nat_lt v.rev.main next ≡ true) (λ v. nat_lt v.rev.main next ≡ false) vs n
+    → AllByRecursion (λ v. nat_le next v.rev.main ≡ false) (take n vs)
+before-point next vs zero h t = tt
+before-point next [] (suc n) h t = tt
+before-point next (v ∷ vs) (suc n) h t =
+    let below : nat_lt v.rev.main next ≡ true = t.0 0 v (omega arith) (omega arith) in
+    (grind (arith, nat_tests), before-point next vs n (omega arith) ((λ k d l m. t.0 (suc k) d (omega arith) (omega arith)), (λ k d l m. t.1 (suc k) d (omega arith) (omega arith))))
+
+-- those that a test leaves out at the front are passed over
+pub filter-behind : (p q : Version → Bool) (vs : List Version) (n : ℕ) → AllByRecursion (λ v. p v ≡ false) (take n vs) → filter (λ v. p v && q v) (drop n vs) ≡ filter (λ v. p v && q v) vs
+filter-behind p q vs zero h = refl
+filter-behind p q [] (suc n) h = refl
+filter-behind p q (v ∷ vs) (suc n) h = filter-behind p q vs n h.1 ∙ sym (ap (λ b. cond (b && q v) (v ∷ filter (λ v. p v && q v) vs) (filter (λ v. p v && q v) vs)) h.0)

@@ -1,0 +1,46 @@
+-- Watches at the places of a slab, by number.
+use Rattle.std.specs.Prelude.{◌≡◌, ℕ, suc, ◌<◌, ◌≤◌, pos, List, [], ◌∷◌, map, false, ◌==◌, Option, None, Some, option_map, unwrap_or, if◌then◌else◌, ⊤}
+use Rattle.std.specs.List.{AllByRecursion}
+use Rattle.slab.specs.Slab.{Slab, get}
+use Rattle.kv_model.specs.Events.{plain_watch}
+use Rattle.kv_model.specs.Stands.{Tracked}
+use Rattle.watch_hub.specs.declared.entry.Entry.{Entry}
+use Rattle.watch_hub.specs.declared.entries.Place.{Place}
+
+abbrev pub tracked_of : Entry → Tracked
+tracked_of e = record { number = e.number; id = e.id; watched = e.watched; late = e.late; first = e.first; ahead = e.ahead }
+
+-- the watch that stands under a key of the slab
+abbrev pub seen_in : Slab Entry → ℕ → Option Tracked
+seen_in s key = option_map tracked_of (get s key)
+
+-- what stands under no key: no list of watches comes to it
+abbrev pub no_watch : Tracked
+no_watch = record { number = 0; id = pos 0; watched = plain_watch []; late = false; first = None; ahead = None }
+
+-- the watches at these places, in order
+abbrev pub listed : (ℕ → Option Tracked) → List Place → List Tracked
+listed seen ps = map (λ p. unwrap_or (seen p.key) no_watch) ps
+
+-- numbers ascend
+abbrev pub AreAscending : List Place → Type 0
+AreAscending [] = ⊤
+AreAscending (p ∷ ps) = AllByRecursion (λ q. p.number < q.number) ps × AreAscending ps
+
+-- numbers ascend, and each place has the watch of its number
+pub record ArePlaced (seen : ℕ → Option Tracked) (ps : List Place) : Type 0 where
+  pub ascending : AreAscending ps
+  pub present : AllByRecursion (λ p. option_map (λ t. t.number) (seen p.key) ≡ Some p.number) ps
+
+-- the index of the place with a number, and its key
+abbrev pub index_of : ℕ → List Place → Option ℕ
+index_of n [] = None
+index_of n (p ∷ ps) = if p.number == n then Some 0 else option_map suc (index_of n ps)
+
+abbrev pub key_of : ℕ → List Place → Option ℕ
+key_of n [] = None
+key_of n (p ∷ ps) = if p.number == n then Some p.key else key_of n ps
+
+-- no watch has a number above this
+abbrev pub AreUpTo : ℕ → List Tracked → Type 0
+AreUpTo n ts = AllByRecursion (λ t. t.number ≤ n) ts

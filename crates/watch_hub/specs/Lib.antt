@@ -1,0 +1,4 @@
+pub mod Hub
+pub mod Entries
+pub mod Views
+pub mod Delivering

@@ -1,0 +1,180 @@
+//! The watches that stand, each at a place of a slab, found by number.
+ghost use Rattle.std.specs.Prelude.{◌≡◌, ◌≢◌, ℕ, ◌<◌, ◌≤◌, [], ◌∷◌, ◌++◌, length, map, is_some, option_map, option_copied, OnOk, OnErr, IfSome};
+ghost use Rattle.std.specs.List.{AllByRecursion, slice_get};
+ghost use Rattle.slab.specs.Slab.{get};
+ghost use Rattle.kv_model.specs.Stands.{noted};
+ghost use Rattle.kv_model.specs.Step.{last_main};
+ghost use Rattle.version_table.specs.Rising.{IsRising};
+ghost use Rattle.watch_hub.specs.Hub.{advanced_to, told_to, tracked_at, without_tracked};
+ghost use Rattle.watch_hub.specs.Entries.{tracked_of, seen_in, AreAscending, index_of, key_of};
+
+use crate::entry::Entry;
+use kv_model::version::Version;
+use slab::Slab;
+use std::alloc::{AllocError, Global};
+use std::marker::Model;
+
+/// Where in the slab a watch stands.
+#[derive(Clone, Copy, Debug)]
+pub(crate) struct Place {
+    number: u64,
+    key: usize,
+}
+
+/// The watches that stand, in the order of their numbers. Only `push` takes memory.
+#[derive(Drop)]
+pub(crate) struct Entries {
+    slab: Slab<Entry>,
+    places: Vec<Place>,
+}
+
+impl Model for Entries {
+    ghost use Rattle.std.specs.Prelude.{List};
+    ghost use Rattle.kv_model.specs.Stands.{Tracked};
+    ghost use Rattle.watch_hub.specs.Entries.{seen_in, listed, ArePlaced};
+
+    ghost Value = { List Tracked };
+
+    ghost view = { λ e. listed (seen_in e.slab) e.places.items };
+
+    ghost invariant = { λ e. ArePlaced (seen_in e.slab) e.places.items };
+}
+
+impl Entries {
+    /// No watch.
+    pub(crate) fn new(alloc: Global) -> Self
+        ensures { result ≡ [] }
+    {
+        Entries {
+            slab: Slab::new(alloc),
+            places: Vec::new(alloc),
+        }
+    }
+
+    /// How many there are.
+    pub(crate) fn len(&self) -> usize
+        ensures { result ≡ length self.now }
+    {
+        self.places.len()
+    }
+
+    /// The watch of a number. Logarithmic time.
+    pub(crate) fn get(&self, number: u64) -> Option<&Entry>
+        ensures { option_map tracked_of (option_copied result) ≡ tracked_at self.now number }
+    {
+        match key_of(&self.places, number) {
+            Some(key) => self.slab.get(key),
+            None => None,
+        }
+    }
+
+    /// Adds a watch, whose number is above all. The error is want of memory.
+    pub(crate) fn push(&mut self, entry: Entry) -> Result<(), AllocError>
+        requires { AllByRecursion (λ t. t.number < entry.number) self.old }
+        ensures ok { OnOk result (self.new ≡ self.old ++ tracked_of entry ∷ []) }
+        ensures err { OnErr result (self.new ≡ self.old) }
+    {
+        self.places.reserve(1)?;
+        let number = entry.number;
+        let key = self.slab.insert(entry)?;
+        self.places.push_reserved(Place { number, key });
+        Ok(())
+    }
+
+    /// Takes out the watch of a number, and tells whether there was one. It is found in logarithmic time; the places behind it
+    /// move.
+    pub(crate) fn remove(&mut self, number: u64) -> bool
+        ensures found { result ≡ is_some (tracked_at self.old number) }
+        ensures left { self.new ≡ without_tracked number self.old }
+    {
+        match index_of(&self.places, number) {
+            Some(index) => {
+                let place = self.places.remove(index);
+                let _ = self.slab.try_remove(place.key);
+                true
+            }
+            None => false,
+        }
+    }
+
+    /// Each watch takes note of the versions of a new revision, which is now the present one.
+    pub(crate) fn note(&mut self, versions: &[Version], now: u64)
+        ensures { self.new ≡ map (noted versions.now now) self.old }
+    {
+        note_all(&mut self.slab, versions, now);
+    }
+
+    /// The watch of a number goes on behind a revision, of these versions, which rise.
+    pub(crate) fn advance(&mut self, number: u64, versions: &[Version], now: u64, last: u64)
+        requires rising { IsRising versions.now }
+        requires fits { last ≤ last_main }
+        ensures { self.new ≡ advanced_to versions.now now number last self.old }
+    {
+        if let Some(key) = key_of(&self.places, number) {
+            advance_at(&mut self.slab, key, versions, now, last);
+        }
+    }
+}
+
+/// The place at an index.
+fn place_at(places: &[Place], index: usize) -> Option<&Place>
+    ensures { option_copied result ≡ slice_get places.now index }
+{
+    places.get(index)
+}
+
+/// The index of the place with a number. It halves.
+fn index_of(places: &[Place], number: u64) -> Option<usize>
+    requires { AreAscending places.now }
+    ensures index { result ≡ index_of number places.now }
+    ensures bound { IfSome result (λ i. i < length places.now) }
+{
+    let index = places.partition_point(|p| p.number < number);
+    match place_at(places, index) {
+        Some(place) if place.number == number => Some(index),
+        _ => None,
+    }
+}
+
+/// The key of the watch with a number.
+fn key_of(places: &[Place], number: u64) -> Option<usize>
+    requires { AreAscending places.now }
+    ensures { result ≡ key_of number places.now }
+{
+    match index_of(places, number) {
+        Some(index) => Some(places[index].key),
+        None => None,
+    }
+}
+
+/// The watch under a key takes note.
+fn note_at(slab: &mut Slab<Entry>, key: usize, versions: &[Version], now: u64)
+    ensures here { seen_in slab.new key ≡ option_map (noted versions.now now) (seen_in slab.old key) }
+    ensures others { (other : ℕ) → other ≢ key → get slab.new other ≡ get slab.old other }
+{
+    if let Some(entry) = slab.get_mut(key) {
+        entry.note(versions, now);
+    }
+}
+
+/// The watch under each key takes note.
+fn note_all(slab: &mut Slab<Entry>, versions: &[Version], now: u64)
+    ensures { (key : ℕ) → seen_in slab.new key ≡ option_map (noted versions.now now) (seen_in slab.old key) }
+{
+    let keys = slab.capacity();
+    for key in 0..keys {
+        note_at(slab, key, versions, now);
+    }
+}
+
+/// The watch under a key goes on behind a revision.
+fn advance_at(slab: &mut Slab<Entry>, key: usize, versions: &[Version], now: u64, last: u64)
+    requires rising { IsRising versions.now }
+    requires fits { last ≤ last_main }
+    ensures here { seen_in slab.new key ≡ option_map (told_to versions.now now last) (seen_in slab.old key) }
+    ensures others { (other : ℕ) → other ≢ key → get slab.new other ≡ get slab.old other }
+{
+    if let Some(entry) = slab.get_mut(key) {
+        entry.advance(versions, now, last);
+    }
+}

@@ -1,0 +1,11 @@
+//! The watches of a store: what each still waits for (etcd: Watch).
+#![tactic(auto)]
+
+mod entries;
+mod entry;
+pub mod hub;
+mod matching;
+#[cfg(test)]
+mod tests;
+
+pub use hub::{Pending, WatchHub};

@@ -1,0 +1,80 @@
+//! What no clause says: that calls succeed with ample memory.
+use super::WatchHub;
+use bytes::Bytes;
+use kv_model::call::Watched;
+use kv_model::refusal::Refusal;
+use kv_model::version::{Body, KeyRange, Rev, Version};
+use range_view::Tables;
+use std::alloc::{AllocError, Global};
+use std::test::Fail;
+
+/// A put of the key a.
+fn put(main: u64) -> Version {
+    Version {
+        rev: Rev { main, sub: 0 },
+        key: Bytes::from_static(b"a"),
+        body: Body::Put {
+            create: 2,
+            version: 1,
+            lease: 0,
+            value: Bytes::new(),
+        },
+    }
+}
+
+/// A store where the key a was put at each revision from 2 to 4.
+fn tables(alloc: Global) -> Result<Tables, AllocError> {
+    let mut tables = Tables::new(alloc);
+    for main in 2..5 {
+        let mut versions = Vec::new(alloc);
+        versions.push(put(main))?;
+        if tables.takes(&versions) {
+            tables.append(versions)?;
+        }
+    }
+    Ok(tables)
+}
+
+/// A watch of the key a.
+fn watch(hub: &mut WatchHub, tables: &Tables, start: i64) -> Result<u64, Refusal> {
+    let watched = Watched {
+        range: KeyRange {
+            key: Bytes::from_static(b"a"),
+            end: Bytes::new(),
+        },
+        no_put: false,
+        no_delete: false,
+        prev_kv: false,
+    };
+    if tables.revision() > 9 {
+        return Err(Refusal::RevisionsSpent);
+    }
+    hub.create(tables, &watched, start, 7)
+}
+
+fn first(hub: &WatchHub, number: u64) -> Result<Option<u64>, Refusal> {
+    match hub.pending(number) {
+        Ok(pending) => Ok(pending.first),
+        Err(refusal) => Err(refusal),
+    }
+}
+
+#[test]
+fn watches_wait_for_what_they_match(rt: HostRuntime) -> Result<(), Fail> {
+    let tables = tables(rt.alloc())?;
+    let mut hub = WatchHub::new(rt.alloc());
+    assert_eq!(rt; watch(&mut hub, &tables, 0), Ok(1));
+    assert_eq!(rt; watch(&mut hub, &tables, 3), Ok(2));
+    assert_eq!(rt; watch(&mut hub, &tables, 6), Ok(3));
+    hub.note([put(5)].as_slice(), 5);
+    assert_eq!(rt; first(&hub, 1), Ok(Some(5)));
+    assert_eq!(rt; first(&hub, 2), Ok(Some(3)));
+    assert_eq!(rt; first(&hub, 3), Ok(None));
+    hub.advance(&tables, 2, 3);
+    assert_eq!(rt; first(&hub, 2), Ok(Some(4)));
+    assert_eq!(rt; hub.cancel(1), Ok(()));
+    assert_eq!(rt; hub.cancel(1), Err(Refusal::NoWatch));
+    assert_eq!(rt; first(&hub, 1), Err(Refusal::NoWatch));
+    assert_eq!(rt; first(&hub, 2), Ok(Some(4)));
+    Ok(())
+}
