@@ -4,3 +4,5 @@ pub mod Enums
 pub mod Transactions
 pub mod Marks
 pub mod Signs
+pub mod Spellings
+pub mod Steps

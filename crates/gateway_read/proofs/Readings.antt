@@ -5,15 +5,18 @@ use Rattle.std.specs.Str.{IsUtf8, is_utf8}
 use Rattle.std.proofs.lemmas.Str.{is_utf8-from_IsUtf8, IsUtf8-from_is_utf8}
 use Rattle.serde_json.specs.Read.{read}
 use Rattle.serde_json.specs.Data.{Members}
+use Rattle.kv_model.specs.declared.call.RangeQuery.{RangeQuery}
 use Rattle.kv_model.specs.declared.call.SortOrder.{SortOrder}
 use Rattle.kv_model.specs.declared.call.SortOrder.TheVariants.{Unsorted}
 use Rattle.kv_model.specs.declared.call.SortTarget.{SortTarget}
 use Rattle.kv_model.specs.declared.call.SortTarget.TheVariants.{ByKey}
 use Rattle.kv_model.specs.Requests as requests
 use Rattle.kv_model.specs.Keys.{same_key}
-use Rattle.kv_model.specs.Requests.{Read, ◌>>=◌}
+use Rattle.kv_model.specs.Requests.{Read, ◌>>=◌, truth_field, integer_field}
 use Rattle.gateway_read.specs.declared.requests.Request.{Request}
 use Rattle.gateway_read.specs.declared.requests.Request.TheVariants.{Range, Put, Delete, Txn, Grant, Revoke, KeepAlive, TimeToLive, Leases}
+use Rattle.gateway_read.specs.declared.requests.Filters.{Filters}
+use Rattle.gateway_read.specs.Filters.{filters_of}
 use Rattle.gateway_read.specs.Parts.{filtered, call_read}
 
 pub range_query-filtered : (ms : Members) {key end : List ℕ} {limit revision : ℤ} {order : SortOrder} {target : SortTarget}
@@ -76,3 +79,25 @@ request_of-no_path path body h = rw (by_path path body, h) refl
 
 pub request_of-call_read : (path body : List ℕ) (request : Request) → requests.named_value known_paths path ≡ Some request → requests.request_of path body ≡ (requests.object_of body >>= call_read request)
 request_of-call_read path body request h = rw (by_path path body, h) refl
+
+-- ---- the last fields of a Range
+
+abbrev with_filters : RangeQuery → Filters → RangeQuery
+with_filters q fs = record q { serializable = fs.serializable; keys_only = fs.keys_only; count_only = fs.count_only; min_mod = fs.min_mod; max_mod = fs.max_mod; min_create = fs.min_create; max_create = fs.max_create }
+
+pub filtered-filters : (q : RangeQuery) (ms : Members) → filtered q ms ≡ (filters_of ms >>= λ fs. Ok (with_filters q fs))
+unfolding filtered filters_of
+filtered-filters q ms = over (truth_field (codes "serializable") ms) (truth_field (codes "keys_only") ms) (truth_field (codes "count_only") ms)
+    (integer_field (codes "min_mod_revision") ms) (integer_field (codes "max_mod_revision") ms) (integer_field (codes "min_create_revision") ms) (integer_field (codes "max_create_revision") ms)
+  where
+    over : (ra rb rc : Read Bool) (rd re rf rg : Read ℤ)
+        → (ra >>= λ a. rb >>= λ b. rc >>= λ c. rd >>= λ d. re >>= λ e. rf >>= λ f. rg >>= λ g. Ok (record q { serializable = a; keys_only = b; count_only = c; min_mod = d; max_mod = e; min_create = f; max_create = g }))
+        ≡ ((ra >>= λ a. rb >>= λ b. rc >>= λ c. rd >>= λ d. re >>= λ e. rf >>= λ f. rg >>= λ g. Ok (record { serializable = a; keys_only = b; count_only = c; min_mod = d; max_mod = e; min_create = f; max_create = g })) >>= λ fs. Ok (with_filters q fs))
+    over (Err x) b c d e f g = refl
+    over (Ok a) (Err x) c d e f g = refl
+    over (Ok a) (Ok b) (Err x) d e f g = refl
+    over (Ok a) (Ok b) (Ok c) (Err x) e f g = refl
+    over (Ok a) (Ok b) (Ok c) (Ok d) (Err x) f g = refl
+    over (Ok a) (Ok b) (Ok c) (Ok d) (Ok e) (Err x) g = refl
+    over (Ok a) (Ok b) (Ok c) (Ok d) (Ok e) (Ok f) (Err x) = refl
+    over (Ok a) (Ok b) (Ok c) (Ok d) (Ok e) (Ok f) (Ok g) = refl

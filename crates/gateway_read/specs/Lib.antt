@@ -1,5 +1,6 @@
 pub mod Compares
 pub mod Fields
+pub mod Filters
 pub mod Lengths
 pub mod Objects
 pub mod Parts

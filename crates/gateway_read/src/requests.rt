@@ -1,6 +1,7 @@
 //! The requests, each from the fields of its object, in the order of the etcd documentation's message.
 ghost use Rattle.kv_model.specs.Calls.{call_of};
 ghost use Rattle.kv_model.specs.Requests as requests;
+ghost use Rattle.gateway_read.specs.Filters.{filters_of};
 ghost use Rattle.gateway_read.specs.Parts.{filtered, call_read};
 ghost use Rattle.gateway_read.specs.Objects.{seen};
 ghost use Rattle.gateway_read.specs.Reading.{Gives};
@@ -77,11 +78,39 @@ pub(crate) fn range_query(alloc: Global, object: &Object<'_>) -> Result<RangeQue
 }
 
 /// The query with what is left to read of a Range.
-#[tactic(auto, unfolding(crate::specs::Fields::snake_of, crate::specs::Parts::filtered))]
 fn filtered(object: &Object<'_>, query: RangeQuery) -> Result<RangeQuery, Bad>
     ensures { Gives (λ query. query) result (filtered query (seen object.now)) }
 {
+    let filters = filters_of(object)?;
     Ok(RangeQuery {
+        serializable: filters.serializable,
+        keys_only: filters.keys_only,
+        count_only: filters.count_only,
+        min_mod: filters.min_mod,
+        max_mod: filters.max_mod,
+        min_create: filters.min_create,
+        max_create: filters.max_create,
+        ..query
+    })
+}
+
+/// The last seven fields of a Range, in their order.
+#[derive(Clone, Copy)]
+struct Filters {
+    serializable: bool,
+    keys_only: bool,
+    count_only: bool,
+    min_mod: i64,
+    max_mod: i64,
+    min_create: i64,
+    max_create: i64,
+}
+
+#[tactic(auto, unfolding(crate::specs::Fields::snake_of, crate::specs::Filters::filters_of))]
+fn filters_of(object: &Object<'_>) -> Result<Filters, Bad>
+    ensures { Gives (λ filters. filters) result (filters_of (seen object.now)) }
+{
+    Ok(Filters {
         serializable: truth_field(object, Field::Serializable)?,
         keys_only: truth_field(object, Field::KeysOnly)?,
         count_only: truth_field(object, Field::CountOnly)?,
@@ -89,7 +118,6 @@ fn filtered(object: &Object<'_>, query: RangeQuery) -> Result<RangeQuery, Bad>
         max_mod: integer_field(object, Field::MaxModRevision)?,
         min_create: integer_field(object, Field::MinCreateRevision)?,
         max_create: integer_field(object, Field::MaxCreateRevision)?,
-        ..query
     })
 }
 

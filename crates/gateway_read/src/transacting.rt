@@ -1,12 +1,12 @@
 //! The fields of a transaction, and of those within it.
-ghost use Rattle.std.specs.Prelude.{◌≡◌};
+ghost use Rattle.std.specs.Prelude.{◌≡◌, option_map};
 ghost use Rattle.serde_json.specs.View.{view, items_view};
 ghost use Rattle.kv_model.specs.Calls.{txn_view, op_view, ops_view};
 ghost use Rattle.kv_model.specs.Requests as requests;
 ghost use Rattle.gateway_read.specs.Fields.{snake_of};
 ghost use Rattle.gateway_read.specs.Objects.{seen};
 ghost use Rattle.gateway_read.specs.Reading.{Gives};
-ghost use Rattle.gateway_read.specs.Transactions.{message_of, kind_read, operations_read, compares_read};
+ghost use Rattle.gateway_read.specs.Transactions.{message_of, only_of, kind_read, operations_read, compares_read};
 
 use crate::bad::Bad;
 use crate::comparing::compare_request;
@@ -105,7 +105,6 @@ fn operation(alloc: Global, value: &Value, list: Field, depth: u8) -> Result<Ope
 }
 
 /// The one kind of an operation of a list.
-#[tactic(auto, unfolding(crate::specs::Fields::snake_of, crate::specs::Transactions::kind_read))]
 fn kind_of<'v>(value: &'v Value, list: Field) -> Result<Kind<'v>, Bad>
     ensures { Gives message_of result (kind_read (snake_of list) (view value.now)) }
 {
@@ -114,6 +113,22 @@ fn kind_of<'v>(value: &'v Value, list: Field) -> Result<Kind<'v>, Bad>
     let put = given(object, Field::RequestPut);
     let delete = given(object, Field::RequestDeleteRange);
     let inner = given(object, Field::RequestTxn);
+    only_kind(list, range, put, delete, inner)
+}
+
+/// The kind of the one value that is given, or `BadField` of the list.
+#[tactic(auto, unfolding(crate::specs::Fields::snake_of))]
+fn only_kind<'v>(
+    list: Field,
+    range: Option<&'v Value>,
+    put: Option<&'v Value>,
+    delete: Option<&'v Value>,
+    inner: Option<&'v Value>,
+) -> Result<Kind<'v>, Bad>
+    ensures { Gives message_of result
+        (only_of (snake_of list) (option_map (λ v. view v.now) range.entry) (option_map (λ v. view v.now) put.entry)
+        (option_map (λ v. view v.now) delete.entry) (option_map (λ v. view v.now) inner.entry)) }
+{
     match (range, put, delete, inner) {
         (Some(range), None, None, None) => {
             Ok(Kind::Range(object_under(range, Field::RequestRange)?))

@@ -1,0 +1,43 @@
+use Rattle.std.proofs.Common.{rules}
+use Rattle.gateway_read.specs.Fields.{snake_of}
+use Rattle.gateway_read.specs.Filters.{filters_of}
+use Rattle.gateway_read.proofs.Steps.{fails_then, gives_fault}
+use Rattle.gateway_read.proofs.requests.filters_of.Goals as goal
+
+pub returns-in_err-truth_field : goal.returns-in_err-truth_field
+unfolding filters_of snake_of
+returns-in_err-truth_field c = gives_fault _ c.from_residual.result _ _ c.from_residual.ensures.1 (fails_then _ _ _ c.in_err-truth_field.ensures)
+
+pub returns-in_err-truth_field-2 : goal.returns-in_err-truth_field-2
+unfolding filters_of snake_of
+returns-in_err-truth_field-2 c = rw c.in_ok-truth_field.ensures
+    (gives_fault _ c.from_residual-in_err-truth_field-2.result _ _ c.from_residual-in_err-truth_field-2.ensures.1 (fails_then _ _ _ c.in_err-truth_field-2.ensures))
+
+pub returns-in_err-truth_field-3 : goal.returns-in_err-truth_field-3
+unfolding filters_of snake_of
+returns-in_err-truth_field-3 c = rw (c.in_ok-truth_field.ensures, c.in_ok-truth_field-2.ensures)
+    (gives_fault _ c.from_residual-in_err-truth_field-3.result _ _ c.from_residual-in_err-truth_field-3.ensures.1 (fails_then _ _ _ c.in_err-truth_field-3.ensures))
+
+pub returns-in_err-integer_field : goal.returns-in_err-integer_field
+unfolding filters_of snake_of
+returns-in_err-integer_field c = rw (c.in_ok-truth_field.ensures, c.in_ok-truth_field-2.ensures, c.in_ok-truth_field-3.ensures)
+    (gives_fault _ c.from_residual-in_err-integer_field.result _ _ c.from_residual-in_err-integer_field.ensures.1 (fails_then _ _ _ c.in_err-integer_field.ensures))
+
+pub returns-in_err-integer_field-2 : goal.returns-in_err-integer_field-2
+unfolding filters_of snake_of
+returns-in_err-integer_field-2 c = rw (c.in_ok-truth_field.ensures, c.in_ok-truth_field-2.ensures, c.in_ok-truth_field-3.ensures, c.in_ok-integer_field.ensures)
+    (gives_fault _ c.from_residual-in_err-integer_field-2.result _ _ c.from_residual-in_err-integer_field-2.ensures.1 (fails_then _ _ _ c.in_err-integer_field-2.ensures))
+
+pub returns-in_err-integer_field-3 : goal.returns-in_err-integer_field-3
+unfolding filters_of snake_of
+returns-in_err-integer_field-3 c = rw (c.in_ok-truth_field.ensures, c.in_ok-truth_field-2.ensures, c.in_ok-truth_field-3.ensures, c.in_ok-integer_field.ensures, c.in_ok-integer_field-2.ensures)
+    (gives_fault _ c.from_residual-in_err-integer_field-3.result _ _ c.from_residual-in_err-integer_field-3.ensures.1 (fails_then _ _ _ c.in_err-integer_field-3.ensures))
+
+pub returns-in_err-integer_field-4 : goal.returns-in_err-integer_field-4
+unfolding filters_of snake_of
+returns-in_err-integer_field-4 c = rw (c.in_ok-truth_field.ensures, c.in_ok-truth_field-2.ensures, c.in_ok-truth_field-3.ensures, c.in_ok-integer_field.ensures, c.in_ok-integer_field-2.ensures, c.in_ok-integer_field-3.ensures)
+    (gives_fault _ c.from_residual-in_err-integer_field-4.result _ _ c.from_residual-in_err-integer_field-4.ensures.1 (fails_then _ _ _ c.in_err-integer_field-4.ensures))
+
+pub returns : goal.returns
+unfolding filters_of snake_of
+returns c = rw (c.in_ok-truth_field.ensures, c.in_ok-truth_field-2.ensures, c.in_ok-truth_field-3.ensures, c.in_ok-integer_field.ensures, c.in_ok-integer_field-2.ensures, c.in_ok-integer_field-3.ensures, c.in_ok-integer_field-4.ensures) (search rules)
