@@ -23,8 +23,6 @@ mod object;
 mod requests;
 mod sorting;
 mod symbols;
-#[cfg(test)]
-mod tests;
 mod transacting;
 
 const PATHS: [(&str, Request); 12] = [

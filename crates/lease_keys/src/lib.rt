@@ -3,8 +3,6 @@
 
 mod index;
 mod set;
-#[cfg(test)]
-mod tests;
 mod walk;
 
 pub use index::LeaseKeys;

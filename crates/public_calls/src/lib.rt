@@ -1,13 +1,15 @@
-//! The public calls of the libraries, each once on its happy path, with ample memory: what no clause can say of them. They stand in one
-//! crate above all, for the tests of a crate have it proved once more. It has nothing but tests.
+//! The public calls of the store's libraries, each once on its happy path, with ample memory: what no clause can say of them. They stand
+//! in one crate above, for the tests of a crate have it proved once more. It has nothing but tests.
 #![tactic(auto)]
 
 #[cfg(test)]
 mod checks;
 #[cfg(test)]
-mod gateway;
+mod cores;
 #[cfg(test)]
 mod index;
+#[cfg(test)]
+mod keys_of_leases;
 #[cfg(test)]
 mod leases;
 #[cfg(test)]
@@ -15,8 +17,8 @@ mod plans;
 #[cfg(test)]
 mod table;
 #[cfg(test)]
-mod texts;
-#[cfg(test)]
 mod trims;
 #[cfg(test)]
 mod views;
+#[cfg(test)]
+mod watches;

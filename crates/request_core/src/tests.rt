@@ -1,5 +1,7 @@
-//! What no clause says: that calls succeed with ample memory, and what a sink that refuses leaves.
-use crate::answer::Status;
+//! What only calls within the crate reach: the last revisions, and what a sink that refuses leaves.
+//!
+//! A core, a receipt and a command are each handed to `drop`, and no function that has a core asserts: within the crate, each way out of
+//! a function carries the release of all the parts of what it holds, and a test that let go of a core in several places took a minute of proof.
 use crate::store::{Core, LAST_MAIN};
 use bytes::Bytes;
 use kv_model::call::{Command, DeleteRequest, PutRequest};
@@ -7,7 +9,6 @@ use kv_model::feed::{Op, Sink};
 use kv_model::refusal::Refusal;
 use kv_model::version::KeyRange;
 use std::alloc::{AllocError, Global};
-use std::test::Fail;
 
 fn put(key: &'static [u8], value: &'static [u8]) -> Command {
     Command::Put(PutRequest {
@@ -35,52 +36,37 @@ fn delete(key: &'static [u8], end: &'static [u8]) -> Command {
 }
 
 /// Does a command, and gives the revision after it. Without clauses, so that a test does not carry those of `apply`.
-fn done(core: &mut Core, command: &Command) -> Result<u64, Fail> {
-    Ok(core.apply(command)?.revision)
-}
-
-fn refused(core: &mut Core, command: &Command) -> Option<Refusal> {
-    core.apply(command).err()
-}
-
-/// Revisions 2 to 5: puts of a, b, c, and of b again.
-fn stored(alloc: Global) -> Result<Core, Fail> {
-    let mut core = Core::new(alloc);
-    done(&mut core, &put(b"a", b"1"))?;
-    done(&mut core, &put(b"b", b"1"))?;
-    done(&mut core, &put(b"c", b"1"))?;
-    done(&mut core, &put(b"b", b"2"))?;
-    Ok(core)
-}
-
-#[test]
-fn a_fresh_core(rt: HostRuntime) {
-    let core = Core::new(rt.alloc());
-    let status = Status {
-        revision: 1,
-        compacted: 0,
-        clock: 0,
-        versions: 0,
+fn done(core: &mut Core, command: Command) -> Result<u64, Refusal> {
+    let receipt = core.apply(&command);
+    let revision = match &receipt {
+        Ok(receipt) => Ok(receipt.revision),
+        Err(refusal) => Err(*refusal),
     };
-    assert_eq!(rt; core.status(), status);
-    assert_eq!(rt; core.stamp(), 0);
+    drop(receipt);
+    drop(command);
+    revision
+}
+
+/// What a put, a put of the same key and its delete are answered, at the last revision but one.
+fn three_changes(alloc: Global) -> [Result<u64, Refusal>; 3] {
+    let mut core = Core::at_last_but_one(alloc);
+    let found = [
+        done(&mut core, put(b"a", b"1")),
+        done(&mut core, put(b"a", b"2")),
+        done(&mut core, delete(b"a", b"")),
+    ];
+    drop(core);
+    found
 }
 
 /// At the last revision but one a change is accepted, and the next one is refused.
 #[test]
-fn the_greatest_revision(rt: HostRuntime) -> Result<(), Fail> {
-    let mut core = Core::at_last_but_one(rt.alloc());
-    assert_eq!(rt; done(&mut core, &put(b"a", b"1"))?, LAST_MAIN);
-    assert_eq!(rt;
-        refused(&mut core, &put(b"a", b"2")),
-        Some(Refusal::RevisionsSpent)
-    );
-    assert_eq!(rt;
-        refused(&mut core, &delete(b"a", b"")),
-        Some(Refusal::RevisionsSpent)
-    );
+fn the_greatest_revision(rt: HostRuntime) {
+    let found = three_changes(rt.alloc());
+    assert_eq!(rt; found[0], Ok(LAST_MAIN));
+    assert_eq!(rt; found[1], Err(Refusal::RevisionsSpent));
+    assert_eq!(rt; found[2], Err(Refusal::RevisionsSpent));
     assert_eq!(rt; Refusal::RevisionsSpent.number(), 17);
-    Ok(())
 }
 
 /// A sink that refuses each taking.
@@ -96,30 +82,56 @@ impl Sink for Full {
     }
 }
 
-fn refused_by_sink(core: &mut Core, command: &Command) -> Option<Refusal> {
-    core.apply_over(command, &mut Full).err()
+fn refused_by_sink(core: &mut Core, command: Command) -> Option<Refusal> {
+    let refused = core.apply_over(&command, &mut Full).err();
+    drop(command);
+    refused
 }
 
-#[test]
-fn a_refused_taking_leaves_nothing(rt: HostRuntime) -> Result<(), Fail> {
-    let mut core = stored(rt.alloc())?;
+/// Revisions 2 to 5: puts of a, b, c, and of b again.
+fn store(core: &mut Core) -> Result<u64, Refusal> {
+    done(core, put(b"a", b"1"))?;
+    done(core, put(b"b", b"1"))?;
+    done(core, put(b"c", b"1"))?;
+    done(core, put(b"b", b"2"))
+}
+
+/// What a put and a delete are refused for by a full sink, and whether they left the numbers as they were.
+fn refused_takings(core: &mut Core) -> (Option<Refusal>, Option<Refusal>, bool) {
     let before = core.status();
-    assert_eq!(rt;
-        refused_by_sink(&mut core, &put(b"a", b"2")),
-        Some(Refusal::Memory)
-    );
-    assert_eq!(rt;
-        refused_by_sink(&mut core, &delete(b"a", b"c")),
-        Some(Refusal::Memory)
-    );
-    assert_eq!(rt; core.status(), before);
-    assert_eq!(rt; done(&mut core, &delete(b"a", b"c"))?, 6);
-    Ok(())
+    let of_put = refused_by_sink(core, put(b"a", b"2"));
+    let of_delete = refused_by_sink(core, delete(b"a", b"c"));
+    (of_put, of_delete, core.status() == before)
 }
 
-fn crosses<T: Send + Drop>(_value: T) {}
+#[derive(Clone, Copy)]
+struct Takings {
+    stored: Result<u64, Refusal>,
+    refused: (Option<Refusal>, Option<Refusal>, bool),
+    deleted: Result<u64, Refusal>,
+}
+
+/// What four puts, two changes that a full sink refuses and a delete are answered.
+fn after_takings(alloc: Global) -> Takings {
+    let mut core = Core::new(alloc);
+    let stored = store(&mut core);
+    let refused = refused_takings(&mut core);
+    let deleted = done(&mut core, delete(b"a", b"c"));
+    drop(core);
+    Takings {
+        stored,
+        refused,
+        deleted,
+    }
+}
 
 #[test]
-fn a_core_crosses_threads(rt: HostRuntime) {
-    crosses(Core::new(rt.alloc()));
+fn a_refused_taking_leaves_nothing(rt: HostRuntime) {
+    let found = after_takings(rt.alloc());
+    assert_eq!(rt; found.stored, Ok(5));
+    assert_eq!(rt;
+        found.refused,
+        (Some(Refusal::Memory), Some(Refusal::Memory), true)
+    );
+    assert_eq!(rt; found.deleted, Ok(6));
 }

@@ -5,7 +5,5 @@ mod entries;
 mod entry;
 pub mod hub;
 mod matching;
-#[cfg(test)]
-mod tests;
 
 pub use hub::{Pending, WatchHub};

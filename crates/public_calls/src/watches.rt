@@ -1,5 +1,4 @@
-//! What no clause says: that calls succeed with ample memory.
-use super::WatchHub;
+//! Watches of one key, made, told of and ended.
 use bytes::Bytes;
 use kv_model::call::Watched;
 use kv_model::refusal::Refusal;
@@ -7,6 +6,7 @@ use kv_model::version::{Body, KeyRange, Rev, Version};
 use range_view::Tables;
 use std::alloc::{AllocError, Global};
 use std::test::Fail;
+use watch_hub::WatchHub;
 
 /// A put of the key a.
 fn put(main: u64) -> Version {

@@ -24,6 +24,13 @@ fn put_once<'a>(key: &'a [u8], value: &'a [u8], revision: u64) -> KvRef<'a> {
     }
 }
 
+fn says(text: Result<Vec<u8>, AllocError>, body: &str) -> bool {
+    match text {
+        Ok(text) => text.as_slice() == body.as_bytes(),
+        Err(_) => false,
+    }
+}
+
 #[test]
 fn a_range_of_one_key(rt: HostRuntime) {
     let Ok(kvs) = vec![in rt.alloc(); put_once(b"foo", b"bar", 2)] else {
@@ -35,12 +42,11 @@ fn a_range_of_one_key(rt: HostRuntime) {
         more: false,
         revision: 2,
     };
-    let Ok(text) = range_text(rt.alloc(), &reply, &IDS) else {
-        panic!(rt; "no memory");
-    };
-    assert_eq!(rt;
-        text.as_slice(),
-        b"{\"count\":\"1\",\"header\":{\"cluster_id\":\"1\",\"member_id\":\"1\",\"raft_term\":\"1\",\"revision\":\"2\"},\"kvs\":[{\"create_revision\":\"2\",\"key\":\"Zm9v\",\"mod_revision\":\"2\",\"value\":\"YmFy\",\"version\":\"1\"}]}".as_slice()
+    assert!(rt;
+        says(
+            range_text(rt.alloc(), &reply, &IDS),
+            "{\"count\":\"1\",\"header\":{\"cluster_id\":\"1\",\"member_id\":\"1\",\"raft_term\":\"1\",\"revision\":\"2\"},\"kvs\":[{\"create_revision\":\"2\",\"key\":\"Zm9v\",\"mod_revision\":\"2\",\"value\":\"YmFy\",\"version\":\"1\"}]}"
+        )
     );
 }
 
@@ -55,12 +61,11 @@ fn a_range_that_the_limit_cut(rt: HostRuntime) {
         more: true,
         revision: 5,
     };
-    let Ok(text) = range_text(rt.alloc(), &reply, &IDS) else {
-        panic!(rt; "no memory");
-    };
-    assert_eq!(rt;
-        text.as_slice(),
-        b"{\"count\":\"3\",\"header\":{\"cluster_id\":\"1\",\"member_id\":\"1\",\"raft_term\":\"1\",\"revision\":\"5\"},\"kvs\":[{\"create_revision\":\"2\",\"key\":\"YQ==\",\"mod_revision\":\"2\",\"value\":\"MQ==\",\"version\":\"1\"}],\"more\":true}".as_slice()
+    assert!(rt;
+        says(
+            range_text(rt.alloc(), &reply, &IDS),
+            "{\"count\":\"3\",\"header\":{\"cluster_id\":\"1\",\"member_id\":\"1\",\"raft_term\":\"1\",\"revision\":\"5\"},\"kvs\":[{\"create_revision\":\"2\",\"key\":\"YQ==\",\"mod_revision\":\"2\",\"value\":\"MQ==\",\"version\":\"1\"}],\"more\":true}"
+        )
     );
 }
 
@@ -79,45 +84,41 @@ fn a_range_of_keys_alone(rt: HostRuntime) {
         more: false,
         revision: 5,
     };
-    let Ok(text) = range_text(rt.alloc(), &reply, &IDS) else {
-        panic!(rt; "no memory");
-    };
-    assert_eq!(rt;
-        text.as_slice(),
-        b"{\"count\":\"2\",\"header\":{\"cluster_id\":\"1\",\"member_id\":\"1\",\"raft_term\":\"1\",\"revision\":\"5\"},\"kvs\":[{\"create_revision\":\"3\",\"key\":\"Yg==\",\"lease\":\"-7\",\"mod_revision\":\"5\",\"version\":\"2\"},{\"create_revision\":\"2\",\"key\":\"YQ==\",\"mod_revision\":\"2\",\"version\":\"1\"}]}".as_slice()
+    assert!(rt;
+        says(
+            range_text(rt.alloc(), &reply, &IDS),
+            "{\"count\":\"2\",\"header\":{\"cluster_id\":\"1\",\"member_id\":\"1\",\"raft_term\":\"1\",\"revision\":\"5\"},\"kvs\":[{\"create_revision\":\"3\",\"key\":\"Yg==\",\"lease\":\"-7\",\"mod_revision\":\"5\",\"version\":\"2\"},{\"create_revision\":\"2\",\"key\":\"YQ==\",\"mod_revision\":\"2\",\"version\":\"1\"}]}"
+        )
     );
 }
 
 #[test]
 fn a_put(rt: HostRuntime) {
-    let Ok(text) = put_text(rt.alloc(), 2, None, &IDS) else {
-        panic!(rt; "no memory");
-    };
-    assert_eq!(rt;
-        text.as_slice(),
-        b"{\"header\":{\"cluster_id\":\"1\",\"member_id\":\"1\",\"raft_term\":\"1\",\"revision\":\"2\"}}".as_slice()
+    assert!(rt;
+        says(
+            put_text(rt.alloc(), 2, None, &IDS),
+            "{\"header\":{\"cluster_id\":\"1\",\"member_id\":\"1\",\"raft_term\":\"1\",\"revision\":\"2\"}}"
+        )
     );
 }
 
 #[test]
 fn a_put_over_a_value(rt: HostRuntime) {
-    let Ok(text) = put_text(rt.alloc(), 3, Some(put_once(b"foo", b"bar", 2)), &IDS) else {
-        panic!(rt; "no memory");
-    };
-    assert_eq!(rt;
-        text.as_slice(),
-        b"{\"header\":{\"cluster_id\":\"1\",\"member_id\":\"1\",\"raft_term\":\"1\",\"revision\":\"3\"},\"prev_kv\":{\"create_revision\":\"2\",\"key\":\"Zm9v\",\"mod_revision\":\"2\",\"value\":\"YmFy\",\"version\":\"1\"}}".as_slice()
+    assert!(rt;
+        says(
+            put_text(rt.alloc(), 3, Some(put_once(b"foo", b"bar", 2)), &IDS),
+            "{\"header\":{\"cluster_id\":\"1\",\"member_id\":\"1\",\"raft_term\":\"1\",\"revision\":\"3\"},\"prev_kv\":{\"create_revision\":\"2\",\"key\":\"Zm9v\",\"mod_revision\":\"2\",\"value\":\"YmFy\",\"version\":\"1\"}}"
+        )
     );
 }
 
 #[test]
 fn a_delete(rt: HostRuntime) {
-    let Ok(text) = delete_text(rt.alloc(), 3, 1, &[put_once(b"foo", b"bar", 2)], &IDS) else {
-        panic!(rt; "no memory");
-    };
-    assert_eq!(rt;
-        text.as_slice(),
-        b"{\"deleted\":\"1\",\"header\":{\"cluster_id\":\"1\",\"member_id\":\"1\",\"raft_term\":\"1\",\"revision\":\"3\"},\"prev_kvs\":[{\"create_revision\":\"2\",\"key\":\"Zm9v\",\"mod_revision\":\"2\",\"value\":\"YmFy\",\"version\":\"1\"}]}".as_slice()
+    assert!(rt;
+        says(
+            delete_text(rt.alloc(), 3, 1, &[put_once(b"foo", b"bar", 2)], &IDS),
+            "{\"deleted\":\"1\",\"header\":{\"cluster_id\":\"1\",\"member_id\":\"1\",\"raft_term\":\"1\",\"revision\":\"3\"},\"prev_kvs\":[{\"create_revision\":\"2\",\"key\":\"Zm9v\",\"mod_revision\":\"2\",\"value\":\"YmFy\",\"version\":\"1\"}]}"
+        )
     );
 }
 
@@ -132,13 +133,6 @@ fn a_refused_put(rt: HostRuntime) {
         text.as_slice(),
         b"{\"code\":3,\"error\":\"etcdserver: key is not provided\",\"message\":\"etcdserver: key is not provided\"}".as_slice()
     );
-}
-
-fn says(text: Result<Vec<u8>, AllocError>, body: &str) -> bool {
-    match text {
-        Ok(text) => text.as_slice() == body.as_bytes(),
-        Err(_) => false,
-    }
 }
 
 #[test]
@@ -225,10 +219,7 @@ fn bodies_that_cannot_be_read(rt: HostRuntime) {
     ];
     for (wording, status, body) in wordings {
         assert_eq!(rt; wording.status, status);
-        let Ok(text) = refusal_text(rt.alloc(), &wording) else {
-            panic!(rt; "no memory");
-        };
-        assert_eq!(rt; text.as_slice(), body.as_bytes());
+        assert!(rt; says(refusal_text(rt.alloc(), &wording), body));
     }
 }
 

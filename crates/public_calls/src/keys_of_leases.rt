@@ -1,7 +1,7 @@
-//! What no clause says: that calls succeed with ample memory.
-use super::LeaseKeys;
+//! The index of the keys of each lease, each call once.
 use bytes::Bytes;
 use kv_model::version::{Body, Rev, Version};
+use lease_keys::LeaseKeys;
 use std::alloc::{AllocError, Global};
 use std::test::Fail;
 

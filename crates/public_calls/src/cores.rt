@@ -1,0 +1,23 @@
+//! The store before its first command.
+use request_core::answer::Status;
+use request_core::store::Core;
+
+#[test]
+fn a_fresh_core(rt: HostRuntime) {
+    let core = Core::new(rt.alloc());
+    let status = Status {
+        revision: 1,
+        compacted: 0,
+        clock: 0,
+        versions: 0,
+    };
+    assert_eq!(rt; core.status(), status);
+    assert_eq!(rt; core.stamp(), 0);
+}
+
+fn crosses<T: Send + Drop>(_value: T) {}
+
+#[test]
+fn a_core_crosses_threads(rt: HostRuntime) {
+    crosses(Core::new(rt.alloc()));
+}
