@@ -1,8 +1,10 @@
 pub mod Integers
 pub mod Readings
+pub mod Each
 pub mod Enums
 pub mod Transactions
 pub mod Marks
 pub mod Signs
 pub mod Spellings
 pub mod Steps
+pub mod Operands

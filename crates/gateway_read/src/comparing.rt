@@ -3,7 +3,7 @@ ghost use Rattle.std.specs.Prelude.{◌≡◌};
 ghost use Rattle.serde_json.specs.View.{view};
 ghost use Rattle.kv_model.specs.declared.call.Relation.TheVariants.{IsEqual};
 ghost use Rattle.kv_model.specs.Requests as requests;
-ghost use Rattle.gateway_read.specs.Compares.{target_of, compared};
+ghost use Rattle.gateway_read.specs.Compares.{target_of, operand_read, compared};
 ghost use Rattle.gateway_read.specs.Fields.{snake_of};
 ghost use Rattle.gateway_read.specs.Objects.{seen};
 ghost use Rattle.gateway_read.specs.Reading.{Gives};
@@ -66,7 +66,6 @@ fn target_field(object: &Object<'_>) -> Result<Target, Bad>
 }
 
 /// The compare with what is left to read of it.
-#[tactic(auto, unfolding(crate::specs::Fields::snake_of, crate::specs::Compares::compared))]
 fn compared(
     alloc: Global,
     object: &Object<'_>,
@@ -77,21 +76,30 @@ fn compared(
     ensures { Gives (λ compare. compare) result
         (compared range relation (target_of target) (seen object.now)) }
 {
+    let operand = operand_of(alloc, object, target)?;
+    Ok(Compare {
+        range,
+        relation,
+        operand,
+    })
+}
+
+/// The operand that the target names. Each operand is read.
+#[tactic(auto, unfolding(crate::specs::Fields::snake_of, crate::specs::Compares::operand_read))]
+fn operand_of(alloc: Global, object: &Object<'_>, target: Target) -> Result<Operand, Bad>
+    ensures { Gives (λ operand. operand) result
+        (operand_read (target_of target) (seen object.now)) }
+{
     let version = integer_field(object, Field::Version)?;
     let create = integer_field(object, Field::CreateRevision)?;
     let modified = integer_field(object, Field::ModRevision)?;
     let value = bytes_field(alloc, object, Field::Value)?;
     let lease = integer_field(object, Field::Lease)?;
-    let operand = match target {
+    Ok(match target {
         Target::Version => Operand::OfVersion(version),
         Target::Create => Operand::OfCreate(create),
         Target::Mod => Operand::OfMod(modified),
         Target::Value => Operand::OfValue(value),
         Target::Lease => Operand::OfLease(lease),
-    };
-    Ok(Compare {
-        range,
-        relation,
-        operand,
     })
 }

@@ -88,10 +88,50 @@ pub enum Field {
 
 impl Field {
     /// The name as the etcd documentation spells it, as `range_end`. Refusals name a field so.
+    #[tactic(auto, unfolding(crate::specs::Fields::snake_of))]
     pub fn snake(self) -> &'static str
         ensures { result.now ≡ snake_of self }
     {
-        self.spelled().0
+        match self {
+            Field::Key => "key",
+            Field::RangeEnd => "range_end",
+            Field::Limit => "limit",
+            Field::Revision => "revision",
+            Field::SortOrder => "sort_order",
+            Field::SortTarget => "sort_target",
+            Field::Serializable => "serializable",
+            Field::KeysOnly => "keys_only",
+            Field::CountOnly => "count_only",
+            Field::MinModRevision => "min_mod_revision",
+            Field::MaxModRevision => "max_mod_revision",
+            Field::MinCreateRevision => "min_create_revision",
+            Field::MaxCreateRevision => "max_create_revision",
+            Field::Value => "value",
+            Field::Lease => "lease",
+            Field::PrevKv => "prev_kv",
+            Field::IgnoreValue => "ignore_value",
+            Field::IgnoreLease => "ignore_lease",
+            Field::Compare => "compare",
+            Field::Success => "success",
+            Field::Failure => "failure",
+            Field::Physical => "physical",
+            Field::CreateRequest => "create_request",
+            Field::StartRevision => "start_revision",
+            Field::Filters => "filters",
+            Field::WatchId => "watch_id",
+            Field::Ttl => "TTL",
+            Field::Id => "ID",
+            Field::Keys => "keys",
+            Field::Result => "result",
+            Field::Target => "target",
+            Field::Version => "version",
+            Field::CreateRevision => "create_revision",
+            Field::ModRevision => "mod_revision",
+            Field::RequestRange => "request_range",
+            Field::RequestPut => "request_put",
+            Field::RequestDeleteRange => "request_delete_range",
+            Field::RequestTxn => "request_txn",
+        }
     }
 
     /// The name in camel case, as `rangeEnd` (protobuf's JSON mapping: lowerCamelCase). Some names are the same in both.
@@ -99,54 +139,52 @@ impl Field {
         ensures spelling { result.now ≡ camel_of self }
         ensures camel { result.now ≡ requests.camel (snake_of self) }
     {
-        self.spelled().1
+        self.spelled_in_camel_case()
     }
 
-    /// The name in snake case and in camel case.
-    #[tactic(auto, unfolding(crate::specs::Fields::snake_of, crate::specs::Fields::camel_of))]
-    fn spelled(self) -> (&'static str, &'static str)
-        ensures snake { result.0.now ≡ snake_of self }
-        ensures camel { result.1.now ≡ camel_of self }
+    #[tactic(auto, unfolding(crate::specs::Fields::camel_of))]
+    fn spelled_in_camel_case(self) -> &'static str
+        ensures { result.now ≡ camel_of self }
     {
         match self {
-            Field::Key => ("key", "key"),
-            Field::RangeEnd => ("range_end", "rangeEnd"),
-            Field::Limit => ("limit", "limit"),
-            Field::Revision => ("revision", "revision"),
-            Field::SortOrder => ("sort_order", "sortOrder"),
-            Field::SortTarget => ("sort_target", "sortTarget"),
-            Field::Serializable => ("serializable", "serializable"),
-            Field::KeysOnly => ("keys_only", "keysOnly"),
-            Field::CountOnly => ("count_only", "countOnly"),
-            Field::MinModRevision => ("min_mod_revision", "minModRevision"),
-            Field::MaxModRevision => ("max_mod_revision", "maxModRevision"),
-            Field::MinCreateRevision => ("min_create_revision", "minCreateRevision"),
-            Field::MaxCreateRevision => ("max_create_revision", "maxCreateRevision"),
-            Field::Value => ("value", "value"),
-            Field::Lease => ("lease", "lease"),
-            Field::PrevKv => ("prev_kv", "prevKv"),
-            Field::IgnoreValue => ("ignore_value", "ignoreValue"),
-            Field::IgnoreLease => ("ignore_lease", "ignoreLease"),
-            Field::Compare => ("compare", "compare"),
-            Field::Success => ("success", "success"),
-            Field::Failure => ("failure", "failure"),
-            Field::Physical => ("physical", "physical"),
-            Field::CreateRequest => ("create_request", "createRequest"),
-            Field::StartRevision => ("start_revision", "startRevision"),
-            Field::Filters => ("filters", "filters"),
-            Field::WatchId => ("watch_id", "watchId"),
-            Field::Ttl => ("TTL", "TTL"),
-            Field::Id => ("ID", "ID"),
-            Field::Keys => ("keys", "keys"),
-            Field::Result => ("result", "result"),
-            Field::Target => ("target", "target"),
-            Field::Version => ("version", "version"),
-            Field::CreateRevision => ("create_revision", "createRevision"),
-            Field::ModRevision => ("mod_revision", "modRevision"),
-            Field::RequestRange => ("request_range", "requestRange"),
-            Field::RequestPut => ("request_put", "requestPut"),
-            Field::RequestDeleteRange => ("request_delete_range", "requestDeleteRange"),
-            Field::RequestTxn => ("request_txn", "requestTxn"),
+            Field::Key => "key",
+            Field::RangeEnd => "rangeEnd",
+            Field::Limit => "limit",
+            Field::Revision => "revision",
+            Field::SortOrder => "sortOrder",
+            Field::SortTarget => "sortTarget",
+            Field::Serializable => "serializable",
+            Field::KeysOnly => "keysOnly",
+            Field::CountOnly => "countOnly",
+            Field::MinModRevision => "minModRevision",
+            Field::MaxModRevision => "maxModRevision",
+            Field::MinCreateRevision => "minCreateRevision",
+            Field::MaxCreateRevision => "maxCreateRevision",
+            Field::Value => "value",
+            Field::Lease => "lease",
+            Field::PrevKv => "prevKv",
+            Field::IgnoreValue => "ignoreValue",
+            Field::IgnoreLease => "ignoreLease",
+            Field::Compare => "compare",
+            Field::Success => "success",
+            Field::Failure => "failure",
+            Field::Physical => "physical",
+            Field::CreateRequest => "createRequest",
+            Field::StartRevision => "startRevision",
+            Field::Filters => "filters",
+            Field::WatchId => "watchId",
+            Field::Ttl => "TTL",
+            Field::Id => "ID",
+            Field::Keys => "keys",
+            Field::Result => "result",
+            Field::Target => "target",
+            Field::Version => "version",
+            Field::CreateRevision => "createRevision",
+            Field::ModRevision => "modRevision",
+            Field::RequestRange => "requestRange",
+            Field::RequestPut => "requestPut",
+            Field::RequestDeleteRange => "requestDeleteRange",
+            Field::RequestTxn => "requestTxn",
         }
     }
 }

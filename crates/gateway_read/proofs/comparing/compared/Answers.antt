@@ -1,28 +1,13 @@
-use Rattle.gateway_read.specs.Compares.{compared}
-use Rattle.gateway_read.specs.Fields.{snake_of}
+use Rattle.std.proofs.Common.{rules}
+use Rattle.gateway_read.specs.Compares.{target_of}
+use Rattle.gateway_read.specs.Objects.{seen}
+use Rattle.gateway_read.proofs.Operands.{compared-operand}
 use Rattle.gateway_read.proofs.Steps.{fails_then, gives_fault}
 use Rattle.gateway_read.proofs.comparing.compared.Goals as goal
 
-pub returns-in_err-version : goal.returns-in_err-version
-unfolding compared snake_of
-returns-in_err-version c = gives_fault _ c.from_residual.result _ _ c.from_residual.ensures.1 (fails_then _ _ _ c.in_err-version.ensures)
+pub returns-in_err-operand : goal.returns-in_err-operand
+returns-in_err-operand c = rw (compared-operand c.args.range c.args.relation (target_of c.args.target) (seen c.args.object.now))
+    (gives_fault _ c.from_residual.result _ _ c.from_residual.ensures.1 (fails_then _ _ _ c.in_err-operand.ensures))
 
-pub returns-in_err-create : goal.returns-in_err-create
-unfolding compared snake_of
-returns-in_err-create c = rw c.in_ok-version.ensures
-    (gives_fault _ c.from_residual-in_err-create.result _ _ c.from_residual-in_err-create.ensures.1 (fails_then _ _ _ c.in_err-create.ensures))
-
-pub returns-in_err-modified : goal.returns-in_err-modified
-unfolding compared snake_of
-returns-in_err-modified c = rw (c.in_ok-version.ensures, c.in_ok-create.ensures)
-    (gives_fault _ c.from_residual-in_err-modified.result _ _ c.from_residual-in_err-modified.ensures.1 (fails_then _ _ _ c.in_err-modified.ensures))
-
-pub returns-in_err-value : goal.returns-in_err-value
-unfolding compared snake_of
-returns-in_err-value c = rw (c.in_ok-version.ensures, c.in_ok-create.ensures, c.in_ok-modified.ensures)
-    (gives_fault _ c.from_residual-in_err-value.result _ _ c.from_residual-in_err-value.ensures.1 (fails_then _ _ _ c.in_err-value.ensures))
-
-pub returns-in_err-lease : goal.returns-in_err-lease
-unfolding compared snake_of
-returns-in_err-lease c = rw (c.in_ok-version.ensures, c.in_ok-create.ensures, c.in_ok-modified.ensures, c.in_ok-value.ensures)
-    (gives_fault _ c.from_residual-in_err-lease.result _ _ c.from_residual-in_err-lease.ensures.1 (fails_then _ _ _ c.in_err-lease.ensures))
+pub returns : goal.returns
+returns c = rw (compared-operand c.args.range c.args.relation (target_of c.args.target) (seen c.args.object.now), c.in_ok-operand.ensures) (search rules)
