@@ -1,4 +1,5 @@
-//! The store before its first command.
+//! The store before its first command, and the number of a refusal that no test outside the store comes to.
+use kv_model::refusal::Refusal;
 use request_core::answer::Status;
 use request_core::store::Core;
 
@@ -20,4 +21,9 @@ fn crosses<T: Send + Drop>(_value: T) {}
 #[test]
 fn a_core_crosses_threads(rt: HostRuntime) {
     crosses(Core::new(rt.alloc()));
+}
+
+#[test]
+fn the_number_of_spent_revisions(rt: HostRuntime) {
+    assert_eq!(rt; Refusal::RevisionsSpent.number(), 17);
 }
