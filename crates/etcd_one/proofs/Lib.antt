@@ -2,3 +2,4 @@ pub mod CommandLine
 pub mod Lines
 pub mod Numbers
 pub mod Reading
+pub mod Writing

@@ -2,3 +2,4 @@ pub mod Arguments
 pub mod Faults
 pub mod Script
 pub mod Replies
+pub mod Lines

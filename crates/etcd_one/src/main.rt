@@ -15,8 +15,12 @@ mod tests;
 use command_line::{Args, arguments};
 use fault::{Fault, fault_of_words};
 use replay::replay;
+use std::io::BufWriter;
 use std::process::ExitCode;
 use std::{env, io};
+
+/// The bytes that are written at once.
+const BUFFER: usize = 65_536;
 
 fn run(rt: &HostRuntime) -> Result<(), Fault> {
     let mut words = Vec::new(rt.alloc());
@@ -25,8 +29,18 @@ fn run(rt: &HostRuntime) -> Result<(), Fault> {
         words.push(word).map_err(|_| Fault::Memory)?;
     }
     match arguments(rt.alloc(), words.as_slice())? {
-        Args::Replay => replay(rt.alloc(), &mut rt.reader(), &mut io::writer(rt)),
+        Args::Replay => replay_all(rt),
     }
+}
+
+/// Answers standard input on standard output, through a buffer that is there before the first read.
+fn replay_all(rt: &HostRuntime) -> Result<(), Fault> {
+    let made = BufWriter::with_capacity(rt.alloc(), BUFFER, io::writer(rt));
+    let mut writer = made.map_err(|_| Fault::Memory)?;
+    let ended = replay(rt.alloc(), &mut rt.reader(), &mut writer);
+    // A writer that is dropped would write what a failed write has left.
+    let _ = writer.into_parts();
+    ended
 }
 
 fn main(rt: HostRuntime) -> ExitCode {

@@ -1,17 +1,22 @@
 //! `replay`: the replies to a script.
-ghost use Rattle.std.specs.Prelude.{◌≡◌, ◌≢◌, ◌≤◌, ◌++◌, ◌∷◌, [], List, ℕ, Err, true, false, nat_lt, take, length, map, option_map, codes, decimal, IfOk, IfErr, OnOk, IfSome, MatchResult};
+ghost use Rattle.std.specs.Prelude.{◌≡◌, ◌≢◌, ◌≤◌, ◌++◌, ◌∷◌, [], List, Option, Bool, ℕ, Err, true, false, nat_lt, take, drop, length, map, option_map, codes, decimal, IfOk, IfErr, OnOk, IfSome, MatchResult};
 ghost use Rattle.std.specs.Fmt.{signed_decimal};
 ghost use Rattle.std.specs.Io.KnownBytes.{Appends};
 ghost use Rattle.std.specs.IoError.{error_kind};
 ghost use Rattle.request_core.specs.Answers.{expiry_view};
 ghost use Rattle.json_gateway.specs.Outcomes.{shown};
 ghost use Rattle.json_gateway.specs.Runs.{command_view, event_view, expiry_outcome, outcome_view};
+ghost use Rattle.kv_model.specs.Wire.{Follows};
+ghost use Rattle.etcd_one.specs.Lines.{AreLines};
 ghost use Rattle.etcd_one.specs.Replies as spec;
+ghost use Rattle.etcd_one.specs.Script as script;
 ghost use Rattle.etcd_one.specs.Faults.{is_read, is_write};
 
 use crate::fault::Fault;
-use crate::script::line_events;
-use json_gateway::{Expiry, Ids, Outcome, Refusal, Settled, WireEvent, WireOutcome, run_wire};
+use crate::script::{Lines, line_events};
+use json_gateway::{
+    Expiry, Ids, Outcome, Refusal, Settled, WireEvent, WireOutcome, WireRun, run_wire,
+};
 use std::alloc::{AllocError, Global};
 use std::io;
 use std::io::{ErrorKind, Read, Write};
@@ -31,7 +36,8 @@ const IDS: Ids = Ids {
 /// `out of memory`.
 ///
 /// **What is written is what the model of the whole history answers to the script**, where it is known what the reader gives
-/// and the writer holds. Memory: the script and all replies at once.
+/// and the writer holds. Memory: the script and the bodies of all replies at once. Nothing is written before the last of
+/// them is made, and no memory is taken from then on. A reply goes to the writer in a few pieces, so it should have a buffer.
 ///
 /// Fails with `Fault::Read` where a read fails, `Fault::Endless` where the script has not ended after 2^30 reads, and
 /// `Fault::Memory` where memory is wanting outside a request; then nothing is written. Fails with `Fault::Write` where a
@@ -42,8 +48,8 @@ pub fn replay<R: Read, W: Write>(alloc: Global, r: &mut R, w: &mut W) -> Result<
     ensures err { IfErr result (λ fault. is_write fault ≡ false → w.new ≡ w.old) }
 {
     let script = read_script(alloc, r, READS)?;
-    match replies_to(alloc, script.as_slice()) {
-        Ok(replies) => write_out(w, replies.as_slice()),
+    match run_of(alloc, script.as_slice()) {
+        Ok(run) => write_out(w, &run.lines, &run.outcomes),
         Err(_) => Err(Fault::Memory),
     }
 }
@@ -91,171 +97,163 @@ fn take_in(read: io::Result<usize>, buffer: &[u8], script: &mut Vec<u8>) -> Resu
     }
 }
 
-/// The replies to a script, one line for each of its lines. Fails for want of memory outside a request.
-pub fn replies_to(alloc: Global, script: &[u8]) -> Result<Vec<u8>, AllocError>
-    ensures { IfOk result (λ replies. spec.IsAnswered script.now replies.items) }
-{
-    let lines = line_events(alloc, script)?;
-    let events = events_among(alloc, lines.as_slice())?;
-    let run = run_wire(alloc, events.as_slice(), &IDS)?;
-    reply_lines(alloc, lines.as_slice(), run.outcomes.as_slice())
+/// A script's lines, and the outcomes of its events, in order.
+#[derive(Drop)]
+pub struct Run<'a> {
+    pub lines: Lines<'a>,
+    pub outcomes: Vec<WireOutcome>,
 }
 
-/// The events, without the bad lines.
-fn events_among<'a>(
-    alloc: Global,
-    lines: &[Option<WireEvent<'a>>],
-) -> Result<Vec<WireEvent<'a>>, AllocError>
-    ensures { IfOk result (λ events. map event_view events.items ≡ spec.events_among (map (option_map event_view) lines.now)) }
+/// Runs a script's events on a fresh store. Fails for want of memory outside a request.
+pub fn run_of(alloc: Global, text: &[u8]) -> Result<Run<'_>, AllocError>
+    ensures lines { IfOk result (λ run. AreLines run.lines (script.line_events text.now)) }
+    ensures follows { IfOk result (λ run. Follows spec.ids (spec.events_among (script.line_events text.now)) (map outcome_view run.outcomes.items)) }
 {
-    let mut events = Vec::new(alloc);
-    for line in lines {
-        if let Some(event) = line {
-            events.push(*event)?;
-        }
-    }
-    Ok(events)
+    let lines = line_events(alloc, text)?;
+    let WireRun { outcomes } = run_wire(alloc, lines.events.as_slice(), &IDS)?;
+    Ok(Run { lines, outcomes })
 }
 
-/// A reply for each line: `bad line`, or that of the next outcome.
-fn reply_lines(
-    alloc: Global,
-    lines: &[Option<WireEvent<'_>>],
-    outcomes: &[WireOutcome],
-) -> Result<Vec<u8>, AllocError>
-    ensures { IfOk result (λ text. text.items
-        ≡ spec.reply_lines (map (option_map event_view) lines.now) (map outcome_view outcomes.now)) }
-{
-    let mut text = Vec::new(alloc);
-    let mut rest = outcomes;
-    for line in lines {
-        if let Some(event) = line {
-            if let Some((outcome, later)) = rest.split_first() {
-                push_outcome(&mut text, event, outcome)?;
-                rest = later;
-            }
-        } else {
-            text.extend_from_slice(b"bad line\n")?;
-        }
-    }
-    Ok(text)
-}
-
-/// Writes the line of an event's outcome.
-fn push_outcome(
-    text: &mut Vec<u8>,
-    event: &WireEvent<'_>,
-    outcome: &WireOutcome,
-) -> Result<(), AllocError>
-    ensures { OnOk result (text.new.items
-        ≡ text.old.items ++ spec.outcome_line (event_view event.now) (outcome_view outcome.now)) }
-{
-    match outcome {
-        WireOutcome::Posted(posted) => push_posted(text, event, posted),
-        WireOutcome::Clock(clock) => push_clock(text, *clock),
-        WireOutcome::Expiry(Ok(expiry)) => push_expiry(text, *expiry),
-        WireOutcome::Expiry(Err(refusal)) => push_unexpired(text, event, *refusal),
-    }
-}
-
-fn push_posted(
-    text: &mut Vec<u8>,
-    event: &WireEvent<'_>,
-    posted: &Outcome,
-) -> Result<(), AllocError>
-    ensures { OnOk result (text.new.items
-        ≡ text.old.items ++ spec.outcome_line (event_view event.now) (command_view posted.now)) }
-{
-    match &posted.settled {
-        Settled::Memory => push_out_of_memory(text, event),
-        Settled::Reply(_) | Settled::Lost(_) => push_settled(text, &posted.settled),
-    }
-}
-
-fn push_settled(text: &mut Vec<u8>, settled: &Settled) -> Result<(), AllocError>
-    ensures { OnOk result (text.new.items ≡ text.old.items ++ spec.response_line (shown settled.now)) }
-{
-    let (status, body) = settled.wire();
-    push_response(text, status, body)
-}
-
-/// Writes that an event found no memory.
-fn push_out_of_memory(text: &mut Vec<u8>, event: &WireEvent<'_>) -> Result<(), AllocError>
-    ensures { OnOk result (text.new.items ≡ text.old.items ++ spec.memory_line (event_view event.now)) }
-{
-    match event {
-        WireEvent::Post { .. } => push_settled(text, &Settled::Memory),
-        _ => text.extend_from_slice(b"out of memory\n"),
-    }
-}
-
-fn push_clock(text: &mut Vec<u8>, clock: u64) -> Result<(), AllocError>
-    ensures { OnOk result (text.new.items ≡ text.old.items ++ spec.clock_line clock) }
-{
-    let Ok(()) = writeln!(text, "at {clock}") else {
-        return Err(AllocError);
-    };
-    Ok(())
-}
-
-fn push_expiry(text: &mut Vec<u8>, expiry: Expiry) -> Result<(), AllocError>
-    ensures { OnOk result (text.new.items ≡ text.old.items ++ spec.expiry_line (expiry_view expiry)) }
-{
-    match expiry {
-        Expiry::Nothing => text.extend_from_slice(b"nothing\n"),
-        Expiry::Expired { id, revision, .. } => push_expired(text, id, revision),
-    }
-}
-
-fn push_expired(text: &mut Vec<u8>, id: i64, revision: u64) -> Result<(), AllocError>
-    ensures { OnOk result (text.new.items ≡ text.old.items
-        ++ codes "expired " ++ signed_decimal id ++ codes " revision " ++ decimal revision ++ 10 ∷ []) }
-{
-    let Ok(()) = writeln!(text, "expired {id} revision {revision}") else {
-        return Err(AllocError);
-    };
-    Ok(())
-}
-
-/// Writes why a step of expiry was refused.
-fn push_unexpired(
-    text: &mut Vec<u8>,
-    event: &WireEvent<'_>,
-    refusal: Refusal,
-) -> Result<(), AllocError>
-    ensures { OnOk result (text.new.items
-        ≡ text.old.items ++ spec.outcome_line (event_view event.now) (expiry_outcome (Err refusal))) }
-{
-    if refusal == Refusal::Memory {
-        push_out_of_memory(text, event)
-    } else {
-        text.extend_from_slice(b"revisions are spent\n")
-    }
-}
-
-/// Writes a status, a space, a body and a line feed.
-fn push_response(text: &mut Vec<u8>, status: u16, body: &[u8]) -> Result<(), AllocError>
-    ensures { OnOk result (text.new.items ≡ text.old.items
-        ++ spec.response_line (record { status = status; body = body.now })) }
-{
-    let Ok(()) = write!(text, "{status} ") else {
-        return Err(AllocError);
-    };
-    text.extend_from_slice(body)?;
-    text.push(b'\n')?;
-    Ok(())
-}
-
-/// Writes all of a text, and hands it on.
-fn write_out<W: Write>(w: &mut W, text: &[u8]) -> Result<(), Fault>
-    ensures ok { OnOk result (Appends (W.contents w.old) (W.contents w.new) text.now) }
+/// Writes the replies to all lines, and hands them on.
+fn write_out<W: Write>(w: &mut W, lines: &Lines<'_>, outcomes: &[WireOutcome]) -> Result<(), Fault>
+    ensures ok { OnOk result (Appends (W.contents w.old) (W.contents w.new)
+        (spec.replies_by lines.now.are_events.items (map event_view lines.now.events.items) (map outcome_view outcomes.now))) }
     ensures err { IfErr result (λ fault. is_write fault ≡ true) }
 {
-    if let Err(error) = w.write_all(text) {
+    if let Err(error) = write_replies(w, lines, outcomes) {
         return Err(Fault::Write(error));
     }
     match w.flush() {
         Ok(()) => Ok(()),
         Err(error) => Err(Fault::Write(error)),
     }
+}
+
+/// Writes a reply for each line: `bad line`, or that of the next event and its outcome.
+fn write_replies<W: Write>(w: &mut W, lines: &Lines<'_>, outcomes: &[WireOutcome]) -> io::Result<()>
+    ensures { OnOk result (Appends (W.contents w.old) (W.contents w.new)
+        (spec.replies_by lines.now.are_events.items (map event_view lines.now.events.items) (map outcome_view outcomes.now))) }
+{
+    let mut place = 0;
+    for is_event in &lines.are_events {
+        place = write_line(w, *is_event, &lines.events, outcomes, place)?;
+    }
+    Ok(())
+}
+
+/// Writes the reply for a line: `bad line`, or that of the event at a place and its outcome. Gives the place of the event that
+/// comes next.
+fn write_line<W: Write>(
+    w: &mut W,
+    is_event: bool,
+    events: &[WireEvent<'_>],
+    outcomes: &[WireOutcome],
+    place: usize,
+) -> io::Result<usize>
+    ensures { IfOk result (λ next. (flags : List Bool) (end : Option (List ℕ))
+        → Appends (W.contents w.new) end (spec.replies_by flags (map event_view (drop next events.now)) (map outcome_view (drop next outcomes.now)))
+        → Appends (W.contents w.old) end (spec.replies_by (is_event ∷ flags) (map event_view (drop place events.now)) (map outcome_view (drop place outcomes.now)))) }
+{
+    if !is_event {
+        w.write_all(b"bad line\n")?;
+        return Ok(place);
+    }
+    match events.get(place) {
+        Some(event) => match outcomes.get(place) {
+            Some(outcome) => {
+                write_outcome(w, event, outcome)?;
+                Ok(place + 1)
+            }
+            None => Ok(place),
+        },
+        None => Ok(place),
+    }
+}
+
+/// Writes the line of an event's outcome.
+fn write_outcome<W: Write>(
+    w: &mut W,
+    event: &WireEvent<'_>,
+    outcome: &WireOutcome,
+) -> io::Result<()>
+    ensures { OnOk result (Appends (W.contents w.old) (W.contents w.new)
+        (spec.outcome_line (event_view event.now) (outcome_view outcome.now))) }
+{
+    match outcome {
+        WireOutcome::Posted(posted) => write_posted(w, event, posted),
+        WireOutcome::Clock(clock) => write_clock(w, *clock),
+        WireOutcome::Expiry(Ok(expiry)) => write_expiry(w, *expiry),
+        WireOutcome::Expiry(Err(refusal)) => write_unexpired(w, event, *refusal),
+    }
+}
+
+fn write_posted<W: Write>(w: &mut W, event: &WireEvent<'_>, posted: &Outcome) -> io::Result<()>
+    ensures { OnOk result (Appends (W.contents w.old) (W.contents w.new)
+        (spec.outcome_line (event_view event.now) (command_view posted.now))) }
+{
+    match &posted.settled {
+        Settled::Memory => write_out_of_memory(w, event),
+        Settled::Reply(_) | Settled::Lost(_) => write_settled(w, &posted.settled),
+    }
+}
+
+fn write_settled<W: Write>(w: &mut W, settled: &Settled) -> io::Result<()>
+    ensures { OnOk result (Appends (W.contents w.old) (W.contents w.new) (spec.response_line (shown settled.now))) }
+{
+    let (status, body) = settled.wire();
+    write_response(w, status, body)
+}
+
+/// Writes that an event found no memory.
+fn write_out_of_memory<W: Write>(w: &mut W, event: &WireEvent<'_>) -> io::Result<()>
+    ensures { OnOk result (Appends (W.contents w.old) (W.contents w.new) (spec.memory_line (event_view event.now))) }
+{
+    match event {
+        WireEvent::Post { .. } => write_settled(w, &Settled::Memory),
+        _ => w.write_all(b"out of memory\n"),
+    }
+}
+
+fn write_clock<W: Write>(w: &mut W, clock: u64) -> io::Result<()>
+    ensures { OnOk result (Appends (W.contents w.old) (W.contents w.new) (spec.clock_line clock)) }
+{
+    writeln!(w, "at {clock}")
+}
+
+fn write_expiry<W: Write>(w: &mut W, expiry: Expiry) -> io::Result<()>
+    ensures { OnOk result (Appends (W.contents w.old) (W.contents w.new) (spec.expiry_line (expiry_view expiry))) }
+{
+    match expiry {
+        Expiry::Nothing => w.write_all(b"nothing\n"),
+        Expiry::Expired { id, revision, .. } => write_expired(w, id, revision),
+    }
+}
+
+fn write_expired<W: Write>(w: &mut W, id: i64, revision: u64) -> io::Result<()>
+    ensures { OnOk result (Appends (W.contents w.old) (W.contents w.new)
+        (codes "expired " ++ signed_decimal id ++ codes " revision " ++ decimal revision ++ 10 ∷ [])) }
+{
+    writeln!(w, "expired {id} revision {revision}")
+}
+
+/// Writes why a step of expiry was refused.
+fn write_unexpired<W: Write>(w: &mut W, event: &WireEvent<'_>, refusal: Refusal) -> io::Result<()>
+    ensures { OnOk result (Appends (W.contents w.old) (W.contents w.new)
+        (spec.outcome_line (event_view event.now) (expiry_outcome (Err refusal)))) }
+{
+    if refusal == Refusal::Memory {
+        write_out_of_memory(w, event)
+    } else {
+        w.write_all(b"revisions are spent\n")
+    }
+}
+
+/// Writes a status, a space, a body and a line feed.
+fn write_response<W: Write>(w: &mut W, status: u16, body: &[u8]) -> io::Result<()>
+    ensures { OnOk result (Appends (W.contents w.old) (W.contents w.new)
+        (spec.response_line (record { status = status; body = body.now }))) }
+{
+    write!(w, "{status} ")?;
+    w.write_all(body)?;
+    w.write_all(b"\n")
 }

@@ -7,6 +7,7 @@ ghost use Rattle.std.specs.List.{position_or_len, before_first, after_first};
 ghost use Rattle.std.specs.Str.Lines.{lines, strip_carriage_return};
 ghost use Rattle.kv_model.specs.Wire.{moment as model_moment};
 ghost use Rattle.json_gateway.specs.Runs.{event_view};
+ghost use Rattle.etcd_one.specs.Lines.{AreLines};
 ghost use Rattle.etcd_one.specs.Script as script;
 
 use json_gateway::WireEvent;
@@ -17,23 +18,36 @@ use std::str;
 /// The most bytes of a line, without its end, that can be an event.
 pub const LONGEST_LINE: usize = 1_700_000;
 
-/// The event that each line of a script asks for, in order; `None` for a bad line.
+/// The lines of a script: the events that they ask for, and of each line whether it asks for one.
+#[derive(Drop)]
+pub struct Lines<'a> {
+    /// The events, in order.
+    pub events: Vec<WireEvent<'a>>,
+    /// Of each line, in order, whether it is that of an event; else it is a bad line.
+    pub are_events: Vec<bool>,
+}
+
+/// The lines of a script.
 ///
 /// The events borrow their words from the script. Fails for want of memory.
-pub fn line_events<'a>(
-    alloc: Global,
-    text: &'a [u8],
-) -> Result<Vec<Option<WireEvent<'a>>>, AllocError>
-    ensures { IfOk result (λ ls. map (option_map event_view) ls.items ≡ script.line_events text.now) }
+pub fn line_events(alloc: Global, text: &[u8]) -> Result<Lines<'_>, AllocError>
+    ensures { IfOk result (λ ls. AreLines ls (script.line_events text.now)) }
 {
     let mut events = Vec::new(alloc);
+    let mut are_events = Vec::new(alloc);
     let mut rest = text;
     while !rest.is_empty() {
         let (line, later) = first_line(rest);
-        events.push(event_of(line))?;
+        match event_of(line) {
+            Some(event) => {
+                events.push(event)?;
+                are_events.push(true)?;
+            }
+            None => are_events.push(false)?,
+        }
         rest = later;
     }
-    Ok(events)
+    Ok(Lines { events, are_events })
 }
 
 /// The event that a line asks for; `None` for a bad line, one above `LONGEST_LINE` bytes or of no form.

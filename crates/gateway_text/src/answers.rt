@@ -21,9 +21,18 @@ use std::alloc::{AllocError, Global};
 /// The bytes of a body without its lists, at most, where it is about a lease.
 pub(crate) const FRAME: usize = 256;
 
-/// The bytes of the names of a Range's answer, at most, without its header and its key-values. Those of the answers to a
-/// Put, a DeleteRange and a Txn are fewer.
-pub(crate) const NAMES: usize = 48;
+/// The bytes of the names of a Range's answer, at most, without its header and its key-values, and one more, which the writer
+/// asks for behind the last brace. Those of the answers to a DeleteRange and a Txn are not more.
+pub(crate) const NAMES: usize = 44;
+
+/// The bytes that say that the limit cut some, which are among those names.
+const MORE: usize = 12;
+
+/// The same of a Put's answer, where no key-value before it is told.
+const PUT: usize = 12;
+
+/// The bytes of the name of the key-value before a Put.
+const PREVIOUS: usize = 11;
 
 /// The body of a Range's answer. Its header has the reply's revision.
 #[tactic(auto, using(crate::proofs::Objects::written), unfolding(kv_model::specs::Answers::reply_text))]
@@ -31,7 +40,8 @@ pub fn range_text(alloc: Global, reply: &RangeReply<'_>, ids: &Ids) -> Result<Ve
     ensures { IfOk result (λ v. v.items ≡ (answered ids.now
         (record { reply = told.Reply.range (reply_view reply.now); revision = reply.now.revision })).body) }
 {
-    let frame = frame_of(ids, reply.revision, reply.count);
+    let most = frame_of(ids, reply.revision, reply.count);
+    let frame = if reply.more { most } else { most - MORE };
     let mut out = JsonText::with_capacity(alloc, room_for(frame, &reply.kvs))?;
     write_range(&mut out, &Header::Whole(*ids, reply.revision), reply)?;
     Ok(out.into_bytes())
@@ -48,9 +58,9 @@ pub fn put_text(
     ensures { IfOk result (λ v. v.items ≡ (answered ids.now
         (record { reply = told.Reply.put (option_map kv_view previous.entry); revision = revision })).body) }
 {
-    let frame = frame_of(ids, revision, 0);
+    let frame = room_of_header(ids, revision) + PUT;
     let room = match &previous {
-        Some(kv) => room_of(kv).saturating_add(frame),
+        Some(kv) => room_of(kv).saturating_add(frame + PREVIOUS),
         None => frame,
     };
     let mut out = JsonText::with_capacity(alloc, room)?;
@@ -125,7 +135,8 @@ pub(crate) fn write_delete(
 
 /// Room for the text of an answer without its lists, which tells this count.
 pub(crate) fn frame_of(ids: &Ids, revision: u64, count: u64) -> usize
-    ensures { result ≤ 256 }
+    ensures least { 44 ≤ result }
+    ensures most { result ≤ 256 }
 {
     room_of_header(ids, revision) + NAMES + digits(count)
 }

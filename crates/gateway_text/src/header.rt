@@ -29,12 +29,12 @@ impl WriteJson for Header {
     }
 }
 
-/// The bytes of the names of a whole header, at most.
-const NAMES: usize = 64;
+/// The bytes of a whole header without its numbers.
+const NAMES: usize = 62;
 
 /// Room for the text of a whole header.
 pub(crate) fn room_of(ids: &Ids, revision: u64) -> usize
-    ensures { result ≤ 127 }
+    ensures { result ≤ 125 }
 {
     NAMES + digits(ids.cluster) + digits(ids.member) + digits(revision)
 }

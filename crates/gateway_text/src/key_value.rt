@@ -4,17 +4,20 @@ use crate::json_text::{JsonText, WriteJson};
 use range_view::reply::KvRef;
 use std::alloc::AllocError;
 
-/// The bytes of a key-value's text without its numbers, its key and its value: six names.
-const NAMES: usize = 88;
+/// The bytes of a key-value's text without its numbers, its key and its value: five names, and the comma before it.
+const NAMES: usize = 74;
 
-/// The bytes of a lease, at most: nineteen digits and a sign.
-const LEASE: usize = 20;
+/// The bytes of a lease, at most: its name, nineteen digits and a sign.
+const LEASE: usize = 31;
 
 /// Room for the text of a key-value: base64 has four symbols for three bytes.
 pub(crate) fn room_of(kv: &KvRef<'_>) -> usize {
     let groups = kv.key.len() / 3 + kv.value.len() / 3 + 2;
-    let numbers = digits(kv.create) + digits(kv.modified) + digits(kv.version) + LEASE;
-    groups.saturating_mul(4).saturating_add(NAMES + numbers)
+    let lease = if kv.lease == 0 { 0 } else { LEASE };
+    let numbers = digits(kv.create) + digits(kv.modified) + digits(kv.version);
+    groups
+        .saturating_mul(4)
+        .saturating_add(NAMES + numbers + lease)
 }
 
 /// A key-value (the etcd documentation's KeyValue).

@@ -73,6 +73,15 @@ no_newest (m ∷ ms) e = by (newest ms) e
     by None e = cc
     by (Some n) e = cc
 
+-- the last one is the last at a place, where it is not after it
+pub newest-at : (p : Rev) (ms : List Mark) (l : Mark) → newest ms ≡ Some l → rev_le l.rev p ≡ true → last_that (λ m. rev_le m.rev p) ms ≡ Some l
+newest-at p [] l e h = cc
+newest-at p (m ∷ []) l e h = let same : m ≡ l = cc in subst (λ u. cond (rev_le u.rev p) (Some u) None ≡ Some l) (sym same) (ap (λ b. cond b (Some l) None) h)
+newest-at p (m ∷ n ∷ ns) l e h = ap (λ o. option_or o (cond (rev_le m.rev p) (Some m) None)) (newest-at p (n ∷ ns) l (newest-cons m n ns ∙ e) h)
+
+pub none-at : (p : Rev) (ms : List Mark) → newest ms ≡ None → last_that (λ m. rev_le m.rev p) ms ≡ None
+none-at p ms e = ap (last_that (λ m. rev_le m.rev p)) (no_newest ms e)
+
 -- ---- a main revision is taken back
 
 undone-push : (main : ℕ) (ms : List Mark) (m : Mark) → (m.rev.main == main) ≡ true → undone main (ms ++ m ∷ []) ≡ undone main ms

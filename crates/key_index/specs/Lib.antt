@@ -2,3 +2,4 @@ pub mod Marks
 pub mod Index
 pub mod Agrees
 pub mod Lent
+pub mod Held

@@ -21,10 +21,9 @@ pub(crate) fn add(
     ensures err { OnErr result (keys.new.entries ≡ keys.old.entries) }
 {
     if let Some(revisions) = keys.get_mut(key) {
-        return revisions.push(mark);
+        return revisions.push(alloc, mark);
     }
-    let revisions = Revisions::one(alloc, mark)?;
-    keys.insert(key.clone()?, revisions)?;
+    keys.insert(key.clone()?, Revisions::one(mark))?;
     Ok(())
 }
 

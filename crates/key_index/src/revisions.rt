@@ -3,7 +3,7 @@ ghost use Rattle.std.specs.Prelude.{◌≡◌, ◌↔◌, List, [], ◌∷◌, �
 ghost use Rattle.std.specs.List.{slice_get};
 ghost use Rattle.kv_model.specs.Lists.{is_empty};
 ghost use Rattle.kv_model.specs.History.{rev_lt, rev_le};
-ghost use Rattle.key_index.specs.Marks.{IsBehind, IsRising, after_place, at_place, count_up_to, ends_in, is_oldest, newest, rev_of, undone, without};
+ghost use Rattle.key_index.specs.Marks.{IsBehind, IsRising, after_place, at_place, count_up_to, ends_in, is_oldest, is_rev, newest, rev_of, undone, without};
 
 use kv_model::version::Rev;
 use std::alloc::{AllocError, Global};
@@ -22,47 +22,67 @@ pub struct Mark {
 /// The revisions of a key, rising.
 #[derive(Debug, Drop)]
 pub struct Revisions {
-    marks: VecDeque<Mark>,
+    held: Held,
+}
+
+/// What holds the revisions: most keys have just one, which takes no block of its own.
+#[derive(Debug, Drop)]
+enum Held {
+    Nothing,
+    One(Mark),
+    Many(VecDeque<Mark>),
 }
 
 impl Model for Revisions {
     ghost use Rattle.std.specs.Prelude.{List};
     ghost use Rattle.key_index.specs.declared.revisions.Mark.{Mark};
+    ghost use Rattle.key_index.specs.Held.{marks_in};
     ghost use Rattle.key_index.specs.Marks.{IsRising};
 
     ghost Value = { List Mark };
 
-    ghost view = { λ r. r.marks.items };
+    ghost view = { λ r. marks_in r.held };
 
-    ghost invariant = { λ r. IsRising r.marks.items };
+    ghost invariant = { λ r. IsRising (marks_in r.held) };
 }
 
 impl Revisions {
-    /// One revision, with room for no other: most keys have just one.
-    pub(crate) fn one(alloc: Global, mark: Mark) -> Result<Self, AllocError>
-        ensures { IfOk result (λ r. r ≡ mark ∷ []) }
+    /// One revision. Takes no memory.
+    pub(crate) fn one(mark: Mark) -> Self
+        ensures { result ≡ mark ∷ [] }
     {
-        let mut marks = VecDeque::with_capacity(alloc, 1)?;
-        marks.push_back(mark)?;
-        Ok(Revisions { marks })
+        Revisions {
+            held: Held::One(mark),
+        }
     }
 
     /// Whether there is no revision.
     pub fn is_empty(&self) -> bool
         ensures { result ≡ is_empty self.now }
     {
-        self.marks.is_empty()
+        match &self.held {
+            Held::Nothing => true,
+            Held::One(_) => false,
+            Held::Many(marks) => marks.is_empty(),
+        }
     }
 
     /// The last revision that is not after a place, also where it is a tombstone. Takes no memory.
     ///
-    /// It halves: the time is logarithmic in the number of the key's revisions.
+    /// Constant time where that is the newest, and else, by halving, logarithmic in the number of the key's revisions.
     pub fn at(&self, place: Rev) -> Option<Rev>
         ensures { result ≡ at_place place self.now }
     {
-        match count_up_to(&self.marks, place).checked_sub(1) {
-            Some(last) => rev_at(&self.marks, last),
-            None => None,
+        match &self.held {
+            Held::Nothing => None,
+            Held::One(mark) => {
+                if is_up_to(mark.rev, place) {
+                    Some(mark.rev)
+                } else {
+                    None
+                }
+            }
+            Held::Many(marks) => at(marks, place),
         }
     }
 
@@ -72,26 +92,48 @@ impl Revisions {
     pub fn after(&self, place: Rev) -> Option<Rev>
         ensures { result ≡ after_place place self.now }
     {
-        rev_at(&self.marks, count_up_to(&self.marks, place))
+        match &self.held {
+            Held::Nothing => None,
+            Held::One(mark) => {
+                if is_before(place, mark.rev) {
+                    Some(mark.rev)
+                } else {
+                    None
+                }
+            }
+            Held::Many(marks) => after(marks, place),
+        }
     }
 
     /// Whether a revision is above all of these.
     pub(crate) fn takes(&self, rev: Rev) -> bool
         ensures { IsTrue result ↔ IsBehind rev self.now }
     {
-        match newest(&self.marks) {
-            Some(newest) => is_before(newest.rev, rev),
-            None => true,
+        match &self.held {
+            Held::Nothing => true,
+            Held::One(mark) => is_before(mark.rev, rev),
+            Held::Many(marks) => takes(marks, rev),
         }
     }
 
-    /// Adds a revision at the end.
-    pub(crate) fn push(&mut self, mark: Mark) -> Result<(), AllocError>
+    /// Adds a revision at the end. The second one takes a list.
+    pub(crate) fn push(&mut self, alloc: Global, mark: Mark) -> Result<(), AllocError>
         requires { IsBehind mark.rev self.old }
         ensures ok { OnOk result (self.new ≡ self.old ++ mark ∷ []) }
         ensures err { OnErr result (self.new ≡ self.old) }
     {
-        self.marks.push_back(mark)?;
+        match &mut self.held {
+            Held::Nothing => {
+                self.held = Held::One(mark);
+            }
+            Held::One(first) => {
+                let marks = two(alloc, *first, mark)?;
+                self.held = Held::Many(marks);
+            }
+            Held::Many(marks) => {
+                marks.push_back(mark)?;
+            }
+        }
         Ok(())
     }
 
@@ -99,17 +141,27 @@ impl Revisions {
     pub(crate) fn drop_front(&mut self)
         ensures { self.new ≡ drop 1 self.old }
     {
-        let _ = self.marks.pop_front();
+        match &mut self.held {
+            Held::Nothing => {}
+            Held::One(_) => {
+                self.held = Held::Nothing;
+            }
+            Held::Many(marks) => drop_first(marks),
+        }
     }
 
     /// Drops a revision, and nothing where it is not there: the oldest at once, another by a walk over all.
     pub(crate) fn drop_at(&mut self, rev: Rev)
         ensures { self.new ≡ without rev self.old }
     {
-        if is_oldest(&self.marks, rev) {
-            self.drop_front();
-        } else {
-            keep_others(&mut self.marks, rev);
+        match &mut self.held {
+            Held::Nothing => {}
+            Held::One(mark) => {
+                if is_at(*mark, rev) {
+                    self.held = Held::Nothing;
+                }
+            }
+            Held::Many(marks) => drop_at(marks, rev),
         }
     }
 
@@ -117,8 +169,99 @@ impl Revisions {
     pub(crate) fn undo(&mut self, main: u64)
         ensures { self.new ≡ undone main self.old }
     {
-        undo(&mut self.marks, main);
+        match &mut self.held {
+            Held::Nothing => {}
+            Held::One(mark) => {
+                if mark.rev.main == main {
+                    self.held = Held::Nothing;
+                }
+            }
+            Held::Many(marks) => undo(marks, main),
+        }
     }
+}
+
+/// A list of two revisions, with room for two more.
+fn two(alloc: Global, first: Mark, second: Mark) -> Result<VecDeque<Mark>, AllocError>
+    ensures { IfOk result (λ marks. marks.items ≡ first ∷ second ∷ []) }
+{
+    let mut marks = VecDeque::with_capacity(alloc, 4)?;
+    marks.push_back(first)?;
+    marks.push_back(second)?;
+    Ok(marks)
+}
+
+/// The last of the revisions that is not after a place: the newest, where it is not, and else found by halving.
+fn at(marks: &VecDeque<Mark>, place: Rev) -> Option<Rev>
+    requires { IsRising marks.now.items }
+    ensures { result ≡ at_place place marks.now.items }
+{
+    match newest(marks) {
+        Some(newest) => {
+            if is_up_to(newest.rev, place) {
+                Some(newest.rev)
+            } else {
+                search(marks, place)
+            }
+        }
+        None => None,
+    }
+}
+
+/// The last of the revisions that is not after a place. It halves.
+fn search(marks: &VecDeque<Mark>, place: Rev) -> Option<Rev>
+    requires { IsRising marks.now.items }
+    ensures { result ≡ at_place place marks.now.items }
+{
+    match count_up_to(marks, place).checked_sub(1) {
+        Some(last) => rev_at(marks, last),
+        None => None,
+    }
+}
+
+/// The first of the revisions after a place. It halves.
+fn after(marks: &VecDeque<Mark>, place: Rev) -> Option<Rev>
+    requires { IsRising marks.now.items }
+    ensures { result ≡ after_place place marks.now.items }
+{
+    rev_at(marks, count_up_to(marks, place))
+}
+
+/// Whether a revision is above all of the revisions.
+fn takes(marks: &VecDeque<Mark>, rev: Rev) -> bool
+    requires { IsRising marks.now.items }
+    ensures { IsTrue result ↔ IsBehind rev marks.now.items }
+{
+    match newest(marks) {
+        Some(newest) => is_before(newest.rev, rev),
+        None => true,
+    }
+}
+
+/// Drops the oldest revision.
+fn drop_first(marks: &mut VecDeque<Mark>)
+    ensures { marks.new.items ≡ drop 1 marks.old.items }
+{
+    let _ = marks.pop_front();
+}
+
+/// Drops a revision: the oldest at once, another by a walk over all.
+fn drop_at(marks: &mut VecDeque<Mark>, rev: Rev)
+    requires { IsRising marks.old.items }
+    ensures { marks.new.items ≡ without rev marks.old.items }
+{
+    if is_oldest(marks, rev) {
+        drop_first(marks);
+    } else {
+        keep_others(marks, rev);
+    }
+}
+
+/// Whether a mark is of a revision.
+fn is_at(mark: Mark, rev: Rev) -> bool
+    ensures { result ≡ is_rev rev mark }
+{
+    mark.rev == rev
 }
 
 /// Drops the revisions of a main revision at the end.

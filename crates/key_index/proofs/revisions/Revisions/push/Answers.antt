@@ -2,5 +2,6 @@
 use Rattle.key_index.proofs.Marks.{rising-push}
 use Rattle.key_index.proofs.revisions.Revisions.push.Goals as goal
 
-pub invariant_of-self-2 : goal.invariant_of-self-2
-invariant_of-self-2 c = rw c.in_ok-push_back.ensures.items (rising-push _ _ c.self.invariant (rw (← c.self.view_is) at c.requires))
+pub invariant_of-self-in-Continue-branch-2 : goal.invariant_of-self-in-Continue-branch-2
+invariant_of-self-in-Continue-branch-2 c = rw c.in_ok-push_back-in-Many.ensures.items
+    (rising-push _ _ (rw c.in-Many.is at c.self.invariant) (rw (← c.self.view_is, c.in-Many.is) at c.requires))

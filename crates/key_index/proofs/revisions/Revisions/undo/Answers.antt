@@ -2,5 +2,5 @@
 use Rattle.key_index.proofs.Marks.{rising-undone}
 use Rattle.key_index.proofs.revisions.Revisions.undo.Goals as goal
 
-pub invariant_of-self : goal.invariant_of-self
-invariant_of-self c = rw c.undo.ensures (rising-undone c.args.main _ c.self.invariant)
+pub invariant_of-self-in-Many : goal.invariant_of-self-in-Many
+invariant_of-self-in-Many c = rw c.undo.ensures (rising-undone c.args.main _ (rw c.in-Many.is at c.self.invariant))
