@@ -99,13 +99,13 @@ fn take_in(read: io::Result<usize>, buffer: &[u8], script: &mut Vec<u8>) -> Resu
 
 /// A script's lines, and the outcomes of its events, in order.
 #[derive(Drop)]
-pub struct Run<'a> {
+struct Run<'a> {
     pub lines: Lines<'a>,
     pub outcomes: Vec<WireOutcome>,
 }
 
 /// Runs a script's events on a fresh store. Fails for want of memory outside a request.
-pub fn run_of(alloc: Global, text: &[u8]) -> Result<Run<'_>, AllocError>
+fn run_of(alloc: Global, text: &[u8]) -> Result<Run<'_>, AllocError>
     ensures lines { IfOk result (λ run. AreLines run.lines (script.line_events text.now)) }
     ensures follows { IfOk result (λ run. Follows spec.ids (spec.events_among (script.line_events text.now)) (map outcome_view run.outcomes.items)) }
 {
