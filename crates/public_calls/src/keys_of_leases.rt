@@ -19,19 +19,32 @@ fn seen(index: &LeaseKeys, lease: i64) -> Result<(usize, Option<u8>), AllocError
     Ok((keys.len(), first))
 }
 
+/// Keys a and b with the lease 7, and b with the lease -2.
+fn index(alloc: Global) -> Result<LeaseKeys, AllocError> {
+    let mut index = LeaseKeys::new(alloc);
+    for (lease, letter) in [
+        (7, b"b".as_slice()),
+        (7, b"a".as_slice()),
+        (-2, b"b".as_slice()),
+        (7, b"b".as_slice()),
+    ] {
+        index.add(lease, &key(letter))?;
+    }
+    Ok(index)
+}
+
+/// What is seen of the leases 7 and -2.
+fn two_seen(index: &LeaseKeys) -> Result<[(usize, Option<u8>); 2], AllocError> {
+    Ok([seen(index, 7)?, seen(index, -2)?])
+}
+
 #[test]
 fn keys_stand_with_their_lease(rt: HostRuntime) -> Result<(), Fail> {
-    let mut index = LeaseKeys::new(rt.alloc());
-    index.add(7, &key(b"b"))?;
-    index.add(7, &key(b"a"))?;
-    index.add(-2, &key(b"b"))?;
-    index.add(7, &key(b"b"))?;
-    assert_eq!(rt; seen(&index, 7)?, (2, Some(97)));
-    assert_eq!(rt; seen(&index, -2)?, (1, Some(98)));
+    let mut index = index(rt.alloc())?;
+    assert_eq!(rt; two_seen(&index), Ok([(2, Some(97)), (1, Some(98))]));
     index.forget(7);
     index.forget(8);
-    assert_eq!(rt; seen(&index, 7)?, (0, None));
-    assert_eq!(rt; seen(&index, -2)?, (1, Some(98)));
+    assert_eq!(rt; two_seen(&index), Ok([(0, None), (1, Some(98))]));
     Ok(())
 }
 

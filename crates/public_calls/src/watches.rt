@@ -59,22 +59,36 @@ fn first(hub: &WatchHub, number: u64) -> Result<Option<u64>, Refusal> {
     }
 }
 
+/// Watches from the next revision, from 3 and from 6.
+fn three_watches(hub: &mut WatchHub, tables: &Tables) -> [Result<u64, Refusal>; 3] {
+    [
+        watch(hub, tables, 0),
+        watch(hub, tables, 3),
+        watch(hub, tables, 6),
+    ]
+}
+
+fn firsts(hub: &WatchHub) -> [Result<Option<u64>, Refusal>; 3] {
+    [first(hub, 1), first(hub, 2), first(hub, 3)]
+}
+
+fn canceled_twice(hub: &mut WatchHub) -> [Result<(), Refusal>; 2] {
+    [hub.cancel(1), hub.cancel(1)]
+}
+
 #[test]
 fn watches_wait_for_what_they_match(rt: HostRuntime) -> Result<(), Fail> {
     let tables = tables(rt.alloc())?;
     let mut hub = WatchHub::new(rt.alloc());
-    assert_eq!(rt; watch(&mut hub, &tables, 0), Ok(1));
-    assert_eq!(rt; watch(&mut hub, &tables, 3), Ok(2));
-    assert_eq!(rt; watch(&mut hub, &tables, 6), Ok(3));
+    assert_eq!(rt; three_watches(&mut hub, &tables), [Ok(1), Ok(2), Ok(3)]);
     hub.note([put(5)].as_slice(), 5);
-    assert_eq!(rt; first(&hub, 1), Ok(Some(5)));
-    assert_eq!(rt; first(&hub, 2), Ok(Some(3)));
-    assert_eq!(rt; first(&hub, 3), Ok(None));
+    assert_eq!(rt; firsts(&hub), [Ok(Some(5)), Ok(Some(3)), Ok(None)]);
     hub.advance(&tables, 2, 3);
-    assert_eq!(rt; first(&hub, 2), Ok(Some(4)));
-    assert_eq!(rt; hub.cancel(1), Ok(()));
-    assert_eq!(rt; hub.cancel(1), Err(Refusal::NoWatch));
-    assert_eq!(rt; first(&hub, 1), Err(Refusal::NoWatch));
-    assert_eq!(rt; first(&hub, 2), Ok(Some(4)));
+    assert_eq!(rt; firsts(&hub), [Ok(Some(5)), Ok(Some(4)), Ok(None)]);
+    assert_eq!(rt; canceled_twice(&mut hub), [Ok(()), Err(Refusal::NoWatch)]);
+    assert_eq!(rt;
+        firsts(&hub),
+        [Err(Refusal::NoWatch), Ok(Some(4)), Ok(None)]
+    );
     Ok(())
 }
