@@ -1,67 +1,77 @@
 //! Why a request is not read: the first fault of each body, and what a refusal is called.
-use crate::reading::{PUT, RANGE, TXN, is_text, refusal};
+use crate::reading::{Case, PUT, RANGE, TXN, first_wrong, is_text, refusal};
 use gateway_read::bad::Bad;
 use gateway_read::field::Field;
 use std::alloc::{AllocError, Global};
 
-#[test]
-fn bodies_of_a_range(rt: HostRuntime) {
-    let limit = Some(Bad::BadField(Field::Limit));
-    let end = Some(Bad::BadField(Field::RangeEnd));
-    let order = Some(Bad::BadField(Field::SortOrder));
-    let create = Some(Bad::BadField(Field::MaxCreateRevision));
-    let cases: [(&str, Option<Bad>); 39] = [
-        ("", None),
-        ("{}", None),
-        (" ", Some(Bad::NotJson)),
-        ("[]", Some(Bad::NotJson)),
-        ("null", Some(Bad::NotJson)),
-        ("{\"key\":\"Zm9v\"", Some(Bad::NotJson)),
-        ("{\"other\":1e999}", Some(Bad::NotJson)),
-        ("{\"other\":\"\\ud800\"}", Some(Bad::NotJson)),
-        ("\u{feff}{}", Some(Bad::NotJson)),
-        ("{\"key\":\"\t\"}", Some(Bad::NotJson)),
-        ("{\"key\":\"Zm9v\",\"key\":\"\"}", None),
-        ("{\"key\":\"Zm9\"}", Some(Bad::BadBase64(Field::Key))),
-        ("{\"key\":1}", Some(Bad::BadField(Field::Key))),
-        ("{\"Key\":1}", None),
-        ("{\"range_end\":\"\"}", None),
-        ("{\"range_end\":7}", end),
-        ("{\"rangeEnd\":7}", end),
-        ("{\"range_end\":null,\"rangeEnd\":7}", None),
-        ("{\"range_end\":\"\",\"rangeEnd\":7}", None),
-        ("{\"rangeend\":7}", None),
-        ("{\"limit\":0}", None),
-        ("{\"limit\":\"-0\"}", None),
-        ("{\"limit\":\"000\"}", None),
-        ("{\"limit\":-0}", limit),
-        ("{\"limit\":\"+1\"}", limit),
-        ("{\"limit\":\"\"}", limit),
-        ("{\"limit\":0.0}", limit),
-        ("{\"limit\":9223372036854775808}", limit),
-        ("{\"limit\":false}", limit),
-        ("{\"sort_order\":\"NONE\",\"sort_target\":0}", None),
-        ("{\"sortOrder\":0}", None),
-        ("{\"sort_order\":\"ASC\"}", order),
-        ("{\"sort_order\":\"0\"}", order),
-        ("{\"sort_order\":3}", order),
-        (
-            "{\"sort_target\":\"LEASE\"}",
-            Some(Bad::BadField(Field::SortTarget)),
-        ),
-        ("{\"keysOnly\":1}", Some(Bad::BadField(Field::KeysOnly))),
-        (
-            "{\"count_only\":\"false\"}",
-            Some(Bad::BadField(Field::CountOnly)),
-        ),
-        ("{\"max_create_revision\":true,\"limit\":2}", create),
-        ("{\"max_create_revision\":true,\"limit\":[]}", limit),
-    ];
-    for (body, expected) in cases {
-        let found = refusal(rt.alloc(), RANGE, body.as_bytes());
-        assert_eq!(rt; found, expected, "of {body}");
-    }
-}
+const OBJECTS: [Case; 10] = [
+    ("", None),
+    ("{}", None),
+    (" ", Some(Bad::NotJson)),
+    ("[]", Some(Bad::NotJson)),
+    ("null", Some(Bad::NotJson)),
+    ("{\"key\":\"Zm9v\"", Some(Bad::NotJson)),
+    ("{\"other\":1e999}", Some(Bad::NotJson)),
+    ("{\"other\":\"\\ud800\"}", Some(Bad::NotJson)),
+    ("\u{feff}{}", Some(Bad::NotJson)),
+    ("{\"key\":\"\t\"}", Some(Bad::NotJson)),
+];
+
+const NAMES_AND_TEXTS: [Case; 10] = [
+    ("{\"key\":\"Zm9v\",\"key\":\"\"}", None),
+    ("{\"key\":\"Zm9\"}", Some(Bad::BadBase64(Field::Key))),
+    ("{\"key\":1}", Some(Bad::BadField(Field::Key))),
+    ("{\"Key\":1}", None),
+    ("{\"range_end\":\"\"}", None),
+    ("{\"range_end\":7}", Some(Bad::BadField(Field::RangeEnd))),
+    ("{\"rangeEnd\":7}", Some(Bad::BadField(Field::RangeEnd))),
+    ("{\"range_end\":null,\"rangeEnd\":7}", None),
+    ("{\"range_end\":\"\",\"rangeEnd\":7}", None),
+    ("{\"rangeend\":7}", None),
+];
+
+const NUMBERS_AND_WORDS: [Case; 19] = [
+    ("{\"limit\":0}", None),
+    ("{\"limit\":\"-0\"}", None),
+    ("{\"limit\":\"000\"}", None),
+    ("{\"limit\":-0}", Some(Bad::BadField(Field::Limit))),
+    ("{\"limit\":\"+1\"}", Some(Bad::BadField(Field::Limit))),
+    ("{\"limit\":\"\"}", Some(Bad::BadField(Field::Limit))),
+    ("{\"limit\":0.0}", Some(Bad::BadField(Field::Limit))),
+    (
+        "{\"limit\":9223372036854775808}",
+        Some(Bad::BadField(Field::Limit)),
+    ),
+    ("{\"limit\":false}", Some(Bad::BadField(Field::Limit))),
+    ("{\"sort_order\":\"NONE\",\"sort_target\":0}", None),
+    ("{\"sortOrder\":0}", None),
+    (
+        "{\"sort_order\":\"ASC\"}",
+        Some(Bad::BadField(Field::SortOrder)),
+    ),
+    (
+        "{\"sort_order\":\"0\"}",
+        Some(Bad::BadField(Field::SortOrder)),
+    ),
+    ("{\"sort_order\":3}", Some(Bad::BadField(Field::SortOrder))),
+    (
+        "{\"sort_target\":\"LEASE\"}",
+        Some(Bad::BadField(Field::SortTarget)),
+    ),
+    ("{\"keysOnly\":1}", Some(Bad::BadField(Field::KeysOnly))),
+    (
+        "{\"count_only\":\"false\"}",
+        Some(Bad::BadField(Field::CountOnly)),
+    ),
+    (
+        "{\"max_create_revision\":true,\"limit\":2}",
+        Some(Bad::BadField(Field::MaxCreateRevision)),
+    ),
+    (
+        "{\"max_create_revision\":true,\"limit\":[]}",
+        Some(Bad::BadField(Field::Limit)),
+    ),
+];
 
 /// What so many blanks are refused for.
 fn refusal_of_blanks(alloc: Global, path: &str, count: usize) -> Result<Option<Bad>, AllocError> {
@@ -69,52 +79,48 @@ fn refusal_of_blanks(alloc: Global, path: &str, count: usize) -> Result<Option<B
     Ok(refusal(alloc, path, &body))
 }
 
-#[test]
-fn long_bodies(rt: HostRuntime) {
-    for (path, count, expected) in [
-        ("/v3/nothing", 1_572_865, Bad::NoPath),
-        (PUT, 1_572_865, Bad::TooLong),
-        (PUT, 1_572_864, Bad::NotJson),
-    ] {
-        let found = refusal_of_blanks(rt.alloc(), path, count);
-        assert_eq!(rt; found, Ok(Some(expected)), "of {count}");
+const FIRST_FAULTS: [(&str, &[u8], Bad); 7] = [
+    ("", b"{}", Bad::NoPath),
+    ("/v3/kv/range/", b"{}", Bad::NoPath),
+    (PUT, b"{\"key\":\"\xff\"}", Bad::NotJson),
+    (
+        PUT,
+        b"{\"lease\":\"5.\",\"prev_kv\":true,\"value\":\"=\"}",
+        Bad::BadBase64(Field::Value),
+    ),
+    (
+        PUT,
+        b"{\"lease\":\"5.\",\"prev_kv\":true,\"value\":null}",
+        Bad::BadField(Field::Lease),
+    ),
+    (
+        PUT,
+        b"{\"ignore_value\":1,\"ignoreLease\":0}",
+        Bad::BadField(Field::IgnoreValue),
+    ),
+    (
+        PUT,
+        b"{\"ignoreLease\":0}",
+        Bad::BadField(Field::IgnoreLease),
+    ),
+];
+
+/// The place of the first request that is not refused for what stands beside it.
+fn first_wrong_fault(alloc: Global, cases: &[(&str, &[u8], Bad)]) -> Option<usize> {
+    for (place, (path, body, expected)) in cases.iter().copied().enumerate() {
+        if refusal(alloc, path, body) != Some(expected) {
+            return Some(place);
+        }
     }
+    None
 }
 
 #[test]
 fn the_first_fault_counts(rt: HostRuntime) {
-    let cases: [(&str, &[u8], Bad); 7] = [
-        ("", b"{}", Bad::NoPath),
-        ("/v3/kv/range/", b"{}", Bad::NoPath),
-        (PUT, b"{\"key\":\"\xff\"}", Bad::NotJson),
-        (
-            PUT,
-            b"{\"lease\":\"5.\",\"prev_kv\":true,\"value\":\"=\"}",
-            Bad::BadBase64(Field::Value),
-        ),
-        (
-            PUT,
-            b"{\"lease\":\"5.\",\"prev_kv\":true,\"value\":null}",
-            Bad::BadField(Field::Lease),
-        ),
-        (
-            PUT,
-            b"{\"ignore_value\":1,\"ignoreLease\":0}",
-            Bad::BadField(Field::IgnoreValue),
-        ),
-        (
-            PUT,
-            b"{\"ignoreLease\":0}",
-            Bad::BadField(Field::IgnoreLease),
-        ),
-    ];
-    for (path, body, expected) in cases {
-        assert_eq!(rt;
-            refusal(rt.alloc(), path, body),
-            Some(expected),
-            "of {path}"
-        );
-    }
+    assert_eq!(rt;
+        first_wrong_fault(rt.alloc(), FIRST_FAULTS.as_slice()),
+        None
+    );
 }
 
 /// An object with so many arrays within one another under a name that no field has.
@@ -137,81 +143,104 @@ fn refusal_of_nested(alloc: Global, arrays: usize) -> Result<Option<Bad>, AllocE
 }
 
 #[test]
-fn a_body_nests_to_127(rt: HostRuntime) {
-    for (arrays, expected) in [(126, None), (127, Some(Bad::NotJson))] {
-        assert_eq!(rt;
-            refusal_of_nested(rt.alloc(), arrays),
-            Ok(expected),
-            "at {arrays}"
-        );
-    }
+fn long_bodies_and_deep_ones(rt: HostRuntime) {
+    let found = [
+        refusal_of_blanks(rt.alloc(), "/v3/nothing", 1_572_865),
+        refusal_of_blanks(rt.alloc(), PUT, 1_572_865),
+        refusal_of_blanks(rt.alloc(), PUT, 1_572_864),
+        refusal_of_nested(rt.alloc(), 126),
+        refusal_of_nested(rt.alloc(), 127),
+    ];
+    assert_eq!(rt;
+        found,
+        [
+            Ok(Some(Bad::NoPath)),
+            Ok(Some(Bad::TooLong)),
+            Ok(Some(Bad::NotJson)),
+            Ok(None),
+            Ok(Some(Bad::NotJson))
+        ]
+    );
+}
+
+fn is_named(field: Field, snake: &str, camel: &str) -> bool {
+    field.snake() == snake && field.camel() == camel
 }
 
 #[test]
 fn names_of_fields(rt: HostRuntime) {
-    for (field, snake, camel) in [
-        (Field::Key, "key", "key"),
-        (Field::RangeEnd, "range_end", "rangeEnd"),
-        (Field::MinModRevision, "min_mod_revision", "minModRevision"),
-        (
+    let are = [
+        is_named(Field::Key, "key", "key"),
+        is_named(Field::RangeEnd, "range_end", "rangeEnd"),
+        is_named(Field::MinModRevision, "min_mod_revision", "minModRevision"),
+        is_named(
             Field::RequestDeleteRange,
             "request_delete_range",
             "requestDeleteRange",
         ),
-        (Field::Id, "ID", "ID"),
-    ] {
-        assert_eq!(rt; field.snake(), snake);
-        assert_eq!(rt; field.camel(), camel);
-    }
+        is_named(Field::Id, "ID", "ID"),
+    ];
+    assert_eq!(rt; are, [true; 5]);
 }
 
 fn is_shown_as(alloc: Global, bad: Bad, expected: &str) -> bool {
     is_text(format!(in alloc; "{bad}"), expected)
 }
 
-#[test]
-fn texts_and_numbers_of_refusals(rt: HostRuntime) {
-    for (bad, number, text) in [
-        (Bad::NotJson, 20, "gateway: body is not a JSON object"),
-        (
-            Bad::BadField(Field::SortOrder),
-            21,
-            "gateway: bad field sort_order",
-        ),
-        (Bad::BadBase64(Field::Key), 22, "gateway: bad base64 in key"),
-        (Bad::NoPath, 23, "gateway: no such path"),
-        (Bad::TooLong, 24, "gateway: body too long"),
-        (Bad::Memory, 1, "etcdserver: out of memory"),
-    ] {
-        assert_eq!(rt; bad.number(), number);
-        assert!(rt; is_shown_as(rt.alloc(), bad, text), "of {text}");
+const TEXTS: [(Bad, u8, &str); 6] = [
+    (Bad::NotJson, 20, "gateway: body is not a JSON object"),
+    (
+        Bad::BadField(Field::SortOrder),
+        21,
+        "gateway: bad field sort_order",
+    ),
+    (Bad::BadBase64(Field::Key), 22, "gateway: bad base64 in key"),
+    (Bad::NoPath, 23, "gateway: no such path"),
+    (Bad::TooLong, 24, "gateway: body too long"),
+    (Bad::Memory, 1, "etcdserver: out of memory"),
+];
+
+/// The first text whose refusal has another number or is shown otherwise.
+fn first_shown_wrong(alloc: Global, cases: &[(Bad, u8, &'static str)]) -> Option<&'static str> {
+    for (bad, number, text) in cases.iter().copied() {
+        if bad.number() != number || !is_shown_as(alloc, bad, text) {
+            return Some(text);
+        }
     }
+    None
 }
 
 #[test]
-fn faults_of_a_transaction(rt: HostRuntime) {
-    let alloc = rt.alloc();
-    for (body, expected) in [
-        ("{\"compare\":{}}", Bad::BadField(Field::Compare)),
-        ("{\"compare\":[1]}", Bad::BadField(Field::Compare)),
-        ("{\"success\":[{}]}", Bad::BadField(Field::Success)),
-        (
-            "{\"failure\":[{\"requestRange\":{},\"request_put\":{}}]}",
-            Bad::BadField(Field::Failure),
-        ),
-        (
-            "{\"success\":[{\"requestTxn\":[]}],\"failure\":0}",
-            Bad::BadField(Field::RequestTxn),
-        ),
-        (
-            "{\"failure\":[{\"requestTxn\":{\"success\":[{\"requestPut\":{\"key\":\"?\"}}]}}]}",
-            Bad::BadBase64(Field::Key),
-        ),
-    ] {
-        assert_eq!(rt;
-            refusal(alloc, TXN, body.as_bytes()),
-            Some(expected),
-            "of {body}"
-        );
-    }
+fn texts_and_numbers_of_refusals(rt: HostRuntime) {
+    assert_eq!(rt; first_shown_wrong(rt.alloc(), TEXTS.as_slice()), None);
+}
+
+const TRANSACTIONS: [Case; 6] = [
+    ("{\"compare\":{}}", Some(Bad::BadField(Field::Compare))),
+    ("{\"compare\":[1]}", Some(Bad::BadField(Field::Compare))),
+    ("{\"success\":[{}]}", Some(Bad::BadField(Field::Success))),
+    (
+        "{\"failure\":[{\"requestRange\":{},\"request_put\":{}}]}",
+        Some(Bad::BadField(Field::Failure)),
+    ),
+    (
+        "{\"success\":[{\"requestTxn\":[]}],\"failure\":0}",
+        Some(Bad::BadField(Field::RequestTxn)),
+    ),
+    (
+        "{\"failure\":[{\"requestTxn\":{\"success\":[{\"requestPut\":{\"key\":\"?\"}}]}}]}",
+        Some(Bad::BadBase64(Field::Key)),
+    ),
+];
+
+/// The bodies of ranges and of transactions, each with its first fault.
+#[test]
+fn bodies_with_one_fault(rt: HostRuntime) {
+    let wrong = [
+        first_wrong(rt.alloc(), RANGE, OBJECTS.as_slice()),
+        first_wrong(rt.alloc(), RANGE, NAMES_AND_TEXTS.as_slice()),
+        first_wrong(rt.alloc(), RANGE, NUMBERS_AND_WORDS.as_slice()),
+        first_wrong(rt.alloc(), TXN, TRANSACTIONS.as_slice()),
+    ];
+    assert_eq!(rt; wrong, [None; 4]);
 }

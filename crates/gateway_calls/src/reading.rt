@@ -20,6 +20,19 @@ pub(crate) fn refusal(alloc: Global, path: &str, body: &[u8]) -> Option<Bad> {
     read(alloc, path.as_bytes(), body).err()
 }
 
+/// The body of a request and what it is refused for, if it is.
+pub(crate) type Case = (&'static str, Option<Bad>);
+
+/// The first body that is not refused for what stands beside it.
+pub(crate) fn first_wrong(alloc: Global, path: &str, cases: &[Case]) -> Option<&'static str> {
+    for (body, expected) in cases.iter().copied() {
+        if refusal(alloc, path, body.as_bytes()) != expected {
+            return Some(body);
+        }
+    }
+    None
+}
+
 /// Whether a text was made, and is the one that is expected.
 pub(crate) fn is_text(text: Result<String, AllocError>, expected: &str) -> bool {
     match text {

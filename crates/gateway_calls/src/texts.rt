@@ -31,108 +31,84 @@ fn says(text: Result<Vec<u8>, AllocError>, body: &str) -> bool {
     }
 }
 
-#[test]
-fn a_range_of_one_key(rt: HostRuntime) {
-    let Ok(kvs) = vec![in rt.alloc(); put_once(b"foo", b"bar", 2)] else {
-        panic!(rt; "no memory");
-    };
+/// Whether the text of a range's answer is this one.
+fn range_says(
+    alloc: Global,
+    shown: &[KvRef<'_>],
+    count: u64,
+    more: bool,
+    revision: u64,
+    expected: &str,
+) -> bool {
+    let mut kvs = Vec::new(alloc);
+    for kv in shown.iter().copied() {
+        let _ = kvs.push(kv);
+    }
     let reply = RangeReply {
         kvs,
-        count: 1,
-        more: false,
-        revision: 2,
+        count,
+        more,
+        revision,
     };
-    assert!(rt;
-        says(
-            range_text(rt.alloc(), &reply, &IDS),
-            "{\"count\":\"1\",\"header\":{\"cluster_id\":\"1\",\"member_id\":\"1\",\"raft_term\":\"1\",\"revision\":\"2\"},\"kvs\":[{\"create_revision\":\"2\",\"key\":\"Zm9v\",\"mod_revision\":\"2\",\"value\":\"YmFy\",\"version\":\"1\"}]}"
-        )
-    );
+    let says = says(range_text(alloc, &reply, &IDS), expected);
+    drop(reply);
+    says
 }
 
+/// A range of one key, one that the limit cut, and one of keys alone.
 #[test]
-fn a_range_that_the_limit_cut(rt: HostRuntime) {
-    let Ok(kvs) = vec![in rt.alloc(); put_once(b"a", b"1", 2)] else {
-        panic!(rt; "no memory");
-    };
-    let reply = RangeReply {
-        kvs,
-        count: 3,
-        more: true,
-        revision: 5,
-    };
-    assert!(rt;
-        says(
-            range_text(rt.alloc(), &reply, &IDS),
-            "{\"count\":\"3\",\"header\":{\"cluster_id\":\"1\",\"member_id\":\"1\",\"raft_term\":\"1\",\"revision\":\"5\"},\"kvs\":[{\"create_revision\":\"2\",\"key\":\"YQ==\",\"mod_revision\":\"2\",\"value\":\"MQ==\",\"version\":\"1\"}],\"more\":true}"
-        )
-    );
-}
-
-#[test]
-fn a_range_of_keys_alone(rt: HostRuntime) {
+fn ranges(rt: HostRuntime) {
     let mut b = put_once(b"b", b"", 3);
     b.modified = 5;
     b.version = 2;
     b.lease = -7;
-    let Ok(kvs) = vec![in rt.alloc(); b, put_once(b"a", b"", 2)] else {
-        panic!(rt; "no memory");
-    };
-    let reply = RangeReply {
-        kvs,
-        count: 2,
-        more: false,
-        revision: 5,
-    };
-    assert!(rt;
-        says(
-            range_text(rt.alloc(), &reply, &IDS),
-            "{\"count\":\"2\",\"header\":{\"cluster_id\":\"1\",\"member_id\":\"1\",\"raft_term\":\"1\",\"revision\":\"5\"},\"kvs\":[{\"create_revision\":\"3\",\"key\":\"Yg==\",\"lease\":\"-7\",\"mod_revision\":\"5\",\"version\":\"2\"},{\"create_revision\":\"2\",\"key\":\"YQ==\",\"mod_revision\":\"2\",\"version\":\"1\"}]}"
-        )
-    );
+    let are = [
+        range_says(
+            rt.alloc(),
+            &[put_once(b"foo", b"bar", 2)],
+            1,
+            false,
+            2,
+            "{\"count\":\"1\",\"header\":{\"cluster_id\":\"1\",\"member_id\":\"1\",\"raft_term\":\"1\",\"revision\":\"2\"},\"kvs\":[{\"create_revision\":\"2\",\"key\":\"Zm9v\",\"mod_revision\":\"2\",\"value\":\"YmFy\",\"version\":\"1\"}]}",
+        ),
+        range_says(
+            rt.alloc(),
+            &[put_once(b"a", b"1", 2)],
+            3,
+            true,
+            5,
+            "{\"count\":\"3\",\"header\":{\"cluster_id\":\"1\",\"member_id\":\"1\",\"raft_term\":\"1\",\"revision\":\"5\"},\"kvs\":[{\"create_revision\":\"2\",\"key\":\"YQ==\",\"mod_revision\":\"2\",\"value\":\"MQ==\",\"version\":\"1\"}],\"more\":true}",
+        ),
+        range_says(
+            rt.alloc(),
+            &[b, put_once(b"a", b"", 2)],
+            2,
+            false,
+            5,
+            "{\"count\":\"2\",\"header\":{\"cluster_id\":\"1\",\"member_id\":\"1\",\"raft_term\":\"1\",\"revision\":\"5\"},\"kvs\":[{\"create_revision\":\"3\",\"key\":\"Yg==\",\"lease\":\"-7\",\"mod_revision\":\"5\",\"version\":\"2\"},{\"create_revision\":\"2\",\"key\":\"YQ==\",\"mod_revision\":\"2\",\"version\":\"1\"}]}",
+        ),
+    ];
+    assert_eq!(rt; are, [true; 3]);
 }
 
+/// A put, one over a value, and a delete.
 #[test]
-fn a_put(rt: HostRuntime) {
-    assert!(rt;
+fn writes(rt: HostRuntime) {
+    let are = [
         says(
             put_text(rt.alloc(), 2, None, &IDS),
-            "{\"header\":{\"cluster_id\":\"1\",\"member_id\":\"1\",\"raft_term\":\"1\",\"revision\":\"2\"}}"
-        )
-    );
-}
-
-#[test]
-fn a_put_over_a_value(rt: HostRuntime) {
-    assert!(rt;
+            "{\"header\":{\"cluster_id\":\"1\",\"member_id\":\"1\",\"raft_term\":\"1\",\"revision\":\"2\"}}",
+        ),
         says(
             put_text(rt.alloc(), 3, Some(put_once(b"foo", b"bar", 2)), &IDS),
-            "{\"header\":{\"cluster_id\":\"1\",\"member_id\":\"1\",\"raft_term\":\"1\",\"revision\":\"3\"},\"prev_kv\":{\"create_revision\":\"2\",\"key\":\"Zm9v\",\"mod_revision\":\"2\",\"value\":\"YmFy\",\"version\":\"1\"}}"
-        )
-    );
-}
-
-#[test]
-fn a_delete(rt: HostRuntime) {
-    assert!(rt;
+            "{\"header\":{\"cluster_id\":\"1\",\"member_id\":\"1\",\"raft_term\":\"1\",\"revision\":\"3\"},\"prev_kv\":{\"create_revision\":\"2\",\"key\":\"Zm9v\",\"mod_revision\":\"2\",\"value\":\"YmFy\",\"version\":\"1\"}}",
+        ),
         says(
             delete_text(rt.alloc(), 3, 1, &[put_once(b"foo", b"bar", 2)], &IDS),
-            "{\"deleted\":\"1\",\"header\":{\"cluster_id\":\"1\",\"member_id\":\"1\",\"raft_term\":\"1\",\"revision\":\"3\"},\"prev_kvs\":[{\"create_revision\":\"2\",\"key\":\"Zm9v\",\"mod_revision\":\"2\",\"value\":\"YmFy\",\"version\":\"1\"}]}"
-        )
-    );
-}
-
-#[test]
-fn a_refused_put(rt: HostRuntime) {
-    let wording = refusal_wording(Refusal::NoKey);
-    let Ok(text) = refusal_text(rt.alloc(), &wording) else {
-        panic!(rt; "no memory");
-    };
-    assert_eq!(rt; wording.status, 400);
-    assert_eq!(rt;
-        text.as_slice(),
-        b"{\"code\":3,\"error\":\"etcdserver: key is not provided\",\"message\":\"etcdserver: key is not provided\"}".as_slice()
-    );
+            "{\"deleted\":\"1\",\"header\":{\"cluster_id\":\"1\",\"member_id\":\"1\",\"raft_term\":\"1\",\"revision\":\"3\"},\"prev_kvs\":[{\"create_revision\":\"2\",\"key\":\"Zm9v\",\"mod_revision\":\"2\",\"value\":\"YmFy\",\"version\":\"1\"}]}",
+        ),
+    ];
+    assert_eq!(rt; are, [true; 3]);
 }
 
 #[test]
@@ -188,51 +164,71 @@ fn two_leases(rt: HostRuntime) {
     );
 }
 
+fn is_worded(alloc: Global, wording: &Wording<'_>, status: u16, body: &str) -> bool {
+    wording.status == status && says(refusal_text(alloc, wording), body)
+}
+
+#[test]
+fn a_refused_put(rt: HostRuntime) {
+    assert!(rt;
+        is_worded(
+            rt.alloc(),
+            &refusal_wording(Refusal::NoKey),
+            400,
+            "{\"code\":3,\"error\":\"etcdserver: key is not provided\",\"message\":\"etcdserver: key is not provided\"}"
+        )
+    );
+}
+
 #[test]
 fn bodies_that_cannot_be_read(rt: HostRuntime) {
-    let wordings = [
-        (
-            Wording::no_path(),
+    let are = [
+        is_worded(
+            rt.alloc(),
+            &Wording::no_path(),
             404,
             "{\"code\":5,\"error\":\"gateway: no such path\",\"message\":\"gateway: no such path\"}",
         ),
-        (
-            Wording::too_long(),
+        is_worded(
+            rt.alloc(),
+            &Wording::too_long(),
             400,
             "{\"code\":3,\"error\":\"gateway: body too long\",\"message\":\"gateway: body too long\"}",
         ),
-        (
-            Wording::not_json(),
+        is_worded(
+            rt.alloc(),
+            &Wording::not_json(),
             400,
             "{\"code\":3,\"error\":\"gateway: body is not a JSON object\",\"message\":\"gateway: body is not a JSON object\"}",
         ),
-        (
-            Wording::bad_field("range_end"),
+        is_worded(
+            rt.alloc(),
+            &Wording::bad_field("range_end"),
             400,
             "{\"code\":3,\"error\":\"gateway: bad field range_end\",\"message\":\"gateway: bad field range_end\"}",
         ),
-        (
-            Wording::bad_base64("key"),
+        is_worded(
+            rt.alloc(),
+            &Wording::bad_base64("key"),
             400,
             "{\"code\":3,\"error\":\"gateway: bad base64 in key\",\"message\":\"gateway: bad base64 in key\"}",
         ),
     ];
-    for (wording, status, body) in wordings {
-        assert_eq!(rt; wording.status, status);
-        assert!(rt; says(refusal_text(rt.alloc(), &wording), body));
+    assert_eq!(rt; are, [true; 5]);
+}
+
+fn is_memory_text(alloc: Global) -> bool {
+    match refusal_text(alloc, &refusal_wording(Refusal::Memory)) {
+        Ok(text) => text.as_slice() == memory_text(),
+        Err(_) => false,
     }
 }
 
 #[test]
 fn what_takes_no_memory(rt: HostRuntime) {
-    let Ok(text) = refusal_text(rt.alloc(), &refusal_wording(Refusal::Memory)) else {
-        panic!(rt; "no memory");
-    };
-    assert_eq!(rt; memory_text(), text.as_slice());
-    assert_eq!(rt;
-        lost_text(),
-        b"{\"code\":13,\"error\":\"etcdserver: answer lost, the change stands\",\"message\":\"etcdserver: answer lost, the change stands\"}".as_slice()
-    );
+    let lost: &[u8] =
+        b"{\"code\":13,\"error\":\"etcdserver: answer lost, the change stands\",\"message\":\"etcdserver: answer lost, the change stands\"}";
+    assert_eq!(rt; (is_memory_text(rt.alloc()), lost_text()), (true, lost));
 }
 
 /// Puts of x and y, each before a range over all, in one transaction.

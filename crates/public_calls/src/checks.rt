@@ -1,101 +1,67 @@
 //! Each fault once, in the order that the walk finds them.
+use crate::fixtures::{add, add_compare, empty, put};
 use bytes::Bytes;
-use kv_model::call::{Compare, DeleteRequest, Operand, Operation, PutRequest, Relation, Txn};
+use kv_model::call::{DeleteRequest, Operand, Operation, Txn};
 use kv_model::refusal::Refusal;
 use kv_model::version::KeyRange;
-use std::alloc::{AllocError, Global};
-use std::test::Fail;
+use std::alloc::Global;
 use txn_core::{check, walk_fault};
 
-fn empty(alloc: Global) -> Txn {
-    Txn {
-        compare: Vec::new(alloc),
-        success: Vec::new(alloc),
-        failure: Vec::new(alloc),
-    }
-}
-
 /// A transaction as the only operation on success of another, so many times.
-fn nested(alloc: Global, times: u8) -> Result<Txn, AllocError> {
+fn nested(alloc: Global, times: u8) -> Txn {
     let mut txn = empty(alloc);
     for _ in 0..times {
         let mut outer = empty(alloc);
-        outer.success.push(Operation::Inner(txn))?;
+        add(&mut outer.success, Operation::Inner(txn));
         txn = outer;
     }
-    Ok(txn)
+    txn
 }
 
 /// A transaction with so many compares of an empty key.
-fn compares(alloc: Global, count: u8) -> Result<Txn, AllocError> {
+fn compares(alloc: Global, count: u8) -> Txn {
     let mut txn = empty(alloc);
     for _ in 0..count {
-        let range = KeyRange {
-            key: Bytes::new(),
-            end: Bytes::new(),
-        };
-        txn.compare.push(Compare {
-            range,
-            relation: Relation::IsEqual,
-            operand: Operand::OfVersion(0),
-        })?;
+        add_compare(&mut txn.compare, b"", Operand::OfVersion(0));
     }
-    Ok(txn)
+    txn
 }
 
 /// A transaction that puts a value on failure, and is to keep the old one.
-fn failing(alloc: Global, value: Bytes) -> Result<Txn, AllocError> {
+fn failing(alloc: Global, value: &'static [u8]) -> Txn {
     let mut txn = empty(alloc);
-    txn.failure.push(Operation::Put(PutRequest {
-        key: Bytes::from_static(b"x"),
-        value,
-        lease: 0,
-        prev_kv: false,
-        ignore_value: true,
-        ignore_lease: false,
-    }))?;
-    Ok(txn)
+    add(&mut txn.failure, put(b"x", value, true, 0));
+    txn
+}
+
+fn fault(txn: Txn) -> Option<Refusal> {
+    let fault = walk_fault(&txn);
+    drop(txn);
+    fault
 }
 
 #[test]
-fn eight_lie_in_one_another(rt: HostRuntime) -> Result<(), Fail> {
-    assert_eq!(rt; walk_fault(&nested(rt.alloc(), 7)?), None);
-    assert_eq!(rt; walk_fault(&nested(rt.alloc(), 8)?), Some(Refusal::TooDeep));
-    Ok(())
+fn eight_lie_in_one_another(rt: HostRuntime) {
+    let found = [fault(nested(rt.alloc(), 7)), fault(nested(rt.alloc(), 8))];
+    assert_eq!(rt; found, [None, Some(Refusal::TooDeep)]);
 }
 
 #[test]
-fn sizes_come_before_compares(rt: HostRuntime) -> Result<(), Fail> {
-    assert_eq!(rt;
-        walk_fault(&compares(rt.alloc(), 128)?),
-        Some(Refusal::NoKey)
-    );
-    assert_eq!(rt;
-        walk_fault(&compares(rt.alloc(), 129)?),
-        Some(Refusal::TooManyOps)
-    );
-    Ok(())
+fn sizes_come_before_compares(rt: HostRuntime) {
+    let found = [
+        fault(compares(rt.alloc(), 128)),
+        fault(compares(rt.alloc(), 129)),
+    ];
+    assert_eq!(rt; found, [Some(Refusal::NoKey), Some(Refusal::TooManyOps)]);
 }
 
 #[test]
-fn branches_that_do_not_run_count(rt: HostRuntime) -> Result<(), Fail> {
-    assert_eq!(rt; walk_fault(&failing(rt.alloc(), Bytes::new())?), None);
-    assert_eq!(rt;
-        walk_fault(&failing(rt.alloc(), Bytes::from_static(b"1"))?),
-        Some(Refusal::ValueGiven)
-    );
-    Ok(())
-}
-
-fn put(key: &'static [u8]) -> Operation {
-    Operation::Put(PutRequest {
-        key: Bytes::from_static(key),
-        value: Bytes::new(),
-        lease: 0,
-        prev_kv: false,
-        ignore_value: false,
-        ignore_lease: false,
-    })
+fn branches_that_do_not_run_count(rt: HostRuntime) {
+    let found = [
+        fault(failing(rt.alloc(), b"")),
+        fault(failing(rt.alloc(), b"1")),
+    ];
+    assert_eq!(rt; found, [None, Some(Refusal::ValueGiven)]);
 }
 
 fn delete_all() -> Operation {
@@ -109,54 +75,50 @@ fn delete_all() -> Operation {
     })
 }
 
-/// A transaction with two operations on success.
-fn row(alloc: Global, first: Operation, second: Operation) -> Result<Txn, AllocError> {
+/// What a transaction with two operations on success is refused for.
+fn checked(alloc: Global, first: Operation, second: Operation) -> Result<(), Refusal> {
     let mut txn = empty(alloc);
-    txn.success.push(first)?;
-    txn.success.push(second)?;
-    Ok(txn)
+    add(&mut txn.success, first);
+    add(&mut txn.success, second);
+    let found = check(alloc, &txn);
+    drop(txn);
+    found
 }
 
-/// A transaction with an operation in each branch.
-fn branches(
+/// What a transaction is refused for that puts x, and in each branch of another one within a key.
+fn checked_branches(
     alloc: Global,
-    success: Operation,
-    failure: Operation,
-) -> Result<Operation, AllocError> {
+    success: &'static [u8],
+    failure: &'static [u8],
+) -> Result<(), Refusal> {
     let mut txn = empty(alloc);
-    txn.success.push(success)?;
-    txn.failure.push(failure)?;
-    Ok(Operation::Inner(txn))
+    add(&mut txn.success, put(success, b"", false, 0));
+    add(&mut txn.failure, put(failure, b"", false, 0));
+    checked(alloc, put(b"x", b"", false, 0), Operation::Inner(txn))
 }
 
 #[test]
-fn opposite_branches_may_put_one_key(rt: HostRuntime) -> Result<(), Fail> {
-    let inner = branches(rt.alloc(), put(b"y"), put(b"y"))?;
-    assert_eq!(rt;
-        check(rt.alloc(), &row(rt.alloc(), put(b"x"), inner)?),
-        Ok(())
-    );
-    let inner = branches(rt.alloc(), put(b"y"), put(b"x"))?;
-    assert_eq!(rt;
-        check(rt.alloc(), &row(rt.alloc(), put(b"x"), inner)?),
-        Err(Refusal::DuplicateKey)
-    );
-    Ok(())
+fn opposite_branches_may_put_one_key(rt: HostRuntime) {
+    let found = [
+        checked_branches(rt.alloc(), b"y", b"y"),
+        checked_branches(rt.alloc(), b"y", b"x"),
+    ];
+    assert_eq!(rt; found, [Ok(()), Err(Refusal::DuplicateKey)]);
 }
 
 #[test]
-fn deletes_may_overlap(rt: HostRuntime) -> Result<(), Fail> {
+fn deletes_may_overlap(rt: HostRuntime) {
+    let found = [
+        checked(rt.alloc(), delete_all(), put(b"a", b"", false, 0)),
+        checked(rt.alloc(), put(b"a", b"", false, 0), delete_all()),
+        checked(rt.alloc(), delete_all(), delete_all()),
+    ];
     assert_eq!(rt;
-        check(rt.alloc(), &row(rt.alloc(), delete_all(), put(b"a"))?),
-        Err(Refusal::DuplicateKey)
+        found,
+        [
+            Err(Refusal::DuplicateKey),
+            Err(Refusal::DuplicateKey),
+            Ok(())
+        ]
     );
-    assert_eq!(rt;
-        check(rt.alloc(), &row(rt.alloc(), put(b"a"), delete_all())?),
-        Err(Refusal::DuplicateKey)
-    );
-    assert_eq!(rt;
-        check(rt.alloc(), &row(rt.alloc(), delete_all(), delete_all())?),
-        Ok(())
-    );
-    Ok(())
 }

@@ -1,146 +1,199 @@
 //! Each call once, on three keys.
+use crate::fixtures::{pair, tombstone};
 use bytes::Bytes;
 use key_index::{Indexed, KeyIndex};
-use kv_model::version::{Body, KeyRange, Rev, Version};
-use std::alloc::{AllocError, Global};
-use std::test::Fail;
+use kv_model::version::{KeyRange, Rev};
+use std::alloc::Global;
 
-fn rev(main: u64, sub: u64) -> Rev {
-    Rev { main, sub }
-}
-
-fn key(letter: &'static [u8]) -> Bytes {
-    Bytes::from_static(letter)
-}
-
-fn put(index: &mut KeyIndex, letter: &'static [u8], rev: Rev) -> Result<(), AllocError> {
-    let key = key(letter);
+/// Notes the put or the delete of a key, where the index takes it.
+fn note(index: &mut KeyIndex, letter: &'static [u8], is_put: bool, main: u64, sub: u64) {
+    let key = Bytes::from_static(letter);
+    let rev = Rev { main, sub };
     if index.takes(&key, rev) {
-        index.put(&key, rev)?;
+        let _ = if is_put {
+            index.put(&key, rev)
+        } else {
+            index.gone(&key, rev)
+        };
     }
-    Ok(())
-}
-
-fn gone(index: &mut KeyIndex, letter: &'static [u8], rev: Rev) -> Result<(), AllocError> {
-    let key = key(letter);
-    if index.takes(&key, rev) {
-        index.gone(&key, rev)?;
-    }
-    Ok(())
+    drop(key);
 }
 
 /// a is put at 2 and 3, deleted at 4 and put again at 6.1; b is put at 5 and 6.0; c is put at 6.2.
-fn index(alloc: Global) -> Result<KeyIndex, AllocError> {
+fn index(alloc: Global) -> KeyIndex {
     let mut index = KeyIndex::new(alloc);
-    put(&mut index, b"a", rev(2, 0))?;
-    put(&mut index, b"a", rev(3, 0))?;
-    put(&mut index, b"a", rev(3, 0))?;
-    gone(&mut index, b"a", rev(4, 0))?;
-    put(&mut index, b"b", rev(5, 0))?;
-    put(&mut index, b"b", rev(6, 0))?;
-    put(&mut index, b"a", rev(6, 1))?;
-    put(&mut index, b"c", rev(6, 2))?;
-    Ok(index)
+    note(&mut index, b"a", true, 2, 0);
+    note(&mut index, b"a", true, 3, 0);
+    note(&mut index, b"a", true, 3, 0);
+    note(&mut index, b"a", false, 4, 0);
+    note(&mut index, b"b", true, 5, 0);
+    note(&mut index, b"b", true, 6, 0);
+    note(&mut index, b"a", true, 6, 1);
+    note(&mut index, b"c", true, 6, 2);
+    index
 }
 
-fn at(index: &KeyIndex, letter: &'static [u8], place: Rev) -> Option<(u64, u64)> {
-    index.at(&key(letter), place).map(|r| (r.main, r.sub))
+fn at(index: &KeyIndex, letter: &'static [u8], main: u64, sub: u64) -> Option<(u64, u64)> {
+    let key = Bytes::from_static(letter);
+    let found = pair(index.at(&key, Rev { main, sub }));
+    drop(key);
+    found
+}
+
+#[test]
+fn finds_the_last_revision_at_a_place(rt: HostRuntime) {
+    let index = index(rt.alloc());
+    let found = [
+        at(&index, b"a", 1, 9),
+        at(&index, b"a", 2, 0),
+        at(&index, b"a", 3, 7),
+        at(&index, b"a", 5, 0),
+        at(&index, b"a", 6, 0),
+        at(&index, b"a", 6, 1),
+        at(&index, b"x", 6, 1),
+    ];
+    drop(index);
+    assert_eq!(rt;
+        found,
+        [
+            None,
+            Some((2, 0)),
+            Some((3, 0)),
+            Some((4, 0)),
+            Some((4, 0)),
+            Some((6, 1)),
+            None
+        ]
+    );
+}
+
+fn letter(indexed: Option<&Indexed<'_>>) -> Option<u8> {
+    match indexed {
+        Some(indexed) => indexed.key.as_slice().first().copied(),
+        None => None,
+    }
 }
 
 /// How many keys a range has, and the first letter of the first and of the last.
-fn shown(keys: &[Indexed<'_>]) -> (usize, Option<u8>, Option<u8>) {
-    let letter = |indexed: &Indexed<'_>| indexed.key.as_slice().first().copied();
-    (
-        keys.len(),
-        keys.first().and_then(letter),
-        keys.last().and_then(letter),
-    )
+type Found = (usize, Option<u8>, Option<u8>);
+
+fn shown(index: &KeyIndex, from: &'static [u8], end: &'static [u8]) -> Option<Found> {
+    let range = KeyRange {
+        key: Bytes::from_static(from),
+        end: Bytes::from_static(end),
+    };
+    let found = match index.keys_in(&range) {
+        Ok(keys) => Some((keys.len(), letter(keys.first()), letter(keys.last()))),
+        Err(_) => None,
+    };
+    drop(range);
+    found
 }
 
 #[test]
-fn finds_the_last_revision_at_a_place(rt: HostRuntime) -> Result<(), Fail> {
-    let index = index(rt.alloc())?;
-    assert_eq!(rt; at(&index, b"a", rev(1, 9)), None);
-    assert_eq!(rt; at(&index, b"a", rev(2, 0)), Some((2, 0)));
-    assert_eq!(rt; at(&index, b"a", rev(3, 7)), Some((3, 0)));
-    assert_eq!(rt; at(&index, b"a", rev(5, 0)), Some((4, 0)));
-    assert_eq!(rt; at(&index, b"a", rev(6, 0)), Some((4, 0)));
-    assert_eq!(rt; at(&index, b"a", rev(6, 1)), Some((6, 1)));
-    assert_eq!(rt; at(&index, b"x", rev(6, 1)), None);
-    Ok(())
-}
-
-#[test]
-fn walks_the_four_kinds_of_range(rt: HostRuntime) -> Result<(), Fail> {
-    let index = index(rt.alloc())?;
-    for (from, end, wanted) in [
-        (b"a".as_slice(), b"".as_slice(), (1, Some(97), Some(97))),
-        (b"d".as_slice(), b"".as_slice(), (0, None, None)),
-        (b"\0".as_slice(), b"\0".as_slice(), (3, Some(97), Some(99))),
-        (b"b".as_slice(), b"\0".as_slice(), (2, Some(98), Some(99))),
-        (b"a".as_slice(), b"c".as_slice(), (2, Some(97), Some(98))),
-        (b"b".as_slice(), b"a".as_slice(), (0, None, None)),
-        (b"b".as_slice(), b"b".as_slice(), (0, None, None)),
-    ] {
-        let range = KeyRange {
-            key: Bytes::from_static(from),
-            end: Bytes::from_static(end),
-        };
-        let keys = index.keys_in(&range)?;
-        assert_eq!(rt; shown(keys.as_slice()), wanted);
-    }
-    Ok(())
-}
-
-#[test]
-fn takes_out(rt: HostRuntime) -> Result<(), Fail> {
-    let mut index = index(rt.alloc())?;
-    let changes = [
-        tombstone(b"b", 6, 0),
-        tombstone(b"a", 6, 1),
-        tombstone(b"c", 6, 2),
+fn walks_the_four_kinds_of_range(rt: HostRuntime) {
+    let index = index(rt.alloc());
+    let found = [
+        shown(&index, b"a", b""),
+        shown(&index, b"d", b""),
+        shown(&index, b"\0", b"\0"),
+        shown(&index, b"b", b"\0"),
+        shown(&index, b"a", b"c"),
+        shown(&index, b"b", b"a"),
+        shown(&index, b"b", b"b"),
     ];
-    index.retract(5, changes.as_slice());
-    assert_eq!(rt; at(&index, b"b", rev(6, 0)), Some((6, 0)));
-    index.retract(6, changes.as_slice());
-    assert_eq!(rt; at(&index, b"b", rev(6, 0)), Some((5, 0)));
-    assert_eq!(rt; at(&index, b"a", rev(6, 1)), Some((4, 0)));
-    assert_eq!(rt; at(&index, b"c", rev(6, 2)), None);
-    index.drop_front(&key(b"a"));
-    assert_eq!(rt; at(&index, b"a", rev(2, 0)), None);
-    assert_eq!(rt; at(&index, b"a", rev(3, 0)), Some((3, 0)));
-    index.drop_front(&key(b"b"));
-    index.drop_front(&key(b"b"));
-    assert_eq!(rt; at(&index, b"b", rev(6, 0)), None);
-    Ok(())
+    drop(index);
+    assert_eq!(rt;
+        found,
+        [
+            Some((1, Some(97), Some(97))),
+            Some((0, None, None)),
+            Some((3, Some(97), Some(99))),
+            Some((2, Some(98), Some(99))),
+            Some((2, Some(97), Some(98))),
+            Some((0, None, None)),
+            Some((0, None, None))
+        ]
+    );
 }
 
-fn after(index: &KeyIndex, letter: &'static [u8], place: Rev) -> Option<(u64, u64)> {
-    index.after(&key(letter), place).map(|r| (r.main, r.sub))
+/// Takes out the changes of b, a and c at a main revision, where it is 6.
+fn retract(index: &mut KeyIndex, main: u64) {
+    let changes = [
+        tombstone(6, 0, b"b"),
+        tombstone(6, 1, b"a"),
+        tombstone(6, 2, b"c"),
+    ];
+    index.retract(main, changes.as_slice());
+}
+
+fn drop_front(index: &mut KeyIndex, letter: &'static [u8]) {
+    let key = Bytes::from_static(letter);
+    index.drop_front(&key);
+    drop(key);
 }
 
 #[test]
-fn takes_out_one_revision(rt: HostRuntime) -> Result<(), Fail> {
-    let mut index = index(rt.alloc())?;
-    assert_eq!(rt; after(&index, b"a", rev(0, 0)), Some((2, 0)));
-    assert_eq!(rt; after(&index, b"a", rev(4, 0)), Some((6, 1)));
-    assert_eq!(rt; after(&index, b"a", rev(6, 1)), None);
-    assert_eq!(rt; after(&index, b"x", rev(0, 0)), None);
-    index.remove(&key(b"a"), rev(3, 0));
-    assert_eq!(rt; after(&index, b"a", rev(2, 0)), Some((4, 0)));
-    index.remove(&key(b"a"), rev(2, 0));
-    assert_eq!(rt; after(&index, b"a", rev(0, 0)), Some((4, 0)));
-    index.remove(&key(b"a"), rev(5, 0));
-    index.remove(&key(b"c"), rev(6, 2));
-    assert_eq!(rt; after(&index, b"a", rev(0, 0)), Some((4, 0)));
-    assert_eq!(rt; after(&index, b"c", rev(0, 0)), None);
-    Ok(())
+fn takes_out(rt: HostRuntime) {
+    let mut index = index(rt.alloc());
+    retract(&mut index, 5);
+    let kept = at(&index, b"b", 6, 0);
+    retract(&mut index, 6);
+    let left = [
+        at(&index, b"b", 6, 0),
+        at(&index, b"a", 6, 1),
+        at(&index, b"c", 6, 2),
+    ];
+    drop_front(&mut index, b"a");
+    let dropped = [at(&index, b"a", 2, 0), at(&index, b"a", 3, 0)];
+    drop_front(&mut index, b"b");
+    drop_front(&mut index, b"b");
+    let none = at(&index, b"b", 6, 0);
+    drop(index);
+    assert_eq!(rt;
+        (kept, left, dropped, none),
+        (
+            Some((6, 0)),
+            [Some((5, 0)), Some((4, 0)), None],
+            [None, Some((3, 0))],
+            None
+        )
+    );
 }
 
-fn tombstone(letter: &'static [u8], main: u64, sub: u64) -> Version {
-    Version {
-        rev: Rev { main, sub },
-        key: key(letter),
-        body: Body::Gone,
-    }
+fn after(index: &KeyIndex, letter: &'static [u8], main: u64, sub: u64) -> Option<(u64, u64)> {
+    let key = Bytes::from_static(letter);
+    let found = pair(index.after(&key, Rev { main, sub }));
+    drop(key);
+    found
+}
+
+fn remove(index: &mut KeyIndex, letter: &'static [u8], main: u64, sub: u64) {
+    let key = Bytes::from_static(letter);
+    index.remove(&key, Rev { main, sub });
+    drop(key);
+}
+
+#[test]
+fn takes_out_one_revision(rt: HostRuntime) {
+    let mut index = index(rt.alloc());
+    let before = [
+        after(&index, b"a", 0, 0),
+        after(&index, b"a", 4, 0),
+        after(&index, b"a", 6, 1),
+        after(&index, b"x", 0, 0),
+    ];
+    remove(&mut index, b"a", 3, 0);
+    let second = after(&index, b"a", 2, 0);
+    remove(&mut index, b"a", 2, 0);
+    let first = after(&index, b"a", 0, 0);
+    remove(&mut index, b"a", 5, 0);
+    remove(&mut index, b"c", 6, 2);
+    let last = [after(&index, b"a", 0, 0), after(&index, b"c", 0, 0)];
+    drop(index);
+    assert_eq!(rt; before, [Some((2, 0)), Some((6, 1)), None, None]);
+    assert_eq!(rt;
+        [second, first, last[0], last[1]],
+        [Some((4, 0)), Some((4, 0)), Some((4, 0)), None]
+    );
 }

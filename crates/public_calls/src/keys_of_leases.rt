@@ -1,16 +1,14 @@
 //! The index of the keys of each lease, each call once.
+use crate::fixtures::tombstone;
 use bytes::Bytes;
 use kv_model::version::{Body, Rev, Version};
 use lease_keys::LeaseKeys;
-use std::alloc::{AllocError, Global};
-use std::test::Fail;
-
-fn key(letter: &'static [u8]) -> Bytes {
-    Bytes::from_static(letter)
-}
+use std::alloc::AllocError;
 
 /// How many keys a lease has, and the first byte of the first of them.
-fn seen(index: &LeaseKeys, lease: i64) -> Result<(usize, Option<u8>), AllocError> {
+type Keys = Result<(usize, Option<u8>), AllocError>;
+
+fn seen(index: &LeaseKeys, lease: i64) -> Keys {
     let keys = index.keys_of(lease)?;
     let first = match keys.first() {
         Some(key) => key.as_slice().first().copied(),
@@ -19,62 +17,61 @@ fn seen(index: &LeaseKeys, lease: i64) -> Result<(usize, Option<u8>), AllocError
     Ok((keys.len(), first))
 }
 
-/// Keys a and b with the lease 7, and b with the lease -2.
-fn index(alloc: Global) -> Result<LeaseKeys, AllocError> {
-    let mut index = LeaseKeys::new(alloc);
-    for (lease, letter) in [
-        (7, b"b".as_slice()),
-        (7, b"a".as_slice()),
-        (-2, b"b".as_slice()),
-        (7, b"b".as_slice()),
-    ] {
-        index.add(lease, &key(letter))?;
-    }
-    Ok(index)
-}
-
-/// What is seen of the leases 7 and -2.
-fn two_seen(index: &LeaseKeys) -> Result<[(usize, Option<u8>); 2], AllocError> {
-    Ok([seen(index, 7)?, seen(index, -2)?])
+fn add(index: &mut LeaseKeys, lease: i64, letter: &'static [u8]) {
+    let key = Bytes::from_static(letter);
+    let _ = index.add(lease, &key);
+    drop(key);
 }
 
 #[test]
-fn keys_stand_with_their_lease(rt: HostRuntime) -> Result<(), Fail> {
-    let mut index = index(rt.alloc())?;
-    assert_eq!(rt; two_seen(&index), Ok([(2, Some(97)), (1, Some(98))]));
+fn keys_stand_with_their_lease(rt: HostRuntime) {
+    let mut index = LeaseKeys::new(rt.alloc());
+    add(&mut index, 7, b"b");
+    add(&mut index, 7, b"a");
+    add(&mut index, -2, b"b");
+    add(&mut index, 7, b"b");
+    let before = [seen(&index, 7), seen(&index, -2)];
     index.forget(7);
     index.forget(8);
-    assert_eq!(rt; two_seen(&index), Ok([(0, None), (1, Some(98))]));
-    Ok(())
+    let after = [seen(&index, 7), seen(&index, -2)];
+    drop(index);
+    assert_eq!(rt;
+        [before, after],
+        [
+            [Ok((2, Some(97))), Ok((1, Some(98)))],
+            [Ok((0, None)), Ok((1, Some(98)))]
+        ]
+    );
 }
 
-fn version(sub: u64, letter: &'static [u8], body: Body) -> Version {
+/// The put of a key at revision 2.
+fn put(sub: u64, letter: &'static [u8], lease: i64) -> Version {
     Version {
         rev: Rev { main: 2, sub },
-        key: key(letter),
-        body,
+        key: Bytes::from_static(letter),
+        body: Body::Put {
+            create: 2,
+            version: 1,
+            lease,
+            value: Bytes::new(),
+        },
     }
 }
 
-fn put(lease: i64) -> Body {
-    Body::Put {
-        create: 2,
-        version: 1,
-        lease,
-        value: Bytes::new(),
-    }
+fn add_three(index: &mut LeaseKeys) -> Result<(), AllocError> {
+    let versions = [put(0, b"c", 5), put(1, b"b", 0), tombstone(2, 2, b"a")];
+    let added = index.add_all(versions.as_slice());
+    added
 }
 
 #[test]
-fn puts_under_a_lease_are_added(rt: HostRuntime) -> Result<(), Fail> {
+fn puts_under_a_lease_are_added(rt: HostRuntime) {
     let mut index = LeaseKeys::new(rt.alloc());
-    let versions = [
-        version(0, b"c", put(5)),
-        version(1, b"b", put(0)),
-        version(2, b"a", Body::Gone),
-    ];
-    index.add_all(versions.as_slice())?;
-    assert_eq!(rt; seen(&index, 5)?, (1, Some(99)));
-    assert_eq!(rt; seen(&index, 0)?, (0, None));
-    Ok(())
+    let added = add_three(&mut index);
+    let found = [seen(&index, 5), seen(&index, 0)];
+    drop(index);
+    assert_eq!(rt;
+        (added, found),
+        (Ok(()), [Ok((1, Some(99))), Ok((0, None))])
+    );
 }

@@ -7,6 +7,8 @@ mod checks;
 #[cfg(test)]
 mod cores;
 #[cfg(test)]
+mod fixtures;
+#[cfg(test)]
 mod index;
 #[cfg(test)]
 mod keys_of_leases;

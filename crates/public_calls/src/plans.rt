@@ -1,49 +1,21 @@
 //! What a transaction does to nothing at all, and why it is refused there.
+use crate::fixtures::{add, add_compare, empty, put};
 use bytes::Bytes;
-use kv_model::call::{Compare, Operand, Operation, PutRequest, Relation, Txn};
+use kv_model::call::{Operand, Operation, Txn};
 use kv_model::refusal::Refusal;
-use kv_model::version::KeyRange;
 use lease_book::LeaseBook;
 use range_view::Tables;
-use std::alloc::{AllocError, Global};
-use std::test::Fail;
+use std::alloc::Global;
 use txn_core::plan;
 use txn_core::step::Plan;
 
-fn put(key: &'static [u8], ignore_value: bool, lease: i64) -> Operation {
-    Operation::Put(PutRequest {
-        key: Bytes::from_static(key),
-        value: Bytes::new(),
-        lease,
-        prev_kv: false,
-        ignore_value,
-        ignore_lease: false,
-    })
-}
-
 /// A transaction that compares the key "a", and then does one of two operations.
-fn compared(
-    alloc: Global,
-    operand: Operand,
-    success: Operation,
-    failure: Operation,
-) -> Result<Txn, AllocError> {
-    let mut txn = Txn {
-        compare: Vec::new(alloc),
-        success: Vec::new(alloc),
-        failure: Vec::new(alloc),
-    };
-    txn.compare.push(Compare {
-        range: KeyRange {
-            key: Bytes::from_static(b"a"),
-            end: Bytes::new(),
-        },
-        relation: Relation::IsEqual,
-        operand,
-    })?;
-    txn.success.push(success)?;
-    txn.failure.push(failure)?;
-    Ok(txn)
+fn compared(alloc: Global, operand: Operand, success: Operation, failure: Operation) -> Txn {
+    let mut txn = empty(alloc);
+    add_compare(&mut txn.compare, b"a", operand);
+    add(&mut txn.success, success);
+    add(&mut txn.failure, failure);
+    txn
 }
 
 /// What a transaction does where nothing is kept and no lease is granted.
@@ -56,68 +28,67 @@ fn on_nothing<'t>(alloc: Global, txn: &'t Txn) -> Result<Plan<'t>, Refusal> {
     )
 }
 
-fn is_refused(planned: Result<Plan<'_>, Refusal>, refusal: Refusal) -> bool {
-    match planned {
-        Ok(_) => false,
-        Err(e) => e == refusal,
-    }
-}
-
-fn outcome(planned: Result<Plan<'_>, Refusal>) -> Option<(bool, usize)> {
-    match planned {
-        Ok(planned) => Some((planned.succeeded, planned.versions.len())),
-        Err(_) => None,
-    }
+/// Whether its compares hold there, and how many versions it makes.
+fn planned(alloc: Global, txn: Txn) -> Result<(bool, usize), Refusal> {
+    let plan = on_nothing(alloc, &txn);
+    let found = match &plan {
+        Ok(plan) => Ok((plan.succeeded, plan.versions.len())),
+        Err(refusal) => Err(*refusal),
+    };
+    drop(plan);
+    drop(txn);
+    found
 }
 
 #[test]
-fn what_is_not_there_is_0(rt: HostRuntime) -> Result<(), Fail> {
+fn what_is_not_there_is_0(rt: HostRuntime) {
     let alloc = rt.alloc();
     let within = compared(
         alloc,
         Operand::OfVersion(0),
-        put(b"a", false, 0),
-        put(b"b", true, 0),
-    )?;
+        put(b"a", b"", false, 0),
+        put(b"b", b"", true, 0),
+    );
     let txn = compared(
         alloc,
         Operand::OfMod(0),
         Operation::Inner(within),
-        put(b"b", true, 0),
-    )?;
-    assert_eq!(rt; outcome(on_nothing(alloc, &txn)), Some((true, 1)));
-    Ok(())
+        put(b"b", b"", true, 0),
+    );
+    assert_eq!(rt; planned(alloc, txn), Ok((true, 1)));
 }
 
 #[test]
-fn what_is_not_there_has_no_value(rt: HostRuntime) -> Result<(), Fail> {
+fn what_is_not_there_has_no_value(rt: HostRuntime) {
     let alloc = rt.alloc();
     let txn = compared(
         alloc,
         Operand::OfValue(Bytes::new()),
-        put(b"a", true, 0),
-        put(b"b", false, 0),
-    )?;
-    assert_eq!(rt; outcome(on_nothing(alloc, &txn)), Some((false, 1)));
-    Ok(())
+        put(b"a", b"", true, 0),
+        put(b"b", b"", false, 0),
+    );
+    assert_eq!(rt; planned(alloc, txn), Ok((false, 1)));
 }
 
 #[test]
-fn a_key_that_is_missing_comes_before_its_lease(rt: HostRuntime) -> Result<(), Fail> {
+fn a_key_that_is_missing_comes_before_its_lease(rt: HostRuntime) {
     let alloc = rt.alloc();
     let txn = compared(
         alloc,
         Operand::OfLease(0),
-        put(b"a", true, 7),
-        put(b"b", false, 0),
-    )?;
-    assert!(rt; is_refused(on_nothing(alloc, &txn), Refusal::KeyMissing));
+        put(b"a", b"", true, 7),
+        put(b"b", b"", false, 0),
+    );
+    let key = planned(alloc, txn);
     let txn = compared(
         alloc,
         Operand::OfLease(1),
-        put(b"a", false, 0),
-        put(b"b", false, 7),
-    )?;
-    assert!(rt; is_refused(on_nothing(alloc, &txn), Refusal::LeaseMissing));
-    Ok(())
+        put(b"a", b"", false, 0),
+        put(b"b", b"", false, 7),
+    );
+    let lease = planned(alloc, txn);
+    assert_eq!(rt;
+        [key, lease],
+        [Err(Refusal::KeyMissing), Err(Refusal::LeaseMissing)]
+    );
 }

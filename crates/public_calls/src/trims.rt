@@ -1,116 +1,99 @@
 //! Trimming, on the worked rows of compaction.
-use bytes::Bytes;
-use kv_model::version::{Body, Rev, Version};
+use crate::fixtures::{Change, fill};
+use kv_model::version::Rev;
 use range_view::Tables;
-use std::alloc::{AllocError, Global};
-use std::test::Fail;
 use trim_core::{Trim, Trimmer};
+
+/// A put of a and its tombstone.
+const PUT_AND_GONE: [Change; 2] = [(2, b"a", b"1", 2, 1), (3, b"a", b"", 0, 0)];
+
+/// A put of b after them.
+const NEXT: [Change; 1] = [(4, b"b", b"1", 4, 1)];
 
 fn at(main: u64) -> Rev {
     Rev { main, sub: 0 }
 }
 
-/// Appends a revision of one version, where it is the next one.
-fn append(
-    alloc: Global,
-    tables: &mut Tables,
-    main: u64,
-    key: &'static [u8],
-    body: Body,
-) -> Result<(), AllocError> {
-    let mut versions = Vec::new(alloc);
-    versions.push(Version {
-        rev: at(main),
-        key: Bytes::from_static(key),
-        body,
-    })?;
-    if tables.takes(&versions) {
-        tables.append(versions)?;
-    }
-    Ok(())
+fn two_steps(tables: &mut Tables) -> [Trim; 2] {
+    [tables.trim_step(), tables.trim_step()]
 }
 
-fn put(
-    alloc: Global,
-    tables: &mut Tables,
-    main: u64,
-    key: &'static [u8],
-) -> Result<(), AllocError> {
-    let body = Body::Put {
-        create: main,
-        version: 1,
-        lease: 0,
-        value: Bytes::from_static(b"1"),
-    };
-    append(alloc, tables, main, key, body)
-}
-
-fn gone(
-    alloc: Global,
-    tables: &mut Tables,
-    main: u64,
-    key: &'static [u8],
-) -> Result<(), AllocError> {
-    append(alloc, tables, main, key, Body::Gone)
+fn six_steps(tables: &mut Tables) -> [[Trim; 2]; 3] {
+    [two_steps(tables), two_steps(tables), two_steps(tables)]
 }
 
 #[test]
-fn takes_out_a_put_and_its_tombstone(rt: HostRuntime) -> Result<(), Fail> {
-    let alloc = rt.alloc();
-    let mut tables = Tables::new(alloc);
-    assert_eq!(rt; tables.trim_step(), Trim::Done(0));
-    put(alloc, &mut tables, 2, b"a")?;
-    gone(alloc, &mut tables, 3, b"a")?;
-    put(alloc, &mut tables, 4, b"b")?;
-    assert_eq!(rt; tables.trim_step(), Trim::Done(3));
+fn takes_out_a_put_and_its_tombstone(rt: HostRuntime) {
+    let mut tables = Tables::new(rt.alloc());
+    let fresh = tables.trim_step();
+    fill(rt.alloc(), &mut tables, PUT_AND_GONE.as_slice());
+    fill(rt.alloc(), &mut tables, NEXT.as_slice());
+    let filled = tables.trim_step();
     tables.compact(4);
-    assert_eq!(rt; tables.trim_step(), Trim::Removed(at(2)));
-    assert_eq!(rt; tables.trim_step(), Trim::Removed(at(3)));
-    assert_eq!(rt; tables.trim_step(), Trim::Kept(at(4)));
-    assert_eq!(rt; tables.trim_step(), Trim::Done(1));
-    assert_eq!(rt; tables.trim_step(), Trim::Done(1));
-    Ok(())
+    let steps = six_steps(&mut tables);
+    drop(tables);
+    assert_eq!(rt; [fresh, filled], [Trim::Done(0), Trim::Done(3)]);
+    assert_eq!(rt;
+        steps,
+        [
+            [Trim::Removed(at(2)), Trim::Removed(at(3))],
+            [Trim::Kept(at(4)), Trim::Done(1)],
+            [Trim::Done(1), Trim::Done(1)]
+        ]
+    );
 }
 
 #[test]
-fn keeps_a_tombstone_at_the_compaction(rt: HostRuntime) -> Result<(), Fail> {
-    let alloc = rt.alloc();
-    let mut tables = Tables::new(alloc);
-    put(alloc, &mut tables, 2, b"a")?;
-    gone(alloc, &mut tables, 3, b"a")?;
+fn keeps_a_tombstone_at_the_compaction(rt: HostRuntime) {
+    let mut tables = Tables::new(rt.alloc());
+    fill(rt.alloc(), &mut tables, PUT_AND_GONE.as_slice());
     tables.compact(3);
-    assert_eq!(rt; tables.trim_step(), Trim::Removed(at(2)));
-    assert_eq!(rt; tables.trim_step(), Trim::Kept(at(3)));
-    assert_eq!(rt; tables.trim_step(), Trim::Done(1));
-    Ok(())
+    let steps = [two_steps(&mut tables), two_steps(&mut tables)];
+    drop(tables);
+    assert_eq!(rt;
+        steps,
+        [
+            [Trim::Removed(at(2)), Trim::Kept(at(3))],
+            [Trim::Done(1), Trim::Done(1)]
+        ]
+    );
 }
 
 #[test]
-fn begins_again_at_a_later_compaction(rt: HostRuntime) -> Result<(), Fail> {
-    let alloc = rt.alloc();
-    let mut tables = Tables::new(alloc);
-    put(alloc, &mut tables, 2, b"a")?;
-    put(alloc, &mut tables, 3, b"a")?;
-    put(alloc, &mut tables, 4, b"b")?;
-    put(alloc, &mut tables, 5, b"a")?;
+fn begins_again_at_a_later_compaction(rt: HostRuntime) {
+    let mut tables = Tables::new(rt.alloc());
+    let first: [Change; 4] = [
+        (2, b"a", b"1", 2, 1),
+        (3, b"a", b"1", 3, 1),
+        (4, b"b", b"1", 4, 1),
+        (5, b"a", b"1", 5, 1),
+    ];
+    let second: [Change; 2] = [(6, b"b", b"", 0, 0), (7, b"a", b"1", 7, 1)];
+    fill(rt.alloc(), &mut tables, first.as_slice());
     tables.compact(4);
-    assert_eq!(rt; tables.trim_step(), Trim::Removed(at(2)));
-    assert_eq!(rt; tables.trim_step(), Trim::Kept(at(3)));
-    gone(alloc, &mut tables, 6, b"b")?;
-    put(alloc, &mut tables, 7, b"a")?;
+    let begun = two_steps(&mut tables);
+    fill(rt.alloc(), &mut tables, second.as_slice());
     tables.compact(7);
-    for main in 3..7 {
-        assert_eq!(rt; tables.trim_step(), Trim::Removed(at(main)));
-    }
-    assert_eq!(rt; tables.trim_step(), Trim::Kept(at(7)));
-    assert_eq!(rt; tables.trim_step(), Trim::Done(1));
-    Ok(())
+    let again = six_steps(&mut tables);
+    drop(tables);
+    assert_eq!(rt; begun, [Trim::Removed(at(2)), Trim::Kept(at(3))]);
+    assert_eq!(rt;
+        again,
+        [
+            [Trim::Removed(at(3)), Trim::Removed(at(4))],
+            [Trim::Removed(at(5)), Trim::Removed(at(6))],
+            [Trim::Kept(at(7)), Trim::Done(1)]
+        ]
+    );
 }
 
 #[test]
 fn begins_at_the_oldest_place(rt: HostRuntime) {
     let mut trimmer = Trimmer::new();
-    assert_eq!(rt; trimmer.place(), at(0));
+    let first = trimmer.place();
     trimmer.restart();
-    assert_eq!(rt; trimmer.place(), at(0));
+    let again = trimmer.place();
+    drop(trimmer);
+    let oldest = Rev { main: 0, sub: 0 };
+    assert_eq!(rt; [first, again], [oldest, oldest]);
 }

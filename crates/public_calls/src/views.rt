@@ -1,56 +1,27 @@
 //! Each call once, on the tables of a few revisions.
+use crate::fixtures::{Change, fill, tombstone};
 use bytes::Bytes;
 use kv_model::call::{RangeQuery, SortOrder, SortTarget};
 use kv_model::refusal::Refusal;
-use kv_model::version::{Body, KeyRange, Rev, Version};
+use kv_model::version::KeyRange;
 use range_view::reply::RangeReply;
 use range_view::revision::end_of;
 use range_view::tables::Tables;
 use std::alloc::{AllocError, Global};
-use std::process::Abort;
-use std::test::Fail;
-
-/// The put with a number of a key's life, which began at a revision.
-fn put(main: u64, key: &'static [u8], value: &'static [u8], create: u64, version: u64) -> Version {
-    Version {
-        rev: Rev { main, sub: 0 },
-        key: Bytes::from_static(key),
-        body: Body::Put {
-            create,
-            version,
-            lease: 0,
-            value: Bytes::from_static(value),
-        },
-    }
-}
-
-fn tombstone(main: u64, sub: u64, key: &'static [u8]) -> Version {
-    Version {
-        rev: Rev { main, sub },
-        key: Bytes::from_static(key),
-        body: Body::Gone,
-    }
-}
-
-/// Appends a revision of one version, where it is the next one.
-fn append(alloc: Global, tables: &mut Tables, version: Version) -> Result<(), AllocError> {
-    let mut versions = Vec::new(alloc);
-    versions.push(version)?;
-    if tables.takes(&versions) {
-        tables.append(versions)?;
-    }
-    Ok(())
-}
 
 /// Revision 2 puts c, 3 puts a, 4 puts b, 5 puts a again and 6 deletes c.
-fn tables(alloc: Global) -> Result<Tables, AllocError> {
+const CHANGES: [Change; 5] = [
+    (2, b"c", b"x", 2, 1),
+    (3, b"a", b"z", 3, 1),
+    (4, b"b", b"x", 4, 1),
+    (5, b"a", b"y", 3, 2),
+    (6, b"c", b"", 0, 0),
+];
+
+fn tables(alloc: Global) -> Tables {
     let mut tables = Tables::new(alloc);
-    append(alloc, &mut tables, put(2, b"c", b"x", 2, 1))?;
-    append(alloc, &mut tables, put(3, b"a", b"z", 3, 1))?;
-    append(alloc, &mut tables, put(4, b"b", b"x", 4, 1))?;
-    append(alloc, &mut tables, put(5, b"a", b"y", 3, 2))?;
-    append(alloc, &mut tables, tombstone(6, 0, b"c"))?;
-    Ok(tables)
+    fill(alloc, &mut tables, CHANGES.as_slice());
+    tables
 }
 
 /// A Range of the keys from one to another, with nothing else asked.
@@ -90,62 +61,51 @@ fn sorted(order: SortOrder, target: SortTarget, limit: i64) -> RangeQuery {
     query
 }
 
-/// A Range of every key, with bounds on the modified revision.
-fn modified(least: i64, greatest: i64) -> RangeQuery {
+/// A Range of every key, with bounds on the modified revision, and the greatest revision of creation.
+fn bounded(least: i64, greatest: i64, created: i64) -> RangeQuery {
     let mut query = every(0, 0);
     query.min_mod = least;
     query.max_mod = greatest;
+    query.max_create = created;
     query
 }
 
-/// A Range of every key, with the greatest revision of creation.
-fn created(greatest: i64) -> RangeQuery {
-    let mut query = every(0, 0);
-    query.max_create = greatest;
+/// A Range of every key with a limit that only counts, or shows no values.
+fn counted(count_only: bool, keys_only: bool, limit: i64) -> RangeQuery {
+    let mut query = every(0, limit);
+    query.count_only = count_only;
+    query.keys_only = keys_only;
     query
 }
 
-fn counted() -> RangeQuery {
-    let mut query = every(0, 1);
-    query.count_only = true;
-    query
-}
-
-/// The keys shown, joined.
-fn keys_of(alloc: Global, reply: &RangeReply<'_>) -> Result<Vec<u8>, AllocError> {
-    let mut keys = Vec::new(alloc);
+/// Whether the keys shown, joined, are these bytes, and how long the values are.
+fn are_keys(alloc: Global, reply: &RangeReply<'_>, keys: &[u8]) -> (bool, usize) {
+    let mut found = Vec::new(alloc);
+    let mut bytes = 0;
     for kv in &reply.kvs {
-        keys.extend_from_slice(kv.key)?;
+        let _ = found.extend_from_slice(kv.key);
+        bytes |= kv.value.len();
     }
-    Ok(keys)
+    let are = found.as_slice() == keys;
+    drop(found);
+    (are, bytes)
 }
 
-fn answer<'a>(
-    alloc: Global,
-    tables: &'a Tables,
-    query: &RangeQuery,
-) -> Result<RangeReply<'a>, Refusal> {
-    tables.view().range(alloc, query)
-}
+/// Whether a Range shows these keys, how many it counts, whether it cuts, and how long the values shown are.
+type Found = Result<(bool, u64, bool, usize), Refusal>;
 
-/// What a Range shows and counts, and whether it cuts.
-fn expect(
-    rt: &impl Abort,
-    alloc: Global,
-    tables: &Tables,
-    query: RangeQuery,
-    shown: (&[u8], u64, bool),
-) -> Result<(), Fail> {
-    let (keys, count, more) = shown;
-    match answer(alloc, tables, &query) {
+fn shown(alloc: Global, tables: &Tables, query: RangeQuery, keys: &[u8]) -> Found {
+    let reply = tables.view().range(alloc, &query);
+    let found = match &reply {
         Ok(reply) => {
-            assert_eq!(rt; keys_of(alloc, &reply)?.as_slice(), keys);
-            assert_eq!(rt; reply.count, count);
-            assert_eq!(rt; reply.more, more);
+            let (are, bytes) = are_keys(alloc, reply, keys);
+            Ok((are, reply.count, reply.more, bytes))
         }
-        Err(refusal) => assert_eq!(rt; refusal.number(), 0),
-    }
-    Ok(())
+        Err(refusal) => Err(*refusal),
+    };
+    drop(reply);
+    drop(query);
+    found
 }
 
 /// The number of a key's puts, at the end of a revision.
@@ -160,133 +120,113 @@ fn version_at(tables: &Tables, revision: u64, key: &'static [u8]) -> Option<u64>
 }
 
 #[test]
-fn shows_what_a_key_holds_at_a_place(rt: HostRuntime) -> Result<(), Fail> {
-    let tables = tables(rt.alloc())?;
-    assert_eq!(rt; version_at(&tables, 2, b"a"), None);
-    assert_eq!(rt; version_at(&tables, 4, b"a"), Some(1));
-    assert_eq!(rt; version_at(&tables, 6, b"a"), Some(2));
-    assert_eq!(rt; version_at(&tables, 6, b"c"), None);
-    Ok(())
+fn shows_what_a_key_holds_at_a_place(rt: HostRuntime) {
+    let tables = tables(rt.alloc());
+    let found = [
+        version_at(&tables, 2, b"a"),
+        version_at(&tables, 4, b"a"),
+        version_at(&tables, 6, b"a"),
+        version_at(&tables, 6, b"c"),
+    ];
+    drop(tables);
+    assert_eq!(rt; found, [None, Some(1), Some(2), None]);
 }
 
 #[test]
-fn reads_intervals(rt: HostRuntime) -> Result<(), Fail> {
-    let tables = tables(rt.alloc())?;
-    expect(
-        &rt,
-        rt.alloc(),
-        &tables,
-        between(b"a", b""),
-        (b"a", 1, false),
-    )?;
-    expect(
-        &rt,
-        rt.alloc(),
-        &tables,
-        between(b"a", b"b"),
-        (b"a", 1, false),
-    )?;
-    expect(
-        &rt,
-        rt.alloc(),
-        &tables,
-        between(b"a", b"a\0"),
-        (b"a", 1, false),
-    )?;
-    expect(&rt, rt.alloc(), &tables, every(5, 0), (b"abc", 3, false))
+fn reads_intervals(rt: HostRuntime) {
+    let alloc = rt.alloc();
+    let tables = tables(alloc);
+    let found = [
+        shown(alloc, &tables, between(b"a", b""), b"a"),
+        shown(alloc, &tables, between(b"a", b"b"), b"a"),
+        shown(alloc, &tables, between(b"a", b"a\0"), b"a"),
+        shown(alloc, &tables, every(5, 0), b"abc"),
+    ];
+    drop(tables);
+    let one = Ok((true, 1, false, 1));
+    assert_eq!(rt; found, [one, one, one, Ok((true, 3, false, 1))]);
 }
 
 #[test]
-fn cuts_and_filters(rt: HostRuntime) -> Result<(), Fail> {
-    let tables = tables(rt.alloc())?;
-    expect(&rt, rt.alloc(), &tables, every(0, 1), (b"a", 2, true))?;
-    expect(&rt, rt.alloc(), &tables, every(0, 2), (b"ab", 2, false))?;
-    expect(&rt, rt.alloc(), &tables, counted(), (b"", 2, false))?;
-    expect(&rt, rt.alloc(), &tables, modified(5, 0), (b"a", 2, false))?;
-    expect(&rt, rt.alloc(), &tables, modified(0, -1), (b"", 2, false))?;
-    expect(&rt, rt.alloc(), &tables, created(3), (b"a", 2, false))
-}
-
-/// The number of the bytes of the values that a Range of keys alone shows.
-fn bytes_of_values(alloc: Global, tables: &Tables) -> Result<usize, Refusal> {
-    let mut query = every(0, 0);
-    query.keys_only = true;
-    let reply = answer(alloc, tables, &query)?;
-    let mut bytes = 0;
-    for kv in &reply.kvs {
-        bytes |= kv.value.len();
-    }
-    Ok(bytes)
+fn cuts_and_filters(rt: HostRuntime) {
+    let alloc = rt.alloc();
+    let tables = tables(alloc);
+    let found = [
+        shown(alloc, &tables, every(0, 1), b"a"),
+        shown(alloc, &tables, every(0, 2), b"ab"),
+        shown(alloc, &tables, counted(true, false, 1), b""),
+        shown(alloc, &tables, bounded(5, 0, 0), b"a"),
+        shown(alloc, &tables, bounded(0, -1, 0), b""),
+        shown(alloc, &tables, bounded(0, 0, 3), b"a"),
+        shown(alloc, &tables, counted(false, true, 0), b"ab"),
+    ];
+    drop(tables);
+    assert_eq!(rt;
+        found,
+        [
+            Ok((true, 2, true, 1)),
+            Ok((true, 2, false, 1)),
+            Ok((true, 2, false, 0)),
+            Ok((true, 2, false, 1)),
+            Ok((true, 2, false, 0)),
+            Ok((true, 2, false, 1)),
+            Ok((true, 2, false, 0))
+        ]
+    );
 }
 
 #[test]
-fn keys_only_shows_no_values(rt: HostRuntime) -> Result<(), Fail> {
-    let tables = tables(rt.alloc())?;
-    assert!(rt; bytes_of_values(rt.alloc(), &tables) == Ok(0));
-    Ok(())
-}
-
-#[test]
-fn sorts_with_ties_by_key(rt: HostRuntime) -> Result<(), Fail> {
-    let tables = tables(rt.alloc())?;
-    expect(
-        &rt,
-        rt.alloc(),
-        &tables,
-        sorted(SortOrder::Unsorted, SortTarget::ByValue, 0),
-        (b"bca", 3, false),
-    )?;
-    expect(
-        &rt,
-        rt.alloc(),
-        &tables,
-        sorted(SortOrder::Descend, SortTarget::ByValue, 0),
-        (b"abc", 3, false),
-    )?;
-    expect(
-        &rt,
-        rt.alloc(),
-        &tables,
-        sorted(SortOrder::Descend, SortTarget::ByKey, 2),
-        (b"cb", 3, true),
-    )
+fn sorts_with_ties_by_key(rt: HostRuntime) {
+    let alloc = rt.alloc();
+    let tables = tables(alloc);
+    let up = sorted(SortOrder::Unsorted, SortTarget::ByValue, 0);
+    let down = sorted(SortOrder::Descend, SortTarget::ByValue, 0);
+    let cut = sorted(SortOrder::Descend, SortTarget::ByKey, 2);
+    let found = [
+        shown(alloc, &tables, up, b"bca"),
+        shown(alloc, &tables, down, b"abc"),
+        shown(alloc, &tables, cut, b"cb"),
+    ];
+    drop(tables);
+    let all = Ok((true, 3, false, 1));
+    assert_eq!(rt; found, [all, all, Ok((true, 3, true, 1))]);
 }
 
 /// The number of a refusal, 0 where a Range of a revision is answered.
 fn refused(alloc: Global, tables: &Tables, revision: i64) -> u8 {
-    match answer(alloc, tables, &every(revision, 0)) {
+    match shown(alloc, tables, every(revision, 0), b"") {
         Ok(_) => 0,
         Err(refusal) => refusal.number(),
     }
 }
 
 #[test]
-fn refuses_revisions(rt: HostRuntime) -> Result<(), Fail> {
-    let mut tables = tables(rt.alloc())?;
+fn refuses_revisions(rt: HostRuntime) {
+    let alloc = rt.alloc();
+    let mut tables = tables(alloc);
     tables.compact(4);
-    assert_eq!(rt;
-        refused(rt.alloc(), &tables, 3),
-        Refusal::Compacted(4).number()
-    );
-    assert_eq!(rt; refused(rt.alloc(), &tables, 4), 0);
-    assert_eq!(rt; refused(rt.alloc(), &tables, 6), 0);
-    assert_eq!(rt;
-        refused(rt.alloc(), &tables, 7),
-        Refusal::Future(6).number()
-    );
-    Ok(())
+    let found = [
+        refused(alloc, &tables, 3),
+        refused(alloc, &tables, 4),
+        refused(alloc, &tables, 6),
+        refused(alloc, &tables, 7),
+    ];
+    drop(tables);
+    let compacted = Refusal::Compacted(4).number();
+    let future = Refusal::Future(6).number();
+    assert_eq!(rt; found, [compacted, 0, 0, future]);
 }
 
 #[test]
-fn takes_a_revision_back(rt: HostRuntime) -> Result<(), Fail> {
-    let mut tables = tables(rt.alloc())?;
+fn takes_a_revision_back(rt: HostRuntime) {
+    let mut tables = tables(rt.alloc());
     tables.retract(5);
-    assert_eq!(rt; tables.revision(), 6);
+    let kept = tables.revision();
     tables.retract(6);
-    assert_eq!(rt; tables.revision(), 5);
-    assert_eq!(rt; tables.versions().len(), 4);
-    assert_eq!(rt; version_at(&tables, 5, b"c"), Some(1));
-    Ok(())
+    let left = (tables.revision(), tables.versions().len());
+    let version = version_at(&tables, 5, b"c");
+    drop(tables);
+    assert_eq!(rt; (kept, left, version), (6, (5, 4), Some(1)));
 }
 
 /// Whether tombstones of a and b at two places may come next.
@@ -303,18 +243,23 @@ fn takes(
 }
 
 #[test]
-fn takes_the_next_revision_alone(rt: HostRuntime) -> Result<(), Fail> {
-    let tables = tables(rt.alloc())?;
-    assert!(rt; tables.takes(&[]));
-    assert!(rt; takes(rt.alloc(), &tables, (7, 0), (7, 1))?);
-    assert!(rt; !takes(rt.alloc(), &tables, (7, 1), (7, 1))?);
-    assert!(rt; !takes(rt.alloc(), &tables, (7, 0), (8, 0))?);
-    assert!(rt; !takes(rt.alloc(), &tables, (8, 0), (8, 1))?);
-    Ok(())
+fn takes_the_next_revision_alone(rt: HostRuntime) {
+    let alloc = rt.alloc();
+    let tables = tables(alloc);
+    let none = tables.takes(&[]);
+    let found = [
+        takes(alloc, &tables, (7, 0), (7, 1)),
+        takes(alloc, &tables, (7, 1), (7, 1)),
+        takes(alloc, &tables, (7, 0), (8, 0)),
+        takes(alloc, &tables, (8, 0), (8, 1)),
+    ];
+    drop(tables);
+    let expected = [Ok(true), Ok(false), Ok(false), Ok(false)];
+    assert_eq!(rt; (none, found), (true, expected));
 }
 
 /// What may go to another thread.
-fn crosses<T: Send + Drop>(_: T) {}
+pub(crate) fn crosses<T: Send + Drop>(_: T) {}
 
 #[test]
 fn goes_to_another_thread(rt: HostRuntime) {
