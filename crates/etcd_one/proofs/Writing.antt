@@ -1,14 +1,12 @@
 -- The replies of all lines, by the events among them.
-use Rattle.std.proofs.Common.{◌≡◌, ℕ, List, [], ◌∷◌, ◌++◌, map, Option, None, Some, IfSome, Result, Ok, Err, OnOk, codes, refl, sym, ap, ◌∙◌, subst, append_assoc}
-use Rattle.std.proofs.lemmas.List.{append-nil}
+use Rattle.std.proofs.Common.{◌≡◌, ℕ, List, [], ◌∷◌, ◌++◌, map, Option, None, Some, IfSome, Result, Ok, Err, OnOk, codes, refl, ap, subst}
 use Rattle.std.specs.Io.KnownBytes.{Appends}
-use Rattle.kv_model.specs.Wire.{WireEvent, WireOutcome}
-use Rattle.kv_model.specs.Wire.{Follows}
+use Rattle.kv_model.specs.Wire.{Follows, WireEvent, WireOutcome}
 use Rattle.json_gateway.specs.Runs.{event_view}
 use Rattle.etcd_one.specs.declared.script.Lines.{Lines}
-use Rattle.etcd_one.specs.Lines.{AreLines}
+use Rattle.etcd_one.specs.Lines.{AreLines, are_events, replies_by}
 use Rattle.etcd_one.specs.Script.{line_events}
-use Rattle.etcd_one.specs.Replies.{IsAnswered, are_events, events_among, ids, outcome_line, replies_by, reply_lines}
+use Rattle.etcd_one.specs.Replies.{IsAnswered, events_among, ids, outcome_line, reply_lines}
 
 none_left : (ls : List (Option WireEvent)) (es : List WireEvent) → replies_by (are_events ls) es [] ≡ reply_lines ls []
 none_left [] es = refl

@@ -1,5 +1,5 @@
 -- What is written for a script.
-use Rattle.std.specs.Prelude.{◌≡◌, ℕ, List, [], ◌∷◌, ◌++◌, Bool, true, false, Option, None, Some, codes, decimal}
+use Rattle.std.specs.Prelude.{◌≡◌, ℕ, List, [], ◌∷◌, ◌++◌, Option, None, Some, codes, decimal}
 use Rattle.std.specs.Fmt.{signed_decimal}
 use Rattle.kv_model.specs.declared.ids.Ids.{Ids}
 use Rattle.kv_model.specs.declared.refusal.Refusal.TheVariants.{Memory}
@@ -47,20 +47,6 @@ abbrev pub events_among : List (Option WireEvent) → List WireEvent
 events_among [] = []
 events_among (None ∷ ls) = events_among ls
 events_among (Some e ∷ ls) = e ∷ events_among ls
-
--- of each line, whether it is that of an event
-abbrev pub are_events : List (Option WireEvent) → List Bool
-are_events [] = []
-are_events (None ∷ ls) = false ∷ are_events ls
-are_events (Some e ∷ ls) = true ∷ are_events ls
-
--- the same replies, by those and the events among the lines
-abbrev pub replies_by : List Bool → List WireEvent → List WireOutcome → List ℕ
-replies_by [] es os = []
-replies_by (false ∷ fs) es os = codes "bad line\n" ++ replies_by fs es os
-replies_by (true ∷ fs) [] os = replies_by fs [] os
-replies_by (true ∷ fs) (e ∷ es) [] = replies_by fs (e ∷ es) []
-replies_by (true ∷ fs) (e ∷ es) (o ∷ os) = outcome_line e o ++ replies_by fs es os
 
 -- a reply for each line; the outcomes go to the events in their order
 abbrev pub reply_lines : List (Option WireEvent) → List WireOutcome → List ℕ

@@ -7,7 +7,7 @@ ghost use Rattle.request_core.specs.Answers.{expiry_view};
 ghost use Rattle.json_gateway.specs.Outcomes.{shown};
 ghost use Rattle.json_gateway.specs.Runs.{command_view, event_view, expiry_outcome, outcome_view};
 ghost use Rattle.kv_model.specs.Wire.{Follows};
-ghost use Rattle.etcd_one.specs.Lines.{AreLines};
+ghost use Rattle.etcd_one.specs.Lines.{AreLines, replies_by};
 ghost use Rattle.etcd_one.specs.Replies as spec;
 ghost use Rattle.etcd_one.specs.Script as script;
 ghost use Rattle.etcd_one.specs.Faults.{is_read, is_write};
@@ -100,8 +100,8 @@ fn take_in(read: io::Result<usize>, buffer: &[u8], script: &mut Vec<u8>) -> Resu
 /// A script's lines, and the outcomes of its events, in order.
 #[derive(Drop)]
 struct Run<'a> {
-    pub lines: Lines<'a>,
-    pub outcomes: Vec<WireOutcome>,
+    lines: Lines<'a>,
+    outcomes: Vec<WireOutcome>,
 }
 
 /// Runs a script's events on a fresh store. Fails for want of memory outside a request.
@@ -117,7 +117,7 @@ fn run_of(alloc: Global, text: &[u8]) -> Result<Run<'_>, AllocError>
 /// Writes the replies to all lines, and hands them on.
 fn write_out<W: Write>(w: &mut W, lines: &Lines<'_>, outcomes: &[WireOutcome]) -> Result<(), Fault>
     ensures ok { OnOk result (Appends (W.contents w.old) (W.contents w.new)
-        (spec.replies_by lines.now.are_events.items (map event_view lines.now.events.items) (map outcome_view outcomes.now))) }
+        (replies_by lines.now.are_events.items (map event_view lines.now.events.items) (map outcome_view outcomes.now))) }
     ensures err { IfErr result (λ fault. is_write fault ≡ true) }
 {
     if let Err(error) = write_replies(w, lines, outcomes) {
@@ -132,7 +132,7 @@ fn write_out<W: Write>(w: &mut W, lines: &Lines<'_>, outcomes: &[WireOutcome]) -
 /// Writes a reply for each line: `bad line`, or that of the next event and its outcome.
 fn write_replies<W: Write>(w: &mut W, lines: &Lines<'_>, outcomes: &[WireOutcome]) -> io::Result<()>
     ensures { OnOk result (Appends (W.contents w.old) (W.contents w.new)
-        (spec.replies_by lines.now.are_events.items (map event_view lines.now.events.items) (map outcome_view outcomes.now))) }
+        (replies_by lines.now.are_events.items (map event_view lines.now.events.items) (map outcome_view outcomes.now))) }
 {
     let mut place = 0;
     for is_event in &lines.are_events {
@@ -151,8 +151,8 @@ fn write_line<W: Write>(
     place: usize,
 ) -> io::Result<usize>
     ensures { IfOk result (λ next. (flags : List Bool) (end : Option (List ℕ))
-        → Appends (W.contents w.new) end (spec.replies_by flags (map event_view (drop next events.now)) (map outcome_view (drop next outcomes.now)))
-        → Appends (W.contents w.old) end (spec.replies_by (is_event ∷ flags) (map event_view (drop place events.now)) (map outcome_view (drop place outcomes.now)))) }
+        → Appends (W.contents w.new) end (replies_by flags (map event_view (drop next events.now)) (map outcome_view (drop next outcomes.now)))
+        → Appends (W.contents w.old) end (replies_by (is_event ∷ flags) (map event_view (drop place events.now)) (map outcome_view (drop place outcomes.now)))) }
 {
     if !is_event {
         w.write_all(b"bad line\n")?;

@@ -1,11 +1,10 @@
 //! Leases, the clock and expiry: scripts and their replies, byte for byte.
-use super::rows::answers;
-use std::test::Fail;
+use super::rows::{Row, first_wrong};
 
 /// A lease, its keys, and their end: at the deadline and not a millisecond before.
-#[test]
-fn keys_of_a_lease(rt: HostRuntime) -> Result<(), Fail> {
-    let script = "AT 1000\n\
+const KEYS_OF_A_LEASE: [Row; 1] = [(
+    &[(
+        "AT 1000\n\
 POST /v3/lease/grant {\"TTL\":\"10\",\"ID\":\"7\"}\n\
 POST /v3/kv/put {\"key\":\"YQ==\",\"value\":\"MQ==\",\"lease\":\"7\"}\n\
 POST /v3/kv/put {\"key\":\"Yg==\",\"value\":\"MQ==\",\"lease\":\"7\"}\n\
@@ -18,8 +17,11 @@ AT 11000\n\
 EXPIRE\n\
 POST /v3/lease/keepalive {\"ID\":\"7\"}\n\
 POST /v3/lease/timetolive {\"ID\":\"7\"}\n\
-POST /v3/lease/revoke {\"ID\":\"7\"}\n";
-    let replies = "at 1000\n\
+POST /v3/lease/revoke {\"ID\":\"7\"}\n",
+        1,
+    )],
+    &[(
+        "at 1000\n\
 200 {\"ID\":\"7\",\"TTL\":\"10\",\"header\":{\"cluster_id\":\"1\",\"member_id\":\"1\",\"raft_term\":\"1\",\"revision\":\"1\"}}\n\
 200 {\"header\":{\"cluster_id\":\"1\",\"member_id\":\"1\",\"raft_term\":\"1\",\"revision\":\"2\"}}\n\
 200 {\"header\":{\"cluster_id\":\"1\",\"member_id\":\"1\",\"raft_term\":\"1\",\"revision\":\"3\"}}\n\
@@ -32,15 +34,20 @@ at 11000\n\
 expired 7 revision 6\n\
 200 {\"result\":{\"ID\":\"7\",\"header\":{\"cluster_id\":\"1\",\"member_id\":\"1\",\"raft_term\":\"1\",\"revision\":\"6\"}}}\n\
 200 {\"ID\":\"7\",\"TTL\":\"-1\",\"header\":{\"cluster_id\":\"1\",\"member_id\":\"1\",\"raft_term\":\"1\",\"revision\":\"6\"}}\n\
-404 {\"code\":5,\"error\":\"etcdserver: requested lease not found\",\"message\":\"etcdserver: requested lease not found\"}\n";
-    assert!(rt; answers(rt.alloc(), &[(script, 1)], &[(replies, 1)])?);
-    Ok(())
+404 {\"code\":5,\"error\":\"etcdserver: requested lease not found\",\"message\":\"etcdserver: requested lease not found\"}\n",
+        1,
+    )],
+)];
+
+#[test]
+fn keys_of_a_lease(rt: HostRuntime) {
+    assert_eq!(rt; first_wrong(rt.alloc(), &KEYS_OF_A_LEASE), None);
 }
 
 /// Grants and their refusals, expiry by deadline and ID, and a clock that is not set back.
-#[test]
-fn grants_and_expiries(rt: HostRuntime) -> Result<(), Fail> {
-    let script = "POST /v3/lease/grant {}\n\
+const GRANTS_AND_EXPIRIES: [Row; 1] = [(
+    &[(
+        "POST /v3/lease/grant {}\n\
 POST /v3/lease/grant {\"TTL\":\"5\",\"ID\":\"2\"}\n\
 POST /v3/lease/grant {}\n\
 POST /v3/lease/grant {\"ID\":\"2\"}\n\
@@ -51,8 +58,10 @@ EXPIRE\n\
 EXPIRE\n\
 EXPIRE\n\
 AT 500\n\
-POST /v3/kv/put {\"key\":\"YQ==\",\"lease\":\"3\"}\n";
-    let replies =
+POST /v3/kv/put {\"key\":\"YQ==\",\"lease\":\"3\"}\n",
+        1,
+    )],
+    &[(
         "200 {\"ID\":\"1\",\"TTL\":\"1\",\"header\":{\"cluster_id\":\"1\",\"member_id\":\"1\",\"raft_term\":\"1\",\"revision\":\"1\"}}\n\
 200 {\"ID\":\"2\",\"TTL\":\"5\",\"header\":{\"cluster_id\":\"1\",\"member_id\":\"1\",\"raft_term\":\"1\",\"revision\":\"1\"}}\n\
 200 {\"ID\":\"3\",\"TTL\":\"1\",\"header\":{\"cluster_id\":\"1\",\"member_id\":\"1\",\"raft_term\":\"1\",\"revision\":\"1\"}}\n\
@@ -64,21 +73,30 @@ expired 1 revision 1\n\
 expired 3 revision 1\n\
 nothing\n\
 at 1000\n\
-404 {\"code\":5,\"error\":\"etcdserver: requested lease not found\",\"message\":\"etcdserver: requested lease not found\"}\n";
-    assert!(rt; answers(rt.alloc(), &[(script, 1)], &[(replies, 1)])?);
-    Ok(())
+404 {\"code\":5,\"error\":\"etcdserver: requested lease not found\",\"message\":\"etcdserver: requested lease not found\"}\n",
+        1,
+    )],
+)];
+
+#[test]
+fn grants_and_expiries(rt: HostRuntime) {
+    assert_eq!(rt; first_wrong(rt.alloc(), &GRANTS_AND_EXPIRIES), None);
 }
 
 /// Moments of 64 bits, zeros before them, and lines of no form.
-#[test]
-fn moments(rt: HostRuntime) -> Result<(), Fail> {
-    let script =
-        "AT 007\nAT 18446744073709551615\nAT +8\nAT 8 \nAT \nAT  8\nAT 18446744073709551616\nat 8\nEXPIRE \nEXPIRE\n";
-    let replies = [
+const MOMENTS: [Row; 1] = [(
+    &[(
+        "AT 007\nAT 18446744073709551615\nAT +8\nAT 8 \nAT \nAT  8\nAT 18446744073709551616\nat 8\nEXPIRE \nEXPIRE\n",
+        1,
+    )],
+    &[
         ("at 7\nat 4611686018427387904\n", 1),
         ("bad line\n", 7),
         ("nothing\n", 1),
-    ];
-    assert!(rt; answers(rt.alloc(), &[(script, 1)], &replies)?);
-    Ok(())
+    ],
+)];
+
+#[test]
+fn moments(rt: HostRuntime) {
+    assert_eq!(rt; first_wrong(rt.alloc(), &MOMENTS), None);
 }

@@ -95,21 +95,26 @@ fn small_writer(alloc: Global, good: usize, fails: bool, flushes: bool) -> Chopp
     }
 }
 
-/// A script that comes byte by byte is answered as one that comes whole; where a read fails nothing is written.
+/// Whether a script whose reads fail after so many good ones ends in that, and nothing is written.
+fn is_left_unread(alloc: Global, good: usize) -> bool {
+    let mut written = Vec::new(alloc);
+    let ended = replay(alloc, &mut slow_reader(good), &mut written);
+    matches!(ended, Err(Fault::Read(_))) && written.is_empty()
+}
+
+/// Whether a script that comes byte by byte is answered as one that comes whole.
+fn is_read(alloc: Global) -> bool {
+    let mut written = Vec::new(alloc);
+    let ended = replay(alloc, &mut slow_reader(usize::MAX), &mut written);
+    ended.is_ok() && written.as_slice() == REPLIES
+}
+
 #[test]
-fn reads(rt: HostRuntime) -> Result<(), Fail> {
-    for good in 0..=SCRIPT.len() + 1 {
-        let mut written = Vec::new(rt.alloc());
-        let ended = replay(rt.alloc(), &mut slow_reader(good), &mut written);
-        if good <= SCRIPT.len() {
-            assert!(rt; matches!(ended, Err(Fault::Read(_))), "{good}");
-            assert!(rt; written.is_empty(), "{good}");
-        } else {
-            assert!(rt; ended.is_ok());
-            assert_eq!(rt; written.as_slice(), REPLIES);
-        }
+fn reads(rt: HostRuntime) {
+    for good in 0..=SCRIPT.len() {
+        assert!(rt; is_left_unread(rt.alloc(), good), "{good}");
     }
-    Ok(())
+    assert!(rt; is_read(rt.alloc()));
 }
 
 /// A reader that never ends.
@@ -143,32 +148,39 @@ fn reads_end(rt: HostRuntime) {
     );
 }
 
-/// Short writes write all; after a write that fails or takes nothing, nothing more is written.
-#[test]
-fn writes(rt: HostRuntime) -> Result<(), Fail> {
-    for good in 0..=REPLIES.len() {
-        for fails in [true, false] {
-            let mut script = SCRIPT;
-            let mut out = small_writer(rt.alloc(), good, fails, true);
-            let ended = replay(rt.alloc(), &mut script, &mut out);
-            assert_eq!(rt; ended.is_ok(), good == REPLIES.len(), "{good}");
-            assert!(rt;
-                good == REPLIES.len() || matches!(ended, Err(Fault::Write(_))),
-                "{good}"
-            );
-            assert_eq!(rt; out.got.as_slice(), &REPLIES[..good], "{good}");
-        }
-    }
+/// Whether a script ends where a write fails, or takes nothing, after these bytes, and nothing more is written.
+fn is_cut_short(alloc: Global, wanted: &[u8], fails: bool) -> bool {
     let mut script = SCRIPT;
-    let mut out = small_writer(rt.alloc(), usize::MAX, true, false);
-    assert!(rt;
-        matches!(
-            replay(rt.alloc(), &mut script, &mut out),
-            Err(Fault::Write(_))
-        )
-    );
-    assert_eq!(rt; out.got.as_slice(), REPLIES);
-    Ok(())
+    let mut out = small_writer(alloc, wanted.len(), fails, true);
+    let ended = replay(alloc, &mut script, &mut out);
+    matches!(ended, Err(Fault::Write(_))) && out.got.as_slice() == wanted
+}
+
+/// Whether short writes write all, where the writer has just the room for it.
+fn is_written(alloc: Global, fails: bool) -> bool {
+    let mut script = SCRIPT;
+    let mut out = small_writer(alloc, REPLIES.len(), fails, true);
+    let ended = replay(alloc, &mut script, &mut out);
+    ended.is_ok() && out.got.as_slice() == REPLIES
+}
+
+/// Whether a writer that fails to hand on what it took is told of.
+fn is_kept_back(alloc: Global) -> bool {
+    let mut script = SCRIPT;
+    let mut out = small_writer(alloc, usize::MAX, true, false);
+    let ended = replay(alloc, &mut script, &mut out);
+    matches!(ended, Err(Fault::Write(_))) && out.got.as_slice() == REPLIES
+}
+
+#[test]
+fn writes(rt: HostRuntime) {
+    for good in 0..REPLIES.len() {
+        assert!(rt; is_cut_short(rt.alloc(), &REPLIES[..good], true), "{good}");
+        assert!(rt; is_cut_short(rt.alloc(), &REPLIES[..good], false), "{good}");
+    }
+    assert!(rt; is_written(rt.alloc(), true));
+    assert!(rt; is_written(rt.alloc(), false));
+    assert!(rt; is_kept_back(rt.alloc()));
 }
 
 /// `replay` alone is a command.

@@ -1,10 +1,10 @@
 use Rattle.std.proofs.Common.{ℕ, List, Option, map, drop}
 use Rattle.std.specs.Io.KnownBytes.{Appends}
 use Rattle.json_gateway.specs.Runs.{event_view, outcome_view}
-use Rattle.etcd_one.specs.Replies as spec
+use Rattle.etcd_one.specs.Lines.{replies_by}
 use Rattle.etcd_one.proofs.replay.write_replies.Given as goal
 
 abbrev pub invariant-loop-is_event : goal.invariant-loop-is_event
 invariant-loop-is_event g l = (end : Option (List ℕ))
-    → Appends (g.W.Write.contents l.w) end (spec.replies_by (drop l.is_event-index l.lines.are_events.items) (map event_view (drop l.place l.lines.events.items)) (map outcome_view (drop l.place l.outcomes)))
-    → Appends (g.W.Write.contents l.fn.w) end (spec.replies_by l.lines.are_events.items (map event_view l.lines.events.items) (map outcome_view l.outcomes))
+    → Appends (g.W.Write.contents l.w) end (replies_by (drop l.is_event-index l.lines.are_events.items) (map event_view (drop l.place l.lines.events.items)) (map outcome_view (drop l.place l.outcomes)))
+    → Appends (g.W.Write.contents l.fn.w) end (replies_by l.lines.are_events.items (map event_view l.lines.events.items) (map outcome_view l.outcomes))
