@@ -193,15 +193,15 @@ tell_delivery now p = (Told.delivery p.0 now, p.1)
 abbrev pub tell_expiry : Expiry × World → Told × World
 tell_expiry p = (Told.expiry p.0, p.1)
 
--- one event: what is told, and the world after it; what trimming tells is not said here, and it changes nothing
+-- one event: what is told, and the world after it; trimming and certifying change nothing, and what they tell goes by what is kept
 abbrev pub step : World → Event → Told × World
 step w (Event.moment m) = (Told.clock (at_moment w m).clock, at_moment w m)
 step w (Event.command call) = tell_answer (perform w call)
 step w (Event.deliver n) = tell_delivery (revision w) (deliver w n)
 step w (Event.close n) = (Told.closed (is_some (watch_at w.watches n)), record w { watches = without_watch n w.watches })
 step w Event.expire = tell_expiry (expire w)
-step w Event.trim = (Told.certified, w)
-step w Event.certify = (Told.certified, w)
+step w Event.trim = (Told.untold, w)
+step w Event.certify = (Told.untold, w)
 
 -- what a list of events tells, from a world on
 abbrev pub told_by : World → List Event → List Told

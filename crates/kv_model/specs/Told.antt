@@ -55,11 +55,11 @@ pub data Event : Type 0 where
   certify : Event
 
 -- What an event is answered. A delivery comes with the revision of the store, and a closing tells whether the watch stood.
+-- Untold is what trimming and certifying tell: that goes by what is kept.
 pub data Told : Type 0 where
   clock : ℕ → Told
   answer : Result Answer Refusal → Told
   delivery : Delivery → ℕ → Told
   closed : Bool → Told
   expiry : Expiry → Told
-  trimmed : Trimmed → Told
-  certified : Told
+  untold : Told
