@@ -118,6 +118,7 @@ pub fn refusal_wording(refusal: Refusal) -> Wording<'static>
         Refusal::TooManyWatches => fixed(400, 8, "etcdserver: too many watches"),
         Refusal::NoWatch => fixed(404, 5, ""),
         Refusal::RevisionsSpent => fixed(400, 11, "etcdserver: revisions are spent"),
+        Refusal::NoPlace => fixed(400, 8, ""),
     }
 }
 

@@ -10,7 +10,7 @@ use Rattle.kv_model.specs.declared.version.Version.{Version}
 use Rattle.kv_model.specs.declared.version.Body.{Body}
 use Rattle.kv_model.specs.declared.version.Body.TheVariants.{Put, Gone}
 use Rattle.kv_model.specs.declared.refusal.Refusal.{Refusal}
-use Rattle.kv_model.specs.declared.refusal.Refusal.TheVariants.{Memory, Compacted, Future, NoKey, TooManyOps, DuplicateKey, ValueGiven, LeaseGiven, TooDeep, KeyMissing, LeaseMissing, LeaseExists, TtlTooLarge, TooManyLeases, TooManyWatches, NoWatch, RevisionsSpent}
+use Rattle.kv_model.specs.declared.refusal.Refusal.TheVariants.{Memory, Compacted, Future, NoKey, TooManyOps, DuplicateKey, ValueGiven, LeaseGiven, TooDeep, KeyMissing, LeaseMissing, LeaseExists, TtlTooLarge, TooManyLeases, TooManyWatches, NoWatch, RevisionsSpent, NoPlace}
 use Rattle.kv_model.specs.declared.ids.Ids.{Ids}
 use Rattle.kv_model.specs.Lists.{is_empty}
 use Rattle.kv_model.specs.History.{KeyValue, key_value}
@@ -156,6 +156,7 @@ pub record Fault : Type 0 where
 abbrev pub fault : ℕ → ℕ → List ℕ → Fault
 fault status code text = record { status = status; code = code; text = text }
 
+-- NoWatch and NoPlace do not come on the wire
 abbrev pub fault_of : Refusal → Fault
 fault_of Memory = fault 500 13 (codes "etcdserver: out of memory")
 fault_of (Compacted c) = fault 400 11 (codes "etcdserver: mvcc: required revision has been compacted")
@@ -174,6 +175,7 @@ fault_of TooManyLeases = fault 400 8 (codes "etcdserver: too many leases")
 fault_of TooManyWatches = fault 400 8 (codes "etcdserver: too many watches")
 fault_of NoWatch = fault 404 5 []
 fault_of RevisionsSpent = fault 400 11 (codes "etcdserver: revisions are spent")
+fault_of NoPlace = fault 400 8 []
 
 abbrev pub lost_fault : Fault
 lost_fault = fault 500 13 (codes "etcdserver: answer lost, the change stands")

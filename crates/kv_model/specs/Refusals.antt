@@ -1,7 +1,7 @@
 -- The numbers of refusals.
 use Rattle.std.specs.Prelude.{ℕ}
 use Rattle.kv_model.specs.declared.refusal.Refusal.{Refusal}
-use Rattle.kv_model.specs.declared.refusal.Refusal.TheVariants.{Memory, Compacted, Future, NoKey, TooManyOps, DuplicateKey, ValueGiven, LeaseGiven, TooDeep, KeyMissing, LeaseMissing, LeaseExists, TtlTooLarge, TooManyLeases, TooManyWatches, NoWatch, RevisionsSpent}
+use Rattle.kv_model.specs.declared.refusal.Refusal.TheVariants.{Memory, Compacted, Future, NoKey, TooManyOps, DuplicateKey, ValueGiven, LeaseGiven, TooDeep, KeyMissing, LeaseMissing, LeaseExists, TtlTooLarge, TooManyLeases, TooManyWatches, NoWatch, RevisionsSpent, NoPlace}
 
 -- each refusal has a number, which stays whatever is added
 abbrev pub number_of : Refusal → ℕ
@@ -22,3 +22,4 @@ number_of TooManyLeases = 14
 number_of TooManyWatches = 15
 number_of NoWatch = 16
 number_of RevisionsSpent = 17
+number_of NoPlace = 18

@@ -39,6 +39,8 @@ pub enum Refusal {
     NoWatch,
     /// A change would need a revision above 2^63 - 1.
     RevisionsSpent,
+    /// The engine has made all the clients it can, or no reader's place is free. It never comes on the wire.
+    NoPlace,
 }
 
 impl Refusal {
@@ -64,6 +66,7 @@ impl Refusal {
             Refusal::TooManyWatches => 15,
             Refusal::NoWatch => 16,
             Refusal::RevisionsSpent => 17,
+            Refusal::NoPlace => 18,
         }
     }
 }
