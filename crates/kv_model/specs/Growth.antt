@@ -1,5 +1,5 @@
 -- Laws of a history that grows by one command at a time, and of a store that stands for a world while it does.
-use Rattle.std.specs.Prelude.{◌≡◌, ◌≢◌, ℕ, ◌+◌, ◌^◌, ◌≤◌, List, [], ◌++◌, length, false, None, Some, Ok, Err}
+use Rattle.std.specs.Prelude.{◌≡◌, ◌≢◌, ◌⊎◌, ℕ, ◌+◌, ◌^◌, ◌≤◌, List, [], ◌++◌, length, Bool, false, None, Some, is_some, Ok, Err}
 use Rattle.std.specs.List.{AllByRecursion}
 use Rattle.kv_model.specs.declared.version.Rev.{Rev}
 use Rattle.kv_model.specs.declared.version.Version.{Version}
@@ -11,8 +11,10 @@ use Rattle.kv_model.specs.History.{Mutation, IsHistory, IsBatch, now, dress, val
 use Rattle.kv_model.specs.Ranges.{live, range_answer}
 use Rattle.kv_model.specs.Txns.{extend_all, added_by}
 use Rattle.kv_model.specs.Calls.{Call}
-use Rattle.kv_model.specs.World.{World, changed}
-use Rattle.kv_model.specs.Step.{refused_or, commit_at, made_in}
+use Rattle.kv_model.specs.Told.{Expiry}
+use Rattle.kv_model.specs.World.{World, revision, changed}
+use Rattle.kv_model.specs.Step.{refused_or, commit_at, made_in, perform, expire}
+use Rattle.kv_model.specs.Wire.{raised}
 use Rattle.kv_model.specs.Questions.{IsKept, IsGood}
 use Rattle.kv_model.specs.Stands.{Store, StandsFor, grown}
 use Rattle.kv_model.specs.Stores.{refusal_of_range, reply_of_range, refusal_of_put, reply_of_put, changes_of_put, refusal_of_delete, reply_of_delete, changes_of_delete}
@@ -30,6 +32,30 @@ LaterIsNotSeen = (vs us : List Version) (p : Rev) (k : List ℕ) → AllByRecurs
 -- at the end of its last revision a key holds what it holds at last
 abbrev pub LastIsPresent : Type 0
 LastIsPresent = (ms : List Mutation) → IsHistory ms → (k : List ℕ) → value_at (dress ms) (end_of (now ms)) k ≡ value_now (dress ms) k
+
+-- ---- revisions
+
+-- the second world's revision is the first's, and none is told, or the next, and that is told
+abbrev pub RaisesByOne : World → World → Type 0
+RaisesByOne w u = ((revision u ≡ revision w) × (raised w u ≡ None))
+    ⊎ ((revision u ≡ revision w + 1) × (raised w u ≡ Some (revision w + 1)))
+
+-- a command raises the revision by one or not at all
+abbrev pub CommandRaisesByOne : Type 0
+CommandRaisesByOne = (w : World) (call : Call) → RaisesByOne w (perform w call).1
+
+-- and so does a step of expiry
+abbrev pub ExpiryRaisesByOne : Type 0
+ExpiryRaisesByOne = (w : World) → RaisesByOne w (expire w).1
+
+abbrev pub says_raised : Expiry → Bool
+says_raised Expiry.nothing = false
+says_raised (Expiry.expired id r rose) = rose
+says_raised Expiry.spent = false
+
+-- which tells whether the revision rose
+abbrev pub ExpiryTellsRaise : Type 0
+ExpiryTellsRaise = (w : World) → says_raised (expire w).0 ≡ is_some (raised w (expire w).1)
 
 -- ---- good parts
 
