@@ -15,12 +15,13 @@ use Rattle.kv_model.specs.Calls.{Call}
 use Rattle.kv_model.specs.Told.{Reply}
 use Rattle.kv_model.specs.World.{World, revision, versions, changed}
 use Rattle.kv_model.specs.Step.{last_main, refused_or, commit_at, range_in, put_in, delete_in, made_in, answer_of, world_of, perform}
-use Rattle.kv_model.specs.Stands.{Store, StandsFor, grown}
+use Rattle.kv_model.specs.Stands.{Store, StandsFor, grown_noted}
 use Rattle.kv_model.specs.Stores.{refusal_of_range, reply_of_range, refusal_of_put, reply_of_put, changes_of_put, refusal_of_delete, reply_of_delete, changes_of_delete}
 use Rattle.kv_model.proofs.PlaceLaws.{now-above}
 use Rattle.std.proofs.lemmas.List.{length-map}
 use Rattle.kv_model.proofs.DeleteLaws.{live-ascends, live-given, deletes-batch}
-use Rattle.kv_model.proofs.StandsLaws.{store-given, grown_revision, value_stands, live_stands, live_now_is, range_answer_stands, range_refusal_stands, put_refusal_stands, put_change_stands, delete_changes_stands, grown_stands}
+use Rattle.kv_model.proofs.StandsLaws.{store-given, grown_revision, value_stands, live_stands, live_now_is, range_answer_stands, range_refusal_stands, put_refusal_stands, put_change_stands, delete_changes_stands}
+use Rattle.kv_model.proofs.WatchLaws.{noted_stands}
 
 -- ---- Range
 
@@ -84,8 +85,9 @@ put_batch s w h p k =
     record { history = (record { behind = omega arith; number = omega arith; has_key = k }, tt, tt); at = (refl, tt) }
 
 -- the store goes on standing for the world after a put
-pub put_stands : (s : Store) (w : World) → StandsFor s w → s.watches ≡ [] → (p : PutRequest) → p.key ≢ [] → StandsFor (grown s (changes_of_put s p)) (changed w (changes_of_put s p))
-put_stands s w h none p k = grown_stands s w h none (changes_of_put s p) (put_batch s w h p k)
+pub put_stands : (s : Store) (w : World) → StandsFor s w → (p : PutRequest) → p.key ≢ []
+    → StandsFor (grown_noted s (changes_of_put s p)) (changed w (changes_of_put s p))
+put_stands s w h p k = noted_stands s w h (changes_of_put s p) (put_batch s w h p k)
 
 -- ---- DeleteRange
 
@@ -138,15 +140,15 @@ delete_batch s w h d l =
     (omega (arith, length-map kvs (λ (kv : KeyValue). kv.key)))
 
 -- the store goes on standing for the world after a delete
-pub delete_stands : (s : Store) (w : World) → StandsFor s w → s.watches ≡ [] → (d : DeleteRequest) → length (live s.versions (end_of s.revision) d.range) ≤ 2 ^ 64
-    → StandsFor (grown s (changes_of_delete s d)) (changed w (changes_of_delete s d))
-delete_stands s w h none d l = grown_stands s w h none (changes_of_delete s d) (delete_batch s w h d l)
+pub delete_stands : (s : Store) (w : World) → StandsFor s w → (d : DeleteRequest) → length (live s.versions (end_of s.revision) d.range) ≤ 2 ^ 64
+    → StandsFor (grown_noted s (changes_of_delete s d)) (changed w (changes_of_delete s d))
+delete_stands s w h d l = noted_stands s w h (changes_of_delete s d) (delete_batch s w h d l)
 
 -- ---- what is answered
 
 -- what is answered to a command that is made, and to one that is refused
 pub answer_made : (s : Store) (w : World) → StandsFor s w → (call : Call) (r : Reply) (us : List Mutation) → made_in w call ≡ Ok (r, changed w us)
-    → perform w call ≡ (Ok (record { reply = r; revision = (grown s us).revision }), changed w us)
+    → perform w call ≡ (Ok (record { reply = r; revision = (grown_noted s us).revision }), changed w us)
 answer_made s w h call r us made = ap (λ m. (answer_of m, world_of w m)) made ∙ ap (λ n. (Ok (record { reply = r; revision = n }), changed w us)) (sym (grown_revision s w h us))
 
 pub answer_refused : (w : World) (call : Call) (e : Refusal) → made_in w call ≡ Err e → perform w call ≡ (Err e, w)

@@ -1,25 +1,23 @@
 -- What a store that stands for a world may say of it.
-use Rattle.std.proofs.Common.{◌≡◌, ◌≤◌, ◌≢◌, ℕ, ◌+◌, List, [], ◌∷◌, ◌++◌, map, ◌&&◌, ◌||◌, not, sym, ◌∙◌, ap, subst, arith}
+use Rattle.std.proofs.Common.{◌≡◌, ◌≢◌, ℕ, ◌+◌, List, [], map, ◌&&◌, ◌||◌, not, sym, ◌∙◌, ap, subst}
 use Rattle.std.specs.Prelude.{pos, is_none}
 use Rattle.std.specs.Option.{option_or}
 use Rattle.std.specs.Ordering.{int_eq}
 use Rattle.std.specs.List.{AllByRecursion}
 use Rattle.std.proofs.lemmas.List.Sums.{fold-append}
-use Rattle.kv_model.specs.declared.version.Version.{Version}
 use Rattle.kv_model.specs.declared.version.KeyRange.{KeyRange}
 use Rattle.kv_model.specs.declared.call.RangeQuery.{RangeQuery}
 use Rattle.kv_model.specs.declared.call.PutRequest.{PutRequest}
 use Rattle.kv_model.specs.declared.call.DeleteRequest.{DeleteRequest}
 use Rattle.kv_model.specs.declared.refusal.Refusal.TheVariants.{KeyMissing, LeaseMissing}
-use Rattle.kv_model.specs.History.{Mutation, IsChange, IsBatch, now, now_after, value_at, value_now, end_of, KeyValue}
+use Rattle.kv_model.specs.History.{Mutation, IsChange, now_after, value_at, value_now, end_of, KeyValue}
 use Rattle.kv_model.specs.Ranges.{live, live_now, range_answer, range_refusal, refuse_if}
 use Rattle.kv_model.specs.Txns.{put_change, put_action, put_refusal, delete_changes, deletes_of}
 use Rattle.kv_model.specs.Leases.{is_granted}
-use Rattle.kv_model.specs.World.{World, Watch, revision, versions, changed}
-use Rattle.kv_model.specs.Stands.{Store, Tracked, TracksAll, StandsFor, grown}
+use Rattle.kv_model.specs.World.{World, revision, versions, changed}
+use Rattle.kv_model.specs.Stands.{Store, StandsFor, grown_noted}
 use Rattle.kv_model.proofs.PlaceLaws.{AreBy, each-map, each-part, each-dressed, each-change, value_at-by}
 use Rattle.kv_model.proofs.GoodLaws.{dressed-by, part-by, now-kept, good-value_at, good-value_now, good-live, good-range_answer, live_now-by}
-use Rattle.kv_model.proofs.BatchLaws.{good-grows, history-more, now-least}
 
 -- ---- what is read
 
@@ -79,30 +77,6 @@ delete_changes_stands s w h sub d = λ i. deletes_of (h.revision_is i + 1) sub (
 
 -- ---- what a store grows to
 
-tracked-none : (us vs : List Version) (m n : ℕ) (ts : List Tracked) (ws : List Watch) → ts ≡ [] → TracksAll us m ts ws → TracksAll vs n ts ws
-tracked-none us vs m n [] [] e h = tt
-tracked-none us vs m n [] (w ∷ ws) e h = absurd h
-tracked-none us vs m n (t ∷ ts) ws e h = cc
-
 -- the revision that a store grows to is the world's
-pub grown_revision : (s : Store) (w : World) → StandsFor s w → (us : List Mutation) → (grown s us).revision ≡ revision (changed w us)
+pub grown_revision : (s : Store) (w : World) → StandsFor s w → (us : List Mutation) → (grown_noted s us).revision ≡ revision (changed w us)
 grown_revision s w h us = ap (λ r. now_after r us) h.revision_is ∙ sym (fold-append (λ _ (m : Mutation). m.rev.main) 1 w.mutations us)
-
--- a store that stands for a world goes on doing so with the changes of one more command
-pub grown_stands : (s : Store) (w : World) → StandsFor s w → s.watches ≡ [] → (us : List Mutation) → IsBatch (s.revision + 1) us → StandsFor (grown s us) (changed w us)
-grown_stands s w h none us b = record {
-  sound = record { history = history-more w.mutations us h.sound.history batch; floor = floor };
-  good = good-grows s.versions w.mutations us w.compacted h.good h.sound.history h.sound.floor batch;
-  revision_is = grown_revision s w h us;
-  compacted = h.compacted;
-  leases = h.leases;
-  clock = h.clock;
-  made = h.made;
-  watches = tracked-none (versions w) (versions (changed w us)) (revision w) (revision (changed w us)) s.watches w.watches none h.watches;
-}
-  where
-    batch : IsBatch (now w.mutations + 1) us
-    batch = subst (λ n. IsBatch (n + 1) us) h.revision_is b
-
-    floor : w.compacted ≤ now (w.mutations ++ us)
-    floor = let l : now w.mutations ≤ now (w.mutations ++ us) = now-least w.mutations us batch.at in omega (arith, h.sound.floor)

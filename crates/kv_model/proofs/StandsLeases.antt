@@ -1,5 +1,5 @@
 -- What the calls of leases are answered and change, told over a store that stands for the world.
-use Rattle.std.proofs.Common.{◌≡◌, ◌≤◌, ℕ, ◌+◌, ◌^◌, ℤ, List, [], length, map, Bool, not, Option, None, Some, Ok, filter, refl, sym, ◌∙◌, ap, arith}
+use Rattle.std.proofs.Common.{◌≡◌, ◌≤◌, ℕ, ◌+◌, ◌^◌, ℤ, List, length, map, Bool, not, Option, None, Some, Ok, filter, refl, sym, ◌∙◌, ap, arith}
 use Rattle.std.specs.Prelude.{nat_lt, nat_le, pos, min, max}
 use Rattle.std.specs.Option.{option_or}
 use Rattle.std.specs.Ordering.{int_eq}
@@ -13,11 +13,12 @@ use Rattle.kv_model.specs.Told.{Reply}
 use Rattle.kv_model.specs.Leases.{Lease, is_granted, lease_at, id_asked, ttl_asked, deadline_of, longest_ttl, most_leases, insert_lease, without_lease, keys_of_lease, renewed, seconds_left, due}
 use Rattle.kv_model.specs.World.{World, revision, versions, changed, at_moment}
 use Rattle.kv_model.specs.Step.{refused_or, commit_at, grant_in, revoke_in, keep_alive_in, time_to_live_in, made_in}
-use Rattle.kv_model.specs.Stands.{Store, StandsFor, grown}
+use Rattle.kv_model.specs.Stands.{Store, StandsFor, grown_noted}
 use Rattle.kv_model.specs.Stores.{with_leases, refusal_of_grant, granted_lease, refusal_of_revoke, changes_of_revoke, renewed_leases, reply_of_time_to_live, reply_of_leases, at_store_moment}
 use Rattle.kv_model.proofs.DeleteLaws.{live-ascends, live-given, ascending-some, given-some, deletes-batch}
-use Rattle.kv_model.proofs.StandsLaws.{store-given, live_stands, grown_stands}
+use Rattle.kv_model.proofs.StandsLaws.{store-given, live_stands}
 use Rattle.kv_model.proofs.StandsCommands.{store-one}
+use Rattle.kv_model.proofs.WatchLaws.{noted_stands}
 
 -- ---- leases and moments change nothing else
 
@@ -75,10 +76,11 @@ revoke_told s w h id = sym (λ i. refused_or (refuse_if (not (is_granted (h.leas
     (commit_at (h.revision_is i) Reply.revoke (record w { leases = without_lease id (h.leases i) }) (deletes_of (h.revision_is i + 1) 0 (keys_of_lease_stands s w h id i))))
 
 -- the store goes on standing for the world without the lease and its keys
-pub revoke_stands : (s : Store) (w : World) → StandsFor s w → s.watches ≡ [] → (id : ℤ) → length (keys_of_lease s.versions s.revision id) ≤ 2 ^ 64
-    → StandsFor (grown (with_leases s (without_lease id s.leases)) (changes_of_revoke s id)) (changed (record w { leases = without_lease id s.leases }) (changes_of_revoke s id))
-revoke_stands s w h none id l =
-    grown_stands (with_leases s (without_lease id s.leases)) (record w { leases = without_lease id s.leases }) (leases_stand s w (without_lease id s.leases) h) none (changes_of_revoke s id) (revoke_batch s w h id l)
+pub revoke_stands : (s : Store) (w : World) → StandsFor s w → (id : ℤ) → length (keys_of_lease s.versions s.revision id) ≤ 2 ^ 64
+    → StandsFor (grown_noted (with_leases s (without_lease id s.leases)) (changes_of_revoke s id))
+    (changed (record w { leases = without_lease id s.leases }) (changes_of_revoke s id))
+revoke_stands s w h id l = noted_stands (with_leases s (without_lease id s.leases)) (record w { leases = without_lease id s.leases })
+    (leases_stand s w (without_lease id s.leases) h) (changes_of_revoke s id) (revoke_batch s w h id l)
 
 pub lease_at_stands : (s : Store) (w : World) → StandsFor s w → (id : ℤ) → lease_at s.leases id ≡ lease_at w.leases id
 lease_at_stands s w h id = ap (λ ls. lease_at ls id) h.leases

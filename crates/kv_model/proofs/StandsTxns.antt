@@ -11,7 +11,7 @@ use Rattle.kv_model.specs.Leases.{is_granted}
 use Rattle.kv_model.specs.Told.{Reply}
 use Rattle.kv_model.specs.World.{World, revision, versions, changed}
 use Rattle.kv_model.specs.Step.{Made, refused_or, commit_at, succeeded, inner_path, run_path, txn_in, made_in}
-use Rattle.kv_model.specs.Stands.{Store, StandsFor, grown}
+use Rattle.kv_model.specs.Stands.{Store, StandsFor, grown_noted}
 use Rattle.kv_model.specs.Stores.{path_in, refusal_of_path, changes_of_path, reply_of_path}
 use Rattle.kv_model.proofs.GoodLaws.{now-kept}
 use Rattle.kv_model.proofs.BatchLaws.{good-added, dress-added}
@@ -20,8 +20,9 @@ use Rattle.kv_model.proofs.PlanLaws.{NoClash, effect-planned, refusal-planned}
 use Rattle.kv_model.proofs.PlanBatch.{HasKeys, planned-batch}
 use Rattle.kv_model.proofs.PathLaws.{path-checked}
 use Rattle.kv_model.proofs.ReplyLaws.{not-refused-reads, same-replies, good-sees}
-use Rattle.kv_model.proofs.StandsLaws.{value_stands, value_now_stands, store-given, grown_stands}
+use Rattle.kv_model.proofs.StandsLaws.{value_stands, value_now_stands, store-given}
 use Rattle.kv_model.proofs.StandsCommands.{store-one}
+use Rattle.kv_model.proofs.WatchLaws.{noted_stands}
 
 -- ---- the path, its changes and its first refusal
 
@@ -107,6 +108,6 @@ txn_batch s w h ops is l =
     planned-batch s.versions (s.revision + 1) (path_in s ops) checked.0 checked.1 (store-given s w h) (omega arith) l
 
 -- the store goes on standing for the world after a transaction
-pub txn_stands : (s : Store) (w : World) → StandsFor s w → s.watches ≡ [] → (ops : Ops) → static_fault ops ≡ None → length (changes_of_path s (path_in s ops)) ≤ 2 ^ 64
-    → StandsFor (grown s (changes_of_path s (path_in s ops))) (changed w (changes_of_path s (path_in s ops)))
-txn_stands s w h none ops is l = grown_stands s w h none (changes_of_path s (path_in s ops)) (txn_batch s w h ops is l)
+pub txn_stands : (s : Store) (w : World) → StandsFor s w → (ops : Ops) → static_fault ops ≡ None → length (changes_of_path s (path_in s ops)) ≤ 2 ^ 64
+    → StandsFor (grown_noted s (changes_of_path s (path_in s ops))) (changed w (changes_of_path s (path_in s ops)))
+txn_stands s w h ops is l = noted_stands s w h (changes_of_path s (path_in s ops)) (txn_batch s w h ops is l)

@@ -16,7 +16,7 @@ use Rattle.kv_model.specs.World.{World, revision, changed}
 use Rattle.kv_model.specs.Step.{refused_or, commit_at, made_in, perform, expire}
 use Rattle.kv_model.specs.Wire.{raised}
 use Rattle.kv_model.specs.Questions.{IsKept, IsGood}
-use Rattle.kv_model.specs.Stands.{Store, StandsFor, grown}
+use Rattle.kv_model.specs.Stands.{Store, StandsFor, grown_noted}
 use Rattle.kv_model.specs.Stores.{refusal_of_range, reply_of_range, refusal_of_put, reply_of_put, changes_of_put, refusal_of_delete, reply_of_delete, changes_of_delete}
 
 -- ---- histories
@@ -81,8 +81,10 @@ GoodAddsTheSame = (vs : List Version) (ms us : List Mutation) (c : ℕ) → IsGo
 
 -- ---- a store that stands for a world
 
+-- with the changes of one more command, of which its watches take note
 abbrev pub StoreGoesOn : Type 0
-StoreGoesOn = (s : Store) (w : World) → StandsFor s w → s.watches ≡ [] → (us : List Mutation) → IsBatch (s.revision + 1) us → StandsFor (grown s us) (changed w us)
+StoreGoesOn = (s : Store) (w : World) → StandsFor s w → (us : List Mutation) → IsBatch (s.revision + 1) us
+    → StandsFor (grown_noted s us) (changed w us)
 
 -- a Range that is not refused is answered from the store
 abbrev pub StoreAnswersRange : Type 0

@@ -18,7 +18,8 @@ use Rattle.kv_model.specs.Stands.{Store, StandsFor, grown}
 use Rattle.kv_model.specs.Stores.{refusal_of_delete, reply_of_delete, changes_of_delete}
 use Rattle.kv_model.proofs.KeyLaws.{live-same}
 use Rattle.kv_model.proofs.PlaceLaws.{AreBehind, rev_le-after, value_at-behind}
-use Rattle.kv_model.proofs.StandsCommands.{delete_refused, delete_nothing, delete_made, delete_spent, delete_stands}
+use Rattle.kv_model.proofs.StandsCommands.{delete_refused, delete_nothing, delete_made, delete_spent}
+use Rattle.request_core.proofs.Quiet.{delete_stands}
 use Rattle.request_core.specs.declared.answer.Receipt.{Receipt}
 use Rattle.txn_core.specs.KeyWrites.{tombstone}
 use Rattle.request_core.specs.Writing.{tombstones}

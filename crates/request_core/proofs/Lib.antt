@@ -4,6 +4,7 @@ pub mod Leased
 pub mod Leases
 pub mod Planned
 pub mod Puts
+pub mod Quiet
 pub mod Ranges
 pub mod Revokes
 pub mod Txns

@@ -16,7 +16,8 @@ use Rattle.kv_model.specs.World.{World, revision, changed}
 use Rattle.kv_model.specs.Step.{last_main, made_in, perform, refused_or, commit_at, expiry_of, expire, expire_at, revoke_in}
 use Rattle.kv_model.specs.Stands.{Store, StandsFor, grown}
 use Rattle.kv_model.specs.Stores.{with_leases, refusal_of_revoke, changes_of_revoke}
-use Rattle.kv_model.proofs.StandsLeases.{leases_stand, revoke_told, revoke_stands, due_stands}
+use Rattle.kv_model.proofs.StandsLeases.{leases_stand, revoke_told, due_stands}
+use Rattle.request_core.proofs.Quiet.{revoke_stands}
 use Rattle.request_core.specs.declared.answer.Receipt.{Receipt}
 use Rattle.request_core.specs.Writing.{tombstones}
 use Rattle.request_core.specs.State.{CoreState, leased_in, is_spent, stamped, with_versions, with_any, leased, fault_of_revoke, added_by_revoke, after_revoke, raised_by_delete, due_in}

@@ -25,7 +25,8 @@ use Rattle.kv_model.proofs.PathLaws.{path-checked}
 use Rattle.kv_model.proofs.PlaceLaws.{rev_le-end}
 use Rattle.kv_model.proofs.PlanLaws.{NoClash}
 use Rattle.kv_model.proofs.ReplyLaws.{not-refused-reads}
-use Rattle.kv_model.proofs.StandsTxns.{txn_refused, txn_told, txn_stands}
+use Rattle.kv_model.proofs.StandsTxns.{txn_refused, txn_told}
+use Rattle.request_core.proofs.Quiet.{txn_stands}
 use Rattle.range_view.specs.Stored.{IsUpTo}
 use Rattle.txn_core.proofs.Walking.{txn_view-out}
 use Rattle.request_core.specs.declared.answer.Receipt.{Receipt}
