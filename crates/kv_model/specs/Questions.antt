@@ -1,5 +1,5 @@
 -- What is asked of a compacted store, and the versions that suffice to answer it.
-use Rattle.std.specs.Prelude.{◌≡◌, ℕ, ◌≤◌, pos, List, [], length, Result}
+use Rattle.std.specs.Prelude.{◌≡◌, ℕ, ◌≤◌, pos, List, [], length, Bool, Result}
 use Rattle.kv_model.specs.declared.version.Version.{Version}
 use Rattle.kv_model.specs.declared.call.RangeQuery.{RangeQuery}
 use Rattle.kv_model.specs.declared.call.Watched.{Watched}
@@ -7,7 +7,7 @@ use Rattle.kv_model.specs.declared.refusal.Refusal.{Refusal}
 use Rattle.kv_model.specs.Lists.{IsPart}
 use Rattle.kv_model.specs.History.{Mutation, now, dress, end_of}
 use Rattle.kv_model.specs.Ranges.{RangeReply, range_answer}
-use Rattle.kv_model.specs.Events.{WatchEvent, events_of}
+use Rattle.kv_model.specs.Events.{WatchEvent, events_of_by, before_is_kept}
 
 -- a Range at the revision that it names, or a watch of one revision
 pub data Question : Type 0 where
@@ -35,10 +35,14 @@ abbrev pub IsQuestion : ℕ → ℕ → Question → Type 0
 IsQuestion c now (Question.range q) = IsRangeAt c now q
 IsQuestion c now (Question.watch w r) = IsKept c now r
 
--- what a list of versions answers
+-- what a list of versions answers, by any test of previous values
+abbrev pub answered_by : (ℕ → ℕ → Bool) → List Version → ℕ → ℕ → Question → Answered
+answered_by has_before vs c now (Question.range q) = Answered.range (range_answer vs c now (end_of now) q)
+answered_by has_before vs c now (Question.watch w r) = Answered.watch (events_of_by has_before vs c r w)
+
+-- and by this store's
 abbrev pub answered : List Version → ℕ → ℕ → Question → Answered
-answered vs c now (Question.range q) = Answered.range (range_answer vs c now (end_of now) q)
-answered vs c now (Question.watch w r) = Answered.watch (events_of vs c r w)
+answered = answered_by before_is_kept
 
 -- some of the versions of a history, that answer every question as all of them do
 pub record IsGood (vs : List Version) (ms : List Mutation) (c : ℕ) : Type 0 where
