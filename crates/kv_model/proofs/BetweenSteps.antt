@@ -11,7 +11,7 @@ use Rattle.kv_model.specs.declared.version.Version.{Version}
 use Rattle.kv_model.specs.declared.call.Watched.{Watched}
 use Rattle.kv_model.specs.Keys.{same_key}
 use Rattle.kv_model.specs.History.{Mutation, IsHistory, now, dress, value_at, key_value, rev_le, rev_lt, end_of}
-use Rattle.kv_model.specs.Events.{event_of, matches}
+use Rattle.kv_model.specs.Events.{event_of, before_is_kept, matches}
 use Rattle.kv_model.specs.Questions.{Question, IsQuestion, IsKept, Answered, answered, IsGood}
 use Rattle.kv_model.specs.Trimming.{is_superseded, is_trimmed, is_tombstone, oldest_place}
 use Rattle.kv_model.specs.TrimmingLaws.{TrimmingStartsOver, TrimmingGoesOn, GoodStaysGood}
@@ -103,7 +103,7 @@ all-values ms c vs h f g (suc r) k l = by (ranked (suc r) (now ms))
 same-versions : (us vs : List Version) (c n r : ℕ) (w : Watched) → answered us c n (Question.watch w r) ≡ answered vs c n (Question.watch w r)
     → filter (λ v. v.rev.main == r && matches w v) us ≡ filter (λ v. v.rev.main == r && matches w v) vs
 unfolding versions_told
-same-versions us vs c n r w e = sym (told_versions us c w (filter (λ v. v.rev.main == r && matches w v) us)) ∙ ap versions_told e ∙ told_versions vs c w (filter (λ v. v.rev.main == r && matches w v) vs)
+same-versions us vs c n r w e = sym (told_versions before_is_kept us c w (filter (λ v. v.rev.main == r && matches w v) us)) ∙ ap versions_told e ∙ told_versions before_is_kept vs c w (filter (λ v. v.rev.main == r && matches w v) vs)
 
 pub stays_good : GoodStaysGood
 stays_good ms c d vs h l f g = record { part = g.part; answers = answers }

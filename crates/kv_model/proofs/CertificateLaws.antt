@@ -12,6 +12,7 @@ use Rattle.kv_model.specs.Lists.{IsPart, IsIn, is_empty}
 use Rattle.kv_model.specs.Keys.{same_key}
 use Rattle.kv_model.specs.History.{value_at, end_of}
 use Rattle.kv_model.specs.Ranges.{plain_range}
+use Rattle.kv_model.specs.Events.{before_is_kept}
 use Rattle.kv_model.specs.World.{World, IsSound, revision, versions}
 use Rattle.kv_model.specs.Questions.{Question, IsKept, answered, IsGood}
 use Rattle.kv_model.specs.Needs.{Need, HasNeed}
@@ -26,7 +27,7 @@ use Rattle.kv_model.proofs.TrimLaws.{Precedes, AreRising, rising-dress, rising-p
 use Rattle.kv_model.proofs.LeastLaws.{stand, IsLeft, put-in, told-in, sits, put-kept, put-shown, tombstone-kept, not-replaced}
 
 -- what answers a plain Range alike holds the same
-same-value : (us vs : List Version) (c n r : ℕ) (k : List ℕ) → k ≢ [] → IsKept c n r
+pub same-value : (us vs : List Version) (c n r : ℕ) (k : List ℕ) → k ≢ [] → IsKept c n r
     → answered us c n (Question.range (plain_range k r)) ≡ answered vs c n (Question.range (plain_range k r)) → value_at us (end_of r) k ≡ value_at vs (end_of r) k
 same-value us vs c n r [] ne h e = absurd (ne refl)
 same-value us vs c n r (x ∷ k) ne h e = one_listed _ _ (sym (plain_shows us c n r x k h) ∙ ap kvs_of e ∙ plain_shows vs c n r x k h)
@@ -73,14 +74,14 @@ module _ (w : World) (sound : IsSound w) (vs : List Version) (g : IsGood vs w.mu
           (not-replaced w.compacted s.before v s.after (subst AreRising s.is (rising-part g.part (rising-dress w.mutations sound.history))) (subst (λ us. IsLeft us w.compacted v) s.is left))
 
       needed : (us : List Version) → IsPart us (versions w) → (IsIn v us → ⊥) → answered us w.compacted (revision w) (Question.range (plain_range v.key r)) ≢ answered (versions w) w.compacted (revision w) (Question.range (plain_range v.key r))
-      needed us part out e = out (put-in w.mutations us v r sound.history part (in_whole g.part v i) live
+      needed us part out e = out (put-in us (versions w) v r (rising-dress w.mutations sound.history) part (in_whole g.part v i) live
           (same-value us (versions w) w.compacted (revision w) r v.key has_key kept e ∙ put-shown w.mutations w.compacted sound.history sound.floor vs g v i left))
 
   gone-need : v.body ≡ Gone → HasOwn w vs v
   gone-need b = record {
     need = Need.watch v.rev.main;
     listed = ap (need_of (dump_of w vs) v) b ∙ ap (λ t. cond t (Some (Need.watch v.rev.main)) None) (le-leb w.compacted v.rev.main kept.kept);
-    has = record { asked = kept; needed = λ us part out e. out (told-in us (versions w) w.compacted (revision w) v (in_whole g.part v i) e) };
+    has = record { asked = kept; needed = λ us part out e. out (told-in before_is_kept us (versions w) w.compacted (revision w) v (in_whole g.part v i) e) };
     met = λ j. asked v.rev.main kept j && eq-eqb v.rev.main v.rev.main refl j;
   }
     where
@@ -126,10 +127,10 @@ rises [] h = refl
 rises (v ∷ vs) h = no-fall v vs h.0 h.1
 
 -- the two have one key and one main revision
-abbrev is_twin : Version → Version → Bool
+abbrev pub is_twin : Version → Version → Bool
 is_twin v u = same_key u.key v.key && u.rev.main == v.rev.main
 
-twins : (v u : Version) → is_twin v u ≡ true → (u.key ≡ v.key) × (u.rev.main ≡ v.rev.main)
+pub twins : (v u : Version) → is_twin v u ≡ true → (u.key ≡ v.key) × (u.rev.main ≡ v.rev.main)
 twins v u e = by (same_key u.key v.key) refl (u.rev.main == v.rev.main) refl e
   where
     by : (a : Bool) → same_key u.key v.key ≡ a → (b : Bool) → (u.rev.main == v.rev.main) ≡ b → (a && b) ≡ true → (u.key ≡ v.key) × (u.rev.main ≡ v.rev.main)

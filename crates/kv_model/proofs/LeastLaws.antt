@@ -1,5 +1,5 @@
 -- Where nothing is left to take out, each version is needed, and so the list is the one least.
-use Rattle.std.proofs.Common.{◌≡◌, ◌≤◌, ◌<◌, ◌⊎◌, ℕ, max, List, [], ◌∷◌, ◌++◌, map, filter, Bool, true, false, ◌&&◌, ◌||◌, cond, Option, None, Some, option_and_then, refl, sym, ◌∙◌, ap, subst, inl, inr, arith}
+use Rattle.std.proofs.Common.{◌≡◌, ◌≤◌, ◌<◌, ◌⊎◌, ℕ, ◌^◌, max, List, [], ◌∷◌, ◌++◌, map, filter, Bool, true, false, ◌&&◌, ◌||◌, cond, Option, None, Some, option_and_then, refl, sym, ◌∙◌, ap, subst, inl, inr, arith}
 use Rattle.std.specs.Prelude.{nat_lt, nat_le, ◌==◌}
 use Rattle.std.proofs.lemmas.Bool.{le-leb, lt-ltb, eq-eqb}
 use Rattle.std.specs.Option.{option_or}
@@ -11,8 +11,8 @@ use Rattle.kv_model.specs.declared.call.Watched.{Watched}
 use Rattle.kv_model.specs.Lists.{IsPart, IsIn, IsOnce, last_that}
 use Rattle.kv_model.specs.Keys.{same_key}
 use Rattle.kv_model.specs.History.{Mutation, IsHistory, KeyValue, now, dress, latest, value_at, key_value, shown, rev_le, end_of}
-use Rattle.kv_model.specs.Events.{event_of, matches, wants, plain_watch}
-use Rattle.kv_model.specs.Questions.{Question, IsKept, Answered, answered, IsGood, IsLeast}
+use Rattle.kv_model.specs.Events.{event_of_by, before_is_kept, matches, wants, plain_watch}
+use Rattle.kv_model.specs.Questions.{Question, IsKept, Answered, answered_by, IsGood, IsLeast}
 use Rattle.kv_model.specs.Trimming.{is_superseded, is_tombstone, is_trimmed, IsSettled}
 use Rattle.kv_model.proofs.PartLaws.{in_whole, part_length, part_same}
 use Rattle.kv_model.proofs.Compacting.{latest-out}
@@ -93,10 +93,10 @@ shown-main : (main : ℕ) (k : List ℕ) (b : Body) (kv : KeyValue) → shown ma
 shown-main main k (Put create version lease value) kv e = let same : record { key = k; value = value; create = create; modified = main; version = version; lease = lease } ≡ kv = cc in sym (ap (λ x. x.modified) same)
 shown-main main k Gone kv e = cc
 
-pub put-in : (ms : List Mutation) (us : List Version) (v : Version) (r : ℕ) → IsHistory ms → IsPart us (dress ms) → IsIn v (dress ms) → is_tombstone v.body ≡ false
+pub put-in : (us vs : List Version) (v : Version) (r : ℕ) → AreRising vs → IsPart us vs → IsIn v vs → is_tombstone v.body ≡ false
     → value_at us (end_of r) v.key ≡ key_value v → IsIn v us
 unfolding value_at
-put-in ms us v r h part i put e = by (latest us (end_of r) v.key) refl (e ∙ value.1)
+put-in us vs v r h part i put e = by (latest us (end_of r) v.key) refl (e ∙ value.1)
   where
     value : (kv : KeyValue) × (key_value v ≡ Some kv) × (kv.modified ≡ v.rev.main)
     value = is_some_value v put
@@ -114,13 +114,14 @@ put-in ms us v r h part i put e = by (latest us (end_of r) v.key) refl (e ∙ va
         let found = last-in test us u d in
         let key : u.key ≡ v.key = keyed (same_key u.key v.key) (rev_le u.rev (end_of r)) u refl found.1 in
         let main : u.rev.main ≡ v.rev.main = sym (shown-main u.rev.main u.key u.body value.0 f) ∙ value.2 in
-        subst (λ w. IsIn w us) (one_at (dress ms) u v (rising-dress ms h) (in_whole part u found.0) i key main) found.0
+        subst (λ w. IsIn w us) (one_at vs u v h (in_whole part u found.0) i key main) found.0
 
 -- ---- a version that a watch is told of stands in the list
 
-pub told_versions : (vs : List Version) (c : ℕ) (w : Watched) (us : List Version) → map (λ e. e.version) (map (event_of vs c w) us) ≡ us
-told_versions vs c w [] = refl
-told_versions vs c w (u ∷ us) = ap (λ xs. u ∷ xs) (told_versions vs c w us)
+pub told_versions : (has_before : ℕ → ℕ → Bool) (vs : List Version) (c : ℕ) (w : Watched) (us : List Version)
+    → map (λ e. e.version) (map (event_of_by has_before vs c w) us) ≡ us
+told_versions has_before vs c w [] = refl
+told_versions has_before vs c w (u ∷ us) = ap (λ xs. u ∷ xs) (told_versions has_before vs c w us)
 
 unfoldable pub versions_told : Answered → List Version
 versions_told (Answered.range r) = []
@@ -129,9 +130,10 @@ versions_told (Answered.watch es) = map (λ e. e.version) es
 watch_test : Version → Version → Bool
 watch_test v u = u.rev.main == v.rev.main && matches (plain_watch v.key) u
 
-told-as : (vs : List Version) (c n : ℕ) (v : Version) → versions_told (answered vs c n (Question.watch (plain_watch v.key) v.rev.main)) ≡ filter (watch_test v) vs
+told-as : (has_before : ℕ → ℕ → Bool) (vs : List Version) (c n : ℕ) (v : Version)
+    → versions_told (answered_by has_before vs c n (Question.watch (plain_watch v.key) v.rev.main)) ≡ filter (watch_test v) vs
 unfolding versions_told watch_test
-told-as vs c n v = told_versions vs c (plain_watch v.key) (filter (λ u. u.rev.main == v.rev.main && matches (plain_watch v.key) u) vs)
+told-as has_before vs c n v = told_versions has_before vs c (plain_watch v.key) (filter (λ u. u.rev.main == v.rev.main && matches (plain_watch v.key) u) vs)
 
 tells : (v : Version) → watch_test v v ≡ true
 unfolding watch_test
@@ -141,10 +143,11 @@ tells v = by v.body
     by (Put create version lease value) = λ i. eq-eqb v.rev.main v.rev.main refl i && (same-refl v.key i && true)
     by Gone = λ i. eq-eqb v.rev.main v.rev.main refl i && (same-refl v.key i && true)
 
-pub told-in : (us vs : List Version) (c n : ℕ) (v : Version) → IsIn v vs
-    → answered us c n (Question.watch (plain_watch v.key) v.rev.main) ≡ answered vs c n (Question.watch (plain_watch v.key) v.rev.main) → IsIn v us
-told-in us vs c n v i e =
-    let same : filter (watch_test v) us ≡ filter (watch_test v) vs = sym (told-as us c n v) ∙ ap versions_told e ∙ told-as vs c n v in
+pub told-in : (has_before : ℕ → ℕ → Bool) (us vs : List Version) (c n : ℕ) (v : Version) → IsIn v vs
+    → answered_by has_before us c n (Question.watch (plain_watch v.key) v.rev.main) ≡ answered_by has_before vs c n (Question.watch (plain_watch v.key) v.rev.main)
+    → IsIn v us
+told-in has_before us vs c n v i e =
+    let same : filter (watch_test v) us ≡ filter (watch_test v) vs = sym (told-as has_before us c n v) ∙ ap versions_told e ∙ told-as has_before vs c n v in
     filter-in (watch_test v) us v (subst (IsIn v) (sym same) (in-filter (watch_test v) vs v (tells v) i))
 
 -- ---- what is left is needed
@@ -153,11 +156,12 @@ abbrev pub IsLeft : List Version → ℕ → Version → Type 0
 IsLeft vs c v = (nat_le v.rev.main c && is_trimmed vs c v) ≡ false
 
 -- a put that nothing replaces is what the key shows
-last-shown : (n r : ℕ) (xs : List Version) (v : Version) (ys : List Version) → AreRising (xs ++ v ∷ ys) → Sits n v.rev v.key → v.rev.main ≤ r → is_superseded (xs ++ v ∷ ys) r v ≡ false
+pub last-shown : (r : ℕ) (xs : List Version) (v : Version) (ys : List Version)
+    → AreRising (xs ++ v ∷ ys) → v.rev.sub < 2 ^ 64 → v.rev.main ≤ r → is_superseded (xs ++ v ∷ ys) r v ≡ false
     → value_at (xs ++ v ∷ ys) (end_of r) v.key ≡ key_value v
 unfolding value_at
-last-shown n r xs v ys h s l e =
-    ap (option_and_then key_value) (latest-out xs v ys (end_of r) v.key true (λ i. same-refl v.key i && rev_le-end v.rev r l s.number i)
+last-shown r xs v ys h number l e =
+    ap (option_and_then key_value) (latest-out xs v ys (end_of r) v.key true (λ i. same-refl v.key i && rev_le-end v.rev r l number i)
     ∙ ap (λ o. option_or (option_or o (Some v)) (latest xs (end_of r) v.key)) (last_seen r v ys (rising-mid xs v ys h).1 (sym (superseded-mid xs v ys r h) ∙ e)))
 
 not-first : (a b : Bool) → (true && (a || b)) ≡ false → a ≡ false
@@ -204,7 +208,7 @@ module _ (ms : List Mutation) (c : ℕ) (h : IsHistory ms) (f : c ≤ now ms) (v
       let s = stand v vs i in
       sym (good-value_at vs ms c (max v.rev.main c) v.key g h put-kept)
       ∙ subst (λ us. value_at us (end_of (max v.rev.main c)) v.key ≡ key_value v) (sym s.is)
-      (last-shown (now ms) (max v.rev.main c) s.before v s.after (subst AreRising s.is (rising-part g.part (rising-dress ms h))) sits (omega arith)
+      (last-shown (max v.rev.main c) s.before v s.after (subst AreRising s.is (rising-part g.part (rising-dress ms h))) sits.number (omega arith)
       (not-replaced c s.before v s.after (subst AreRising s.is (rising-part g.part (rising-dress ms h))) (subst (λ us. IsLeft us c v) s.is left)))
 
   pub tombstone-kept : is_tombstone v.body ≡ true → IsKept c (now ms) v.rev.main
@@ -216,8 +220,8 @@ module _ (ms : List Mutation) (c : ℕ) (h : IsHistory ms) (f : c ≤ now ms) (v
   stays-in us gu = by (is_tombstone v.body) refl
     where
       by : (b : Bool) → is_tombstone v.body ≡ b → IsIn v us
-      by false e = put-in ms us v (max v.rev.main c) h gu.part (in_whole g.part v i) e (good-value_at us ms c (max v.rev.main c) v.key gu h put-kept ∙ put-shown)
-      by true e = told-in us vs c (now ms) v i (gu.answers (Question.watch (plain_watch v.key) v.rev.main) (tombstone-kept e) ∙ sym (g.answers (Question.watch (plain_watch v.key) v.rev.main) (tombstone-kept e)))
+      by false e = put-in us (dress ms) v (max v.rev.main c) (rising-dress ms h) gu.part (in_whole g.part v i) e (good-value_at us ms c (max v.rev.main c) v.key gu h put-kept ∙ put-shown)
+      by true e = told-in before_is_kept us vs c (now ms) v i (gu.answers (Question.watch (plain_watch v.key) v.rev.main) (tombstone-kept e) ∙ sym (g.answers (Question.watch (plain_watch v.key) v.rev.main) (tombstone-kept e)))
 
 -- ---- the least list
 

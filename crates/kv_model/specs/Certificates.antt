@@ -1,5 +1,5 @@
 -- Certificates: a dump of the versions that are kept, a need for each, and what a check of the two finds.
-use Rattle.std.specs.Prelude.{ℕ, max, List, [], ◌∷◌, find, filter_map, count_by, Bool, not, ◌&&◌, ◌==◌, nat_lt, nat_le, if◌then◌else◌, Option, None, Some, option_map}
+use Rattle.std.specs.Prelude.{◌≡◌, ℕ, max, List, [], ◌∷◌, find, filter_map, count_by, Bool, not, ◌&&◌, ◌==◌, nat_lt, nat_le, if◌then◌else◌, Option, None, Some, option_map, ⊤}
 use Rattle.std.specs.Option.{option_or}
 use Rattle.kv_model.specs.declared.version.Rev.{Rev}
 use Rattle.kv_model.specs.declared.version.Version.{Version}
@@ -8,7 +8,8 @@ use Rattle.kv_model.specs.declared.version.Body.TheVariants.{Put, Gone}
 use Rattle.kv_model.specs.Lists.{is_empty}
 use Rattle.kv_model.specs.Keys.{same_key}
 use Rattle.kv_model.specs.History.{rev_lt}
-use Rattle.kv_model.specs.Needs.{Need}
+use Rattle.kv_model.specs.Events.{before_is_kept}
+use Rattle.kv_model.specs.Needs.{Need, HasNeedBy}
 use Rattle.kv_model.specs.Trimming.{is_at, is_tombstone, is_superseded}
 
 -- the versions that a store keeps; floor is the revision of its last compaction
@@ -84,3 +85,17 @@ claims_fault d (v ∷ vs) (claim ∷ claims) = if is_at claim.rev v
 unfoldable pub first_fault : Dump → List Claim → Option NeedFault
 first_fault d claims = option_or (option_map NeedFault.not_rising (first_fall d.versions))
     (option_or (option_map NeedFault.double_key (first_double d.versions)) (claims_fault d d.versions claims))
+
+-- ---- what it says
+
+-- a claim for each version, in their order, and each a need among all versions, by any test of previous values
+abbrev pub AreNeedsBy : (ℕ → ℕ → Bool) → ℕ → ℕ → List Version → List Version → List Claim → Type 0
+AreNeedsBy has_before c now whole [] [] = ⊤
+AreNeedsBy has_before c now whole [] (claim ∷ claims) = ⊥
+AreNeedsBy has_before c now whole (v ∷ vs) [] = ⊥
+AreNeedsBy has_before c now whole (v ∷ vs) (claim ∷ claims) =
+    (claim.rev ≡ v.rev) × HasNeedBy has_before c now whole v claim.need × AreNeedsBy has_before c now whole vs claims
+
+-- and by this store's
+abbrev pub AreNeedsOf : ℕ → ℕ → List Version → List Version → List Claim → Type 0
+AreNeedsOf = AreNeedsBy before_is_kept

@@ -5,8 +5,7 @@ use Rattle.kv_model.specs.declared.ids.Ids.{Ids}
 use Rattle.kv_model.specs.Lists.{IsIn}
 use Rattle.kv_model.specs.World.{World, revision, versions}
 use Rattle.kv_model.specs.Questions.{IsLeast}
-use Rattle.kv_model.specs.Needs.{HasNeed}
-use Rattle.kv_model.specs.Certificates.{Dump, Claim, claims_of, first_fault}
+use Rattle.kv_model.specs.Certificates.{Dump, Claim, claims_of, first_fault, AreNeedsOf}
 use Rattle.kv_model.specs.Follows.{Outcome}
 use Rattle.kv_model.specs.Wire.{WireEvent, WireTold, WireOutcome, wire_step, is_physical}
 use Rattle.kv_model.specs.Changes.{added}
@@ -46,10 +45,7 @@ dump_of w vs = record { floor = w.compacted; revision = revision w; versions = v
 
 -- a claim for each version, in their order, and each a need in the whole history
 abbrev pub AreNeeds : World → List Version → List Claim → Type 0
-AreNeeds w [] [] = ⊤
-AreNeeds w [] (claim ∷ claims) = ⊥
-AreNeeds w (v ∷ vs) [] = ⊥
-AreNeeds w (v ∷ vs) (claim ∷ claims) = (claim.rev ≡ v.rev) × HasNeed w.compacted (revision w) (versions w) v claim.need × AreNeeds w vs claims
+AreNeeds w = AreNeedsOf w.compacted (revision w) (versions w)
 
 -- the certificate passes its check, and what it claims is so
 pub record IsCertificate (w : World) (vs : List Version) (claims : List Claim) : Type 0 where

@@ -1,14 +1,14 @@
 -- Laws of trimming: its rule takes out what no least list needs, and ends at the one least.
-use Rattle.std.specs.Prelude.{◌≡◌, ℕ, ◌≤◌, ◌<◌, ◌^◌, List, ◌++◌, filter, not, ◌&&◌, nat_le, Option, MatchOption, ⊤}
+use Rattle.std.specs.Prelude.{◌≡◌, ℕ, ◌≤◌, ◌<◌, ◌^◌, List, ◌++◌, filter, Bool, not, ◌&&◌, nat_le, Option, None, MatchOption, ⊤}
 use Rattle.std.specs.List.{AllByRecursion}
 use Rattle.kv_model.specs.declared.version.Rev.{Rev}
 use Rattle.kv_model.specs.declared.version.Version.{Version}
 use Rattle.kv_model.specs.History.{Mutation, IsHistory, now, rev_lt}
 use Rattle.kv_model.specs.World.{World, IsSound}
 use Rattle.kv_model.specs.Told.{Trimmed}
-use Rattle.kv_model.specs.Questions.{IsGood, IsLeast}
+use Rattle.kv_model.specs.Questions.{IsGood, IsLeast, IsLeastBy}
 use Rattle.kv_model.specs.Trimming.{TrimStep, trimmed, IsSettled, IsTrimmedTo, oldest_place}
-use Rattle.kv_model.specs.Certificates.{Claim, claims_of}
+use Rattle.kv_model.specs.Certificates.{Dump, Claim, claims_of, first_fault, AreNeedsBy}
 use Rattle.kv_model.specs.Wire.{WireTold}
 use Rattle.kv_model.specs.Kept.{Keeping, Trims, IsTrimmed, IsCertificate, dump_of}
 
@@ -25,6 +25,16 @@ LeastIsOne = (ms : List Mutation) (c : ℕ) (us vs : List Version) → IsHistory
 -- where nothing is left to take out, the certificate passes its check and each of its needs is one
 abbrev pub SettledIsCertified : Type 0
 SettledIsCertified = (w : World) (vs : List Version) → IsSound w → IsGood vs w.mutations w.compacted → IsSettled vs w.compacted → IsCertificate w vs (claims_of (dump_of w vs))
+
+-- each listed version has its claimed need in the list, and no shorter part of the list answers as it does
+pub record IsLeastOfItself (has_before : ℕ → ℕ → Bool) (d : Dump) (claims : List Claim) : Type 0 where
+  pub needs : AreNeedsBy has_before d.floor d.revision d.versions d.versions claims
+  pub least : IsLeastBy has_before d.versions d.floor d.revision d.versions
+
+-- a certificate that passes its check says so by any test of previous values, where numbers within a revision fit 64 bits
+abbrev pub PassingIsLeast : Type 0
+PassingIsLeast = (has_before : ℕ → ℕ → Bool) (d : Dump) (claims : List Claim)
+    → AllByRecursion (λ v. v.rev.sub < 2 ^ 64) d.versions → first_fault d claims ≡ None → IsLeastOfItself has_before d claims
 
 -- ---- a step by the rule
 

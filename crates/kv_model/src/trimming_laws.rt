@@ -1,5 +1,5 @@
 //! Laws of trimming, each the contract of a function that does nothing.
-ghost use Rattle.kv_model.specs.TrimmingLaws.{SettledIsLeast, LeastIsOne, SettledIsCertified, TrimmedStepsWell, DoneIsTrimmed, TrimmingStartsOver, TrimmingGoesOn, GoodStaysGood};
+ghost use Rattle.kv_model.specs.TrimmingLaws.{SettledIsLeast, LeastIsOne, SettledIsCertified, PassingIsLeast, TrimmedStepsWell, DoneIsTrimmed, TrimmingStartsOver, TrimmingGoesOn, GoodStaysGood};
 
 /// What answers as the whole history does, and has nothing left to take out, is a least list.
 pub fn settled_is_least()
@@ -14,6 +14,12 @@ pub fn least_is_one()
 /// Where nothing is left to take out, the certificate passes its check, and each of its needs is one.
 pub fn settled_is_certified()
     ensures { SettledIsCertified }
+{}
+
+/// A certificate that passes its check gives each listed version its claimed need in the list, and no shorter part of the
+/// list answers as it does.
+pub fn passing_is_least()
+    ensures { PassingIsLeast }
 {}
 
 /// A trimming step by the rule keeps what answers, and is one that a run may make.
