@@ -4,7 +4,7 @@ use Rattle.std.proofs.lemmas.List.{drop_all}
 use Rattle.std.proofs.lemmas.List.{append-nil, map-append}
 use Rattle.kv_model.specs.declared.ids.Ids.{Ids}
 use Rattle.kv_model.specs.World.{World, opening}
-use Rattle.kv_model.specs.Stands.{StandsFor}
+use Rattle.store_laws.specs.Stands.{StandsFor}
 use Rattle.kv_model.specs.Follows as follows
 use Rattle.kv_model.specs.Requests.{request_of}
 use Rattle.kv_model.specs.Wire as model

@@ -5,7 +5,7 @@ use Rattle.kv_model.specs.declared.refusal.Refusal.TheVariants as refusal
 use Rattle.kv_model.specs.Answers.{Response, Fault, refused, fault_of, lost_fault, fault_of_bad}
 use Rattle.kv_model.specs.Requests as requests
 use Rattle.kv_model.specs.World.{World}
-use Rattle.kv_model.specs.Stands.{StandsFor}
+use Rattle.store_laws.specs.Stands.{StandsFor}
 use Rattle.kv_model.specs.Wire.{Loss, raised, number_made}
 use Rattle.gateway_read.specs.declared.bad.Bad.{Bad}
 use Rattle.gateway_read.specs.declared.bad.Bad.TheVariants.{NotJson, BadField, BadBase64, NoPath, TooLong, Memory}

@@ -4,7 +4,7 @@ use Rattle.kv_model.specs.declared.ids.Ids.{Ids}
 use Rattle.kv_model.specs.declared.refusal.Refusal.{Refusal}
 use Rattle.kv_model.specs.Told as told
 use Rattle.kv_model.specs.World.{World}
-use Rattle.kv_model.specs.Stands.{StandsFor}
+use Rattle.store_laws.specs.Stands.{StandsFor}
 use Rattle.kv_model.specs.Follows as follows
 use Rattle.kv_model.specs.Wire as model
 use Rattle.kv_model.specs.Wire.{WireTold, wire_step, is_free, takes_memory, MayLose}

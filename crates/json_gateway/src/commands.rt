@@ -3,7 +3,7 @@ ghost use Rattle.std.specs.Prelude.{◌≡◌, map, IfOk};
 ghost use Rattle.kv_model.specs.Answers.{Response, answered, response_to};
 ghost use Rattle.kv_model.specs.Calls.{call_of};
 ghost use Rattle.kv_model.specs.Requests.{request_of};
-ghost use Rattle.kv_model.specs.Stands.{StandsFor};
+ghost use Rattle.store_laws.specs.Stands.{StandsFor};
 ghost use Rattle.kv_model.specs.Step.{made_in, perform as perform_in};
 ghost use Rattle.kv_model.specs.Wire.{IsChange, IsChangeBy, reply_to};
 ghost use Rattle.kv_model.specs.World.{World};

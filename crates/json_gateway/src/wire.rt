@@ -1,6 +1,6 @@
 //! Runs of events, from bytes to bytes.
 ghost use Rattle.std.specs.Prelude.{◌≡◌, map, IfOk};
-ghost use Rattle.kv_model.specs.Stands.{StandsFor};
+ghost use Rattle.store_laws.specs.Stands.{StandsFor};
 ghost use Rattle.kv_model.specs.Wire.{Follows, post as model_post};
 ghost use Rattle.kv_model.specs.World.{World};
 

@@ -11,7 +11,7 @@ use Rattle.kv_model.specs.Lists.{last_that, is_empty}
 use Rattle.kv_model.specs.Keys.{same_key, in_range}
 use Rattle.kv_model.specs.History.{rev_le, latest, key_value, value_at}
 use Rattle.kv_model.specs.Ranges.{keys, live, value_within}
-use Rattle.kv_model.proofs.KeyLaws.{same_keys, ascending-keys, has_key, has_key-keys, IsAscending, AllAbove}
+use Rattle.store_laws.proofs.KeyLaws.{same_keys, ascending-keys, has_key, has_key-keys, IsAscending, AllAbove}
 use Rattle.key_index.specs.declared.revisions.Mark.{Mark}
 use Rattle.key_index.specs.Marks.{at_place, rev_of}
 use Rattle.key_index.specs.Index.{Index, IsIndex, found, marks, in_interval}

@@ -6,7 +6,6 @@ pub mod Ranges
 pub mod Events
 pub mod Calls
 pub mod Txns
-pub mod Plans
 pub mod Leases
 pub mod World
 pub mod Watches
@@ -20,17 +19,11 @@ pub mod Needs
 pub mod Certificates
 pub mod Feed
 pub mod Changes
-pub mod FeedLaws
-pub mod Stands
-pub mod Stores
 pub mod Requests
 pub mod Answers
 pub mod Wire
 pub mod Kept
 pub mod Headline
-pub mod TrimmingLaws
-pub mod Laws
-pub mod Growth
 pub mod Samples
 pub mod SampleReads
 pub mod SampleTxns

@@ -3,9 +3,6 @@
 
 pub mod call;
 pub mod feed;
-pub mod feed_laws;
 pub mod ids;
-pub mod laws;
 pub mod refusal;
-pub mod trimming_laws;
 pub mod version;

@@ -13,8 +13,8 @@ use Rattle.kv_model.specs.declared.version.Body.TheVariants.{Put, Gone}
 use Rattle.kv_model.specs.Lists.{last_that}
 use Rattle.kv_model.specs.Keys.{key_cmp, same_key}
 use Rattle.kv_model.specs.History.{KeyValue, shown, key_value, value_now}
-use Rattle.kv_model.proofs.HistoryLaws.{last_that-append}
-use Rattle.kv_model.proofs.DeleteLaws.{last_that-passes}
+use Rattle.store_laws.proofs.HistoryLaws.{last_that-append}
+use Rattle.store_laws.proofs.DeleteLaws.{last_that-passes}
 use Rattle.lease_keys.specs.Pairs.{Pairs, keys_at, has_pair, AreAdded, AreForgotten}
 use Rattle.lease_keys.specs.Holding.{is_lease, is_of, lease_of, puts_pair, ArePut, Holds, AreNotUnder, IsWithin}
 use Rattle.lease_keys.proofs.Sets.{has_key, has_key-insert}

@@ -6,10 +6,10 @@ use Rattle.kv_model.specs.declared.version.Rev.{Rev}
 use Rattle.kv_model.specs.declared.version.Version.{Version}
 use Rattle.kv_model.specs.Keys.{all_keys}
 use Rattle.kv_model.specs.History.{KeyValue, value_at}
-use Rattle.kv_model.specs.Laws.{IsStrictlyAscending}
+use Rattle.store_laws.specs.Laws.{IsStrictlyAscending}
 use Rattle.kv_model.specs.Ranges.{keys, keys_of, live, value_within}
-use Rattle.kv_model.proofs.KeyLaws.{IsAscending, ascending-filter, ascending-keys, has_key, has_key-filter, same_keys, value-has_key}
-use Rattle.kv_model.proofs.DeleteLaws.{mapped-keys, value_at-key}
+use Rattle.store_laws.proofs.KeyLaws.{IsAscending, ascending-filter, ascending-keys, has_key, has_key-filter, same_keys, value-has_key}
+use Rattle.store_laws.proofs.DeleteLaws.{mapped-keys, value_at-key}
 use Rattle.range_view.specs.declared.reply.KvRef.{KvRef}
 use Rattle.range_view.specs.Replies.{kv_view}
 use Rattle.lease_keys.specs.Pairs.{Pairs, keys_at}

@@ -8,7 +8,7 @@ use Rattle.std.specs.Ordering.{match_ordering}
 use Rattle.std.specs.BTreeSet.{insert_key}
 use Rattle.std.proofs.lemmas.Map.Lookups.{exact_bytes}
 use Rattle.kv_model.specs.Keys.{key_cmp, same_key}
-use Rattle.kv_model.specs.Laws.{IsStrictlyAscending}
+use Rattle.store_laws.specs.Laws.{IsStrictlyAscending}
 
 -- the order that std keeps is that of keys
 pub ascending-sorted : (ks : List (List ℕ)) → IsStrictlySortedBy key_cmp ks → IsStrictlyAscending ks

@@ -1,6 +1,6 @@
 //! From each lease to its keys.
 ghost use Rattle.std.specs.Prelude.{◌≡◌, ℕ, [], ◌∷◌, map, take, IfOk, OnOk, OnErr};
-ghost use Rattle.kv_model.specs.Laws.{IsStrictlyAscending};
+ghost use Rattle.store_laws.specs.Laws.{IsStrictlyAscending};
 ghost use Rattle.lease_keys.specs.Holding.{ArePut, lease_of};
 ghost use Rattle.lease_keys.specs.Pairs.{AreAdded, keys_at};
 

@@ -2,7 +2,7 @@
 ghost use Rattle.std.specs.Prelude.{◌≡◌, [], ◌∷◌, map, IfOk, OnOk, OnErr};
 ghost use Rattle.std.specs.BTreeSet.{insert_key};
 ghost use Rattle.kv_model.specs.Keys.{key_cmp};
-ghost use Rattle.kv_model.specs.Laws.{IsStrictlyAscending};
+ghost use Rattle.store_laws.specs.Laws.{IsStrictlyAscending};
 
 use bytes::Bytes;
 use std::alloc::{AllocError, Global};

@@ -8,7 +8,7 @@ use Rattle.kv_model.specs.declared.version.Rev.{Rev}
 use Rattle.kv_model.specs.declared.version.Version.{Version}
 use Rattle.kv_model.specs.History.{rev_lt}
 use Rattle.kv_model.specs.Feed.{last_main_or}
-use Rattle.kv_model.specs.Stands.{first_main_of}
+use Rattle.store_laws.specs.Stands.{first_main_of}
 use Rattle.version_table.specs.Rising.{IsBehind, IsRising, retracted}
 use Rattle.version_table.proofs.RevOrder.{main_le, rev_lt-trans, before_main, before_sub}
 use Rattle.version_table.proofs.Rising.{rising-filter}

@@ -13,9 +13,9 @@ use Rattle.kv_model.specs.declared.version.KeyRange.{KeyRange}
 use Rattle.kv_model.specs.Lists.{last_that}
 use Rattle.kv_model.specs.Keys.{key_cmp, same_key, in_range, one_key}
 use Rattle.kv_model.specs.History.{KeyValue, latest, value_at, key_value, shown, rev_le}
-use Rattle.kv_model.specs.Laws.{IsStrictlyAscending}
+use Rattle.store_laws.specs.Laws.{IsStrictlyAscending}
 use Rattle.kv_model.specs.Ranges.{keys, live}
-use Rattle.kv_model.proofs.KeyLaws.{IsAscending, ascending-keys}
+use Rattle.store_laws.proofs.KeyLaws.{IsAscending, ascending-keys}
 use Rattle.range_view.specs.Selecting.{AreByKey}
 
 -- ---- a walk over the keys of a range

@@ -6,7 +6,7 @@ use Rattle.kv_model.specs.declared.call.SortOrder.TheVariants.{Unsorted, Ascend,
 use Rattle.kv_model.specs.declared.call.SortTarget.{SortTarget}
 use Rattle.kv_model.specs.declared.call.SortTarget.TheVariants.{ByKey, ByVersion, ByCreate, ByMod, ByValue}
 use Rattle.kv_model.specs.History.{KeyValue}
-use Rattle.kv_model.specs.Laws.{IsStrictlyAscending}
+use Rattle.store_laws.specs.Laws.{IsStrictlyAscending}
 use Rattle.kv_model.specs.Ranges.{passes_filters, sorted}
 use Rattle.range_view.specs.declared.select.Found.{Found}
 use Rattle.range_view.specs.Replies.{kv_view}

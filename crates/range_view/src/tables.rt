@@ -1,7 +1,7 @@
 //! What a store keeps: the versions, the index of their keys, and the numbers that stand beside them (etcd: data model).
 ghost use Rattle.std.specs.Prelude.{◌≡◌, ◌<◌, ◌≤◌, ◌-◌, ◌==◌, ◌&&◌, nat_lt, true, OnOk, OnErr};
 ghost use Rattle.kv_model.specs.History.{end_of};
-ghost use Rattle.kv_model.specs.Stands.{first_main_of};
+ghost use Rattle.store_laws.specs.Stands.{first_main_of};
 ghost use Rattle.version_table.specs.Rising.{retracted};
 ghost use Rattle.range_view.specs.Stored.{IsStored, appended, blank, blank_at, compacted_at, goes_on, is_next, retracted_to, seen_at, trim_of, trimmed_once};
 ghost use Rattle.trim_core.specs.Steps.{told_of};

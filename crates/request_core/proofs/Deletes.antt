@@ -14,11 +14,11 @@ use Rattle.kv_model.specs.Told.{Reply}
 use Rattle.kv_model.specs.Txns.{extend_all, deletes_of, if_asked}
 use Rattle.kv_model.specs.World.{World, changed}
 use Rattle.kv_model.specs.Step.{last_main, made_in, perform}
-use Rattle.kv_model.specs.Stands.{Store, StandsFor, grown}
-use Rattle.kv_model.specs.Stores.{refusal_of_delete, reply_of_delete, changes_of_delete}
-use Rattle.kv_model.proofs.KeyLaws.{live-same}
-use Rattle.kv_model.proofs.PlaceLaws.{AreBehind, rev_le-after, value_at-behind}
-use Rattle.kv_model.proofs.StandsCommands.{delete_refused, delete_nothing, delete_made, delete_spent}
+use Rattle.store_laws.specs.Stands.{Store, StandsFor, grown}
+use Rattle.store_laws.specs.Stores.{refusal_of_delete, reply_of_delete, changes_of_delete}
+use Rattle.store_laws.proofs.KeyLaws.{live-same}
+use Rattle.store_laws.proofs.PlaceLaws.{AreBehind, rev_le-after, value_at-behind}
+use Rattle.store_laws.proofs.StandsCommands.{delete_refused, delete_nothing, delete_made, delete_spent}
 use Rattle.request_core.proofs.Quiet.{delete_stands}
 use Rattle.request_core.specs.declared.answer.Receipt.{Receipt}
 use Rattle.txn_core.specs.KeyWrites.{tombstone}

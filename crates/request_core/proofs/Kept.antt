@@ -13,7 +13,7 @@ use Rattle.kv_model.specs.History.{Action, KeyValue, key_value, shown, value_at,
 use Rattle.kv_model.specs.Step.{last_main}
 use Rattle.kv_model.specs.Feed.{last_main_or}
 use Rattle.kv_model.specs.Txns.{next_body, put_action}
-use Rattle.kv_model.proofs.PlaceLaws.{each-map, each-append}
+use Rattle.store_laws.proofs.PlaceLaws.{each-map, each-append}
 use Rattle.range_view.specs.declared.reply.KvRef.{KvRef}
 use Rattle.lease_book.specs.Book.{Book}
 use Rattle.range_view.specs.Replies.{kv_view}

@@ -10,11 +10,11 @@ use Rattle.kv_model.specs.Lists.{last_that}
 use Rattle.kv_model.specs.Keys.{same_key}
 use Rattle.kv_model.specs.History.{KeyValue, key_value, shown, value_at, value_now, end_of, rev_le}
 use Rattle.kv_model.specs.Ranges.{keys_of}
-use Rattle.kv_model.specs.Stands.{Store}
+use Rattle.store_laws.specs.Stands.{Store}
 use Rattle.kv_model.specs.Step.{last_main}
-use Rattle.kv_model.proofs.HistoryLaws.{last_that-append}
-use Rattle.kv_model.proofs.KeyLaws.{has_key}
-use Rattle.kv_model.proofs.PlaceLaws.{rev_le-end, value_at-by}
+use Rattle.store_laws.proofs.HistoryLaws.{last_that-append}
+use Rattle.store_laws.proofs.KeyLaws.{has_key}
+use Rattle.store_laws.proofs.PlaceLaws.{rev_le-end, value_at-by}
 use Rattle.lease_keys.specs.Pairs.{Pairs}
 use Rattle.lease_keys.specs.Holding.{Holds, AreNotUnder}
 use Rattle.lease_keys.proofs.Live.{leased-has}

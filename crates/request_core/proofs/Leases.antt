@@ -10,9 +10,9 @@ use Rattle.kv_model.specs.Told.{Reply}
 use Rattle.kv_model.specs.Txns.{if_asked}
 use Rattle.kv_model.specs.World.{World, revision}
 use Rattle.kv_model.specs.Step.{made_in, perform, refused_or}
-use Rattle.kv_model.specs.Stands.{Store, StandsFor}
-use Rattle.kv_model.specs.Stores.{with_leases, refusal_of_grant, granted_lease, renewed_leases, reply_of_time_to_live, reply_of_leases}
-use Rattle.kv_model.proofs.StandsLeases.{leases_stand, grant_told, keep_alive_none, keep_alive_made, time_to_live_told, leases_told}
+use Rattle.store_laws.specs.Stands.{Store, StandsFor}
+use Rattle.store_laws.specs.Stores.{with_leases, refusal_of_grant, granted_lease, renewed_leases, reply_of_time_to_live, reply_of_leases}
+use Rattle.store_laws.proofs.StandsLeases.{leases_stand, grant_told, keep_alive_none, keep_alive_made, time_to_live_told, leases_told}
 use Rattle.lease_book.specs.declared.book.TimeLeft.{TimeLeft}
 use Rattle.range_view.specs.declared.reply.KvRef.{KvRef}
 use Rattle.range_view.specs.Replies.{kv_view}

@@ -8,11 +8,11 @@ use Rattle.kv_model.specs.declared.version.Version.{Version}
 use Rattle.kv_model.specs.Keys.{same_key}
 use Rattle.kv_model.specs.History.{Mutation, Action, KeyValue, value_now, now_after}
 use Rattle.kv_model.specs.Lists.{last_that}
-use Rattle.kv_model.specs.Plans.{path_touches, still_live, planned}
+use Rattle.store_laws.specs.Plans.{path_touches, still_live, planned}
 use Rattle.kv_model.specs.Txns.{Path, next_body, next_version, extend, extend_all, added_by, put_change, deletes_of}
-use Rattle.kv_model.proofs.TouchLaws.{AreClear}
-use Rattle.kv_model.proofs.PlanLaws.{NoClash, held-put, put-clear, delete-clear, inner-clear, clear-front}
-use Rattle.kv_model.proofs.BatchLaws.{extend_all-added}
+use Rattle.store_laws.proofs.TouchLaws.{AreClear}
+use Rattle.store_laws.proofs.PlanLaws.{NoClash, held-put, put-clear, delete-clear, inner-clear, clear-front}
+use Rattle.store_laws.proofs.BatchLaws.{extend_all-added}
 use Rattle.range_view.specs.Stored.{goes_on, is_next}
 use Rattle.txn_core.specs.KeyWrites.{IsCountedTo}
 use Rattle.txn_core.proofs.PutCounts.{last_that-holds}

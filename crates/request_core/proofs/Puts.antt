@@ -12,11 +12,11 @@ use Rattle.kv_model.specs.Told.{Reply}
 use Rattle.kv_model.specs.Txns.{put_fault, previous_value}
 use Rattle.kv_model.specs.World.{World, changed}
 use Rattle.kv_model.specs.Step.{made_in, perform}
-use Rattle.kv_model.specs.Stands.{Store, StandsFor, grown}
-use Rattle.kv_model.specs.Stores.{refusal_of_put, reply_of_put, changes_of_put}
-use Rattle.kv_model.proofs.PlaceLaws.{AreBehind, rev_le-after, value_at-behind}
-use Rattle.kv_model.proofs.StandsLaws.{value_now_is}
-use Rattle.kv_model.proofs.StandsCommands.{put_made, put_refused, put_spent, put_has_key}
+use Rattle.store_laws.specs.Stands.{Store, StandsFor, grown}
+use Rattle.store_laws.specs.Stores.{refusal_of_put, reply_of_put, changes_of_put}
+use Rattle.store_laws.proofs.PlaceLaws.{AreBehind, rev_le-after, value_at-behind}
+use Rattle.store_laws.proofs.StandsLaws.{value_now_is}
+use Rattle.store_laws.proofs.StandsCommands.{put_made, put_refused, put_spent, put_has_key}
 use Rattle.request_core.proofs.Quiet.{put_stands}
 use Rattle.request_core.specs.declared.answer.Receipt.{Receipt}
 use Rattle.txn_core.specs.KeyWrites.{held_refusal, put_version}

@@ -8,12 +8,12 @@ use Rattle.kv_model.specs.Calls.{Ops}
 use Rattle.kv_model.specs.Txns.{static_fault}
 use Rattle.kv_model.specs.Leases.{without_lease, keys_of_lease}
 use Rattle.kv_model.specs.World.{World, changed}
-use Rattle.kv_model.specs.Stands.{Store, StandsFor, grown, grown_noted}
-use Rattle.kv_model.specs.Stores.{path_in, changes_of_put, changes_of_delete, changes_of_path, changes_of_revoke, with_leases}
-use Rattle.kv_model.proofs.WatchLaws.{noted_quiet}
-use Rattle.kv_model.proofs.StandsCommands as commands
-use Rattle.kv_model.proofs.StandsTxns as txns
-use Rattle.kv_model.proofs.StandsLeases as leases
+use Rattle.store_laws.specs.Stands.{Store, StandsFor, grown, grown_noted}
+use Rattle.store_laws.specs.Stores.{path_in, changes_of_put, changes_of_delete, changes_of_path, changes_of_revoke, with_leases}
+use Rattle.store_laws.proofs.WatchLaws.{noted_quiet}
+use Rattle.store_laws.proofs.StandsCommands as commands
+use Rattle.store_laws.proofs.StandsTxns as txns
+use Rattle.store_laws.proofs.StandsLeases as leases
 
 quietly : (s : Store) (us : List Mutation) (u : World) → s.watches ≡ [] → StandsFor (grown_noted s us) u → StandsFor (grown s us) u
 quietly s us u quiet h = subst (λ t. StandsFor t u) (noted_quiet s quiet us) h

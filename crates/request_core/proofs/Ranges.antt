@@ -10,9 +10,9 @@ use Rattle.kv_model.specs.Ranges.{RangeReply, range_reply, reply_from}
 use Rattle.kv_model.specs.Calls.{Call}
 use Rattle.kv_model.specs.World.{World}
 use Rattle.kv_model.specs.Step.{perform}
-use Rattle.kv_model.specs.Stands.{Store, StandsFor}
-use Rattle.kv_model.specs.Stores.{refusal_of_range, reply_of_range}
-use Rattle.kv_model.proofs.StandsCommands.{range_made, range_refused}
+use Rattle.store_laws.specs.Stands.{Store, StandsFor}
+use Rattle.store_laws.specs.Stores.{refusal_of_range, reply_of_range}
+use Rattle.store_laws.proofs.StandsCommands.{range_made, range_refused}
 use Rattle.request_core.specs.declared.answer.Receipt.{Receipt}
 use Rattle.request_core.specs.State.{CoreState}
 use Rattle.request_core.specs.Answers.{Accepts, IsRefusal, answer_of, first_refusal}

@@ -14,9 +14,9 @@ use Rattle.kv_model.specs.Told.{Reply, Expiry}
 use Rattle.kv_model.specs.Txns.{deletes_of}
 use Rattle.kv_model.specs.World.{World, revision, changed}
 use Rattle.kv_model.specs.Step.{last_main, made_in, perform, refused_or, commit_at, expiry_of, expire, expire_at, revoke_in}
-use Rattle.kv_model.specs.Stands.{Store, StandsFor, grown}
-use Rattle.kv_model.specs.Stores.{with_leases, refusal_of_revoke, changes_of_revoke}
-use Rattle.kv_model.proofs.StandsLeases.{leases_stand, revoke_told, due_stands}
+use Rattle.store_laws.specs.Stands.{Store, StandsFor, grown}
+use Rattle.store_laws.specs.Stores.{with_leases, refusal_of_revoke, changes_of_revoke}
+use Rattle.store_laws.proofs.StandsLeases.{leases_stand, revoke_told, due_stands}
 use Rattle.request_core.proofs.Quiet.{revoke_stands}
 use Rattle.request_core.specs.declared.answer.Receipt.{Receipt}
 use Rattle.request_core.specs.Writing.{tombstones}

@@ -11,21 +11,21 @@ use Rattle.kv_model.specs.Calls.{Call, Ops, as_call, txn_view}
 use Rattle.kv_model.specs.History.{Mutation, end_of, rev_le}
 use Rattle.kv_model.specs.Leases.{is_granted}
 use Rattle.kv_model.specs.Lists.{is_empty}
-use Rattle.kv_model.specs.Plans.{ReadsKept}
+use Rattle.store_laws.specs.Plans.{ReadsKept}
 use Rattle.kv_model.specs.Ranges.{refuse_if}
 use Rattle.kv_model.specs.Told.{Reply}
 use Rattle.kv_model.specs.Txns.{Path, next_version, extend_all, static_fault, walk_fault, changes_of, replies_of}
 use Rattle.kv_model.specs.World.{World, changed}
 use Rattle.kv_model.specs.Wire.{changes_beside}
 use Rattle.kv_model.specs.Step.{last_main, made_in, perform, refused_or, commit_at, succeeded, inner_path}
-use Rattle.kv_model.specs.Stands.{Store, StandsFor, grown}
-use Rattle.kv_model.specs.Stores.{path_in, refusal_of_path, changes_of_path, reply_of_path}
-use Rattle.kv_model.proofs.CountLaws.{changes_counted, branch_changes}
-use Rattle.kv_model.proofs.PathLaws.{path-checked}
-use Rattle.kv_model.proofs.PlaceLaws.{rev_le-end}
-use Rattle.kv_model.proofs.PlanLaws.{NoClash}
-use Rattle.kv_model.proofs.ReplyLaws.{not-refused-reads}
-use Rattle.kv_model.proofs.StandsTxns.{txn_refused, txn_told}
+use Rattle.store_laws.specs.Stands.{Store, StandsFor, grown}
+use Rattle.store_laws.specs.Stores.{path_in, refusal_of_path, changes_of_path, reply_of_path}
+use Rattle.store_laws.proofs.CountLaws.{changes_counted, branch_changes}
+use Rattle.store_laws.proofs.PathLaws.{path-checked}
+use Rattle.store_laws.proofs.PlaceLaws.{rev_le-end}
+use Rattle.store_laws.proofs.PlanLaws.{NoClash}
+use Rattle.store_laws.proofs.ReplyLaws.{not-refused-reads}
+use Rattle.store_laws.proofs.StandsTxns.{txn_refused, txn_told}
 use Rattle.request_core.proofs.Quiet.{txn_stands}
 use Rattle.range_view.specs.Stored.{IsUpTo}
 use Rattle.txn_core.proofs.Walking.{txn_view-out}

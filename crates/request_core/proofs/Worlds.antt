@@ -11,10 +11,10 @@ use Rattle.kv_model.specs.Calls.{Call}
 use Rattle.kv_model.specs.Told.{Answer, Reply}
 use Rattle.kv_model.specs.World.{World, revision, changed}
 use Rattle.kv_model.specs.Step.{last_main, made_in, perform, world_of, answer_of as answer_of_made}
-use Rattle.kv_model.specs.Stands.{StandsFor, grown}
+use Rattle.store_laws.specs.Stands.{StandsFor, grown}
 use Rattle.kv_model.specs.Wire.{raised, number_made}
-use Rattle.kv_model.proofs.StandsLaws.{grown_revision}
-use Rattle.kv_model.proofs.StandsCommands.{answer_made, answer_refused, answer_read}
+use Rattle.store_laws.proofs.StandsLaws.{grown_revision}
+use Rattle.store_laws.proofs.StandsCommands.{answer_made, answer_refused, answer_read}
 use Rattle.request_core.specs.declared.answer.Receipt.{Receipt}
 use Rattle.request_core.specs.State.{CoreState, is_spent}
 use Rattle.request_core.specs.Answers.{Accepts, IsRefusal, answer_of, first_refusal, is_memory}

@@ -5,12 +5,12 @@ use Rattle.kv_model.specs.History.{value_at, end_of}
 use Rattle.kv_model.specs.Ranges.{range_reply, revision_refusal, live}
 use Rattle.kv_model.specs.Txns.{Path, previous_value, if_asked, changes_of, replies_of}
 use Rattle.kv_model.specs.Leases.{lease_at}
-use Rattle.kv_model.specs.Plans.{ReadsKept}
-use Rattle.kv_model.specs.Stores.{reply_of_time_to_live, reply_of_leases}
+use Rattle.store_laws.specs.Plans.{ReadsKept}
+use Rattle.store_laws.specs.Stores.{reply_of_time_to_live, reply_of_leases}
 use Rattle.kv_model.specs.Told.{Reply, Answer as ModelAnswer, Expiry as ModelExpiry}
 use Rattle.lease_book.specs.declared.book.TimeLeft.{TimeLeft}
 use Rattle.kv_model.specs.World.{World}
-use Rattle.kv_model.specs.Stands.{Store, StandsFor}
+use Rattle.store_laws.specs.Stands.{Store, StandsFor}
 use Rattle.kv_model.specs.Wire.{raised, number_made}
 use Rattle.range_view.specs.Replies.{kv_view, reply_view, replies_view}
 use Rattle.txn_core.specs.Steps.{steps_view}

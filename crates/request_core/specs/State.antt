@@ -20,8 +20,8 @@ use Rattle.kv_model.specs.Txns.{put_fault, previous_value, if_asked, static_faul
 use Rattle.kv_model.specs.Txns as txns
 use Rattle.kv_model.specs.History.{KeyValue, value_at, end_of, rev_le}
 use Rattle.kv_model.specs.Step.{last_main}
-use Rattle.kv_model.specs.Stands.{Store}
-use Rattle.kv_model.specs.Stores.{path_in, refusal_of_path, changes_of_path, refusal_of_delete, with_leases, granted_lease, refusal_of_revoke, renewed_leases, at_store_moment}
+use Rattle.store_laws.specs.Stands.{Store}
+use Rattle.store_laws.specs.Stores.{path_in, refusal_of_path, changes_of_path, refusal_of_delete, with_leases, granted_lease, refusal_of_revoke, renewed_leases, at_store_moment}
 use Rattle.lease_book.specs.Book.{Book}
 use Rattle.range_view.specs.Stored.{Stored}
 use Rattle.txn_core.specs.KeyWrites.{held_refusal, put_version, IsCountedTo}

@@ -55,7 +55,7 @@ impl Model for Core {
 impl Core {
     ghost use Rattle.kv_model.specs.Calls.{Call, call_of};
     ghost use Rattle.kv_model.specs.World.{World, opening};
-    ghost use Rattle.kv_model.specs.Stands.{StandsFor};
+    ghost use Rattle.store_laws.specs.Stands.{StandsFor};
     ghost use Rattle.kv_model.specs.Step.{perform};
     ghost use Rattle.request_core.specs.State.{CoreState, IsTold, added_by, held_in, is_spent, store_of, with_versions};
     ghost use Rattle.range_view.specs.Stored.{blank_at};

@@ -8,8 +8,8 @@ use Rattle.kv_model.specs.declared.version.Version.{Version}
 use Rattle.kv_model.specs.Keys.{same_key}
 use Rattle.kv_model.specs.History.{rev_lt}
 use Rattle.kv_model.specs.Trimming.{is_superseded, is_tombstone, is_trimmed}
-use Rattle.kv_model.proofs.HistoryLaws.{AllByRecursion-split}
-use Rattle.kv_model.proofs.PlaceSteps.{First, first-from}
+use Rattle.store_laws.proofs.HistoryLaws.{AllByRecursion-split}
+use Rattle.store_laws.proofs.PlaceSteps.{First, first-from}
 use Rattle.version_table.specs.Rising.{IsRising}
 use Rattle.version_table.proofs.RevOrder.{main_le}
 use Rattle.key_index.specs.Marks.{is_oldest}

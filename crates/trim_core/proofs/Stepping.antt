@@ -9,7 +9,7 @@ use Rattle.kv_model.specs.Keys.{same_key}
 use Rattle.kv_model.specs.History.{rev_lt}
 use Rattle.kv_model.specs.Told.{Trimmed}
 use Rattle.kv_model.specs.Trimming.{TrimStep, is_at, without_rev, is_superseded, is_trimmed, place_after, visited, finished, trimmed, trimmed_next}
-use Rattle.kv_model.proofs.PlaceSteps.{First, first-from}
+use Rattle.store_laws.proofs.PlaceSteps.{First, first-from}
 use Rattle.version_table.specs.Rising.{IsRising}
 use Rattle.version_table.proofs.RevOrder.{is_at-before, main_le}
 use Rattle.version_table.proofs.Rising.{IsAbove}

@@ -8,7 +8,7 @@ use Rattle.kv_model.specs.declared.call.DeleteRequest.{DeleteRequest}
 use Rattle.kv_model.specs.History.{value_at}
 use Rattle.kv_model.specs.Ranges as ranges
 use Rattle.kv_model.specs.Txns.{Path, Replies, place_before, changes_of, replies_of, previous_value, if_asked}
-use Rattle.kv_model.specs.Plans.{ReadsKept}
+use Rattle.store_laws.specs.Plans.{ReadsKept}
 use Rattle.range_view.specs.declared.reply.KvRef.{KvRef}
 use Rattle.range_view.specs.declared.reply.RangeReply.{RangeReply}
 use Rattle.range_view.specs.declared.reply.OpReply.{OpReply, the_lemmas as the_reply_lemmas}

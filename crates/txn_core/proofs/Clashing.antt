@@ -13,13 +13,13 @@ use Rattle.kv_model.specs.declared.call.Operation.TheVariants.{Range, Put, Delet
 use Rattle.kv_model.specs.declared.call.Txn.{Txn, out-Txn}
 use Rattle.kv_model.specs.Calls.{Ops, then, op_view, txn_view, ops_view}
 use Rattle.kv_model.specs.Txns.{Path, Touch, collides, touches, any_collide, clashes, path_of}
-use Rattle.kv_model.specs.Plans.{path_touches}
-use Rattle.kv_model.proofs.SmallLaws.{same_key-comm, collides-comm}
-use Rattle.kv_model.proofs.HistoryLaws.{AllByRecursion-split}
-use Rattle.kv_model.proofs.PlaceLaws.{each-append}
-use Rattle.kv_model.proofs.TouchLaws.{IsClear}
-use Rattle.kv_model.proofs.PlanLaws.{NoClash}
-use Rattle.kv_model.proofs.PathLaws.{path-noclash}
+use Rattle.store_laws.specs.Plans.{path_touches}
+use Rattle.store_laws.proofs.SmallLaws.{same_key-comm, collides-comm}
+use Rattle.store_laws.proofs.HistoryLaws.{AllByRecursion-split}
+use Rattle.store_laws.proofs.PlaceLaws.{each-append}
+use Rattle.store_laws.proofs.TouchLaws.{IsClear}
+use Rattle.store_laws.proofs.PlanLaws.{NoClash}
+use Rattle.store_laws.proofs.PathLaws.{path-noclash}
 use Rattle.txn_core.specs.Touching.{bit, count_of, keys_put, count_touched, meets_put, touches_more, meets_more, all_of, some_collide, OppositeBranchesDoNotClash, PutsAreAlone}
 use Rattle.txn_core.specs.declared.touched.Touched.{Touched}
 use Rattle.txn_core.specs.Views.{touch_view}

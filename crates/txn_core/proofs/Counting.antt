@@ -14,7 +14,7 @@ use Rattle.kv_model.specs.declared.version.KeyRange.{KeyRange}
 use Rattle.kv_model.specs.Keys.{key_cmp, key_lt, key_le, same_key, in_range, zero_byte}
 use Rattle.kv_model.specs.Lists.{is_empty}
 use Rattle.kv_model.specs.Txns.{Touch, collides}
-use Rattle.kv_model.proofs.SmallLaws.{same_key-comm}
+use Rattle.store_laws.proofs.SmallLaws.{same_key-comm}
 use Rattle.txn_core.specs.Touching.{bit, count_of, count_touched}
 use Rattle.txn_core.specs.Views.{keys_view, AreSorted}
 

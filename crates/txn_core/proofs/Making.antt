@@ -14,13 +14,13 @@ use Rattle.kv_model.specs.Keys.{key_cmp, same_key}
 use Rattle.kv_model.specs.History.{Mutation, Action, KeyValue, deletes_key, is_put, key_value, shown, value_at, value_now, rev_le}
 use Rattle.kv_model.specs.Ranges.{keys_of, live_now, revision_refusal}
 use Rattle.kv_model.specs.Txns.{Path, next_body, next_version, put_change, deletes_of}
-use Rattle.kv_model.specs.Plans.{is_deleted, still_live, planned, planned_refusal}
+use Rattle.store_laws.specs.Plans.{is_deleted, still_live, planned, planned_refusal}
 use Rattle.kv_model.specs.History as history
-use Rattle.kv_model.proofs.PlaceLaws.{AreBy, value_at-by, rev_le-end}
-use Rattle.kv_model.proofs.GoodLaws.{live_now-by}
-use Rattle.kv_model.proofs.KeyLaws.{IsAscending, AllAbove, cmp-refl}
-use Rattle.kv_model.proofs.HistoryLaws.{same_key-eq}
-use Rattle.kv_model.proofs.TouchLaws.{live_now-ascends}
+use Rattle.store_laws.proofs.PlaceLaws.{AreBy, value_at-by, rev_le-end}
+use Rattle.store_laws.proofs.GoodLaws.{live_now-by}
+use Rattle.store_laws.proofs.KeyLaws.{IsAscending, AllAbove, cmp-refl}
+use Rattle.store_laws.proofs.HistoryLaws.{same_key-eq}
+use Rattle.store_laws.proofs.TouchLaws.{live_now-ascends}
 use Rattle.kv_model.specs.Trimming.{is_tombstone}
 use Rattle.txn_core.specs.KeyWrites.{held_refusal, put_version, tombstone}
 use Rattle.txn_core.specs.Planning.{buries, is_gone, with_grave, with_graves, made, refusal_of}

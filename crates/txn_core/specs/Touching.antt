@@ -5,7 +5,7 @@ use Rattle.kv_model.specs.declared.version.Version.{Version}
 use Rattle.kv_model.specs.declared.call.Compare.{Compare}
 use Rattle.kv_model.specs.Calls.{Ops}
 use Rattle.kv_model.specs.Txns.{Touch, collides, any_collide, clashes, path_of}
-use Rattle.kv_model.specs.Plans.{path_touches}
+use Rattle.store_laws.specs.Plans.{path_touches}
 
 -- the keys that are put
 abbrev pub keys_put : List Touch → List (List ℕ)

@@ -5,7 +5,7 @@ ghost use Rattle.kv_model.specs.Calls.{Ops, then, op_view, ops_view, txn_view};
 ghost use Rattle.kv_model.specs.History as history;
 ghost use Rattle.kv_model.specs.Leases.{is_granted};
 ghost use Rattle.kv_model.specs.Ranges as ranges;
-ghost use Rattle.kv_model.specs.Plans.{planned, planned_refusal};
+ghost use Rattle.store_laws.specs.Plans.{planned, planned_refusal};
 ghost use Rattle.kv_model.specs.Step.{last_main};
 ghost use Rattle.kv_model.specs.Txns.{Path, path_of, next_version};
 ghost use Rattle.range_view.specs.Stored.{IsUpTo};

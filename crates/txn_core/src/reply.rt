@@ -1,7 +1,7 @@
 //! What the operations of a transaction are answered (the etcd documentation's TxnResponse).
 ghost use Rattle.std.specs.Prelude.{◌≡◌, ◌+◌, ◌<◌, ◌^◌, IfOk, map, length, option_map, None};
 ghost use Rattle.kv_model.specs.History.{value_at};
-ghost use Rattle.kv_model.specs.Plans.{ReadsKept};
+ghost use Rattle.store_laws.specs.Plans.{ReadsKept};
 ghost use Rattle.kv_model.specs.Ranges as ranges;
 ghost use Rattle.kv_model.specs.Txns as txns;
 ghost use Rattle.range_view.specs.Replies.{kv_view, reply_view, op_reply_view, replies_view};

@@ -8,10 +8,10 @@ use Rattle.kv_model.specs.History.{value_at, end_of}
 use Rattle.kv_model.specs.Events.{WatchEvent, event_of, matches}
 use Rattle.kv_model.specs.World.{World, Watch, revision, versions}
 use Rattle.kv_model.specs.Watches.{Delivery, undelivered, last_revision, delivery_of, watch_delivery}
-use Rattle.kv_model.specs.Stands.{Store, Tracked, TracksNext, Tracks, StandsFor, first_main_of}
-use Rattle.kv_model.proofs.StandsWatches.{good-undelivered}
-use Rattle.kv_model.proofs.TrimLaws.{Precedes, AreRising, rising-dress}
-use Rattle.kv_model.proofs.BetweenSteps.{all-values}
+use Rattle.store_laws.specs.Stands.{Store, Tracked, TracksNext, Tracks, StandsFor, first_main_of}
+use Rattle.store_laws.proofs.StandsWatches.{good-undelivered}
+use Rattle.store_laws.proofs.TrimLaws.{Precedes, AreRising, rising-dress}
+use Rattle.store_laws.proofs.BetweenSteps.{all-values}
 use Rattle.version_table.proofs.RevOrder.{main_le}
 use Rattle.watch_hub.specs.Delivering.{message_from, delivery_kept, delivery_from}
 

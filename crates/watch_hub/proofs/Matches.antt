@@ -6,7 +6,7 @@ use Rattle.std.specs.List.Sorted.{IsPartitionedBy, IsPartitionPoint}
 use Rattle.std.proofs.lemmas.Bool.Decides.{nat_tests}
 use Rattle.kv_model.specs.declared.version.Version.{Version}
 use Rattle.kv_model.specs.History.{rev_lt}
-use Rattle.kv_model.specs.Stands.{first_main_of}
+use Rattle.store_laws.specs.Stands.{first_main_of}
 use Rattle.version_table.specs.Rising.{IsRising}
 use Rattle.version_table.proofs.RevOrder.{main_le}
 

@@ -4,7 +4,7 @@ use Rattle.std.specs.Prelude.{unwrap_or, is_some}
 use Rattle.std.specs.List.{AllByRecursion, remove}
 use Rattle.std.proofs.lemmas.Bool.Decides.{nat_tests}
 use Rattle.kv_model.specs.declared.version.Version.{Version}
-use Rattle.kv_model.specs.Stands.{Tracked, noted, first_main_of, still_ahead, is_reached}
+use Rattle.store_laws.specs.Stands.{Tracked, noted, first_main_of, still_ahead, is_reached}
 use Rattle.kv_model.specs.Events.{matches}
 use Rattle.std.specs.Option.{option_or}
 use Rattle.watch_hub.specs.declared.entries.Place.{Place}

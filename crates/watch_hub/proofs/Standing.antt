@@ -6,8 +6,8 @@ use Rattle.kv_model.specs.declared.version.Version.{Version}
 use Rattle.kv_model.specs.declared.call.Watched.{Watched}
 use Rattle.kv_model.specs.World.{World, Watch, revision, versions, without_watch}
 use Rattle.kv_model.specs.Watches.{undelivered, last_revision, advanced}
-use Rattle.kv_model.specs.Stands.{Store, Tracked, TracksNext, Tracks, TracksAll, StandsFor, first_main_of, ahead_of}
-use Rattle.kv_model.proofs.StandsWatches.{good-undelivered}
+use Rattle.store_laws.specs.Stands.{Store, Tracked, TracksNext, Tracks, TracksAll, StandsFor, first_main_of, ahead_of}
+use Rattle.store_laws.proofs.StandsWatches.{good-undelivered}
 use Rattle.watch_hub.specs.Hub.{without_tracked, first_from, told_to, advanced_to}
 
 -- ---- a watch is ended

@@ -4,7 +4,7 @@ use Rattle.kv_model.specs.declared.version.Version.{Version}
 use Rattle.kv_model.specs.declared.call.Watched.{Watched}
 use Rattle.kv_model.specs.Events.{WatchEvent, event_of, matches}
 use Rattle.kv_model.specs.Watches.{Delivery, last_revision}
-use Rattle.kv_model.specs.Stands.{Tracked}
+use Rattle.store_laws.specs.Stands.{Tracked}
 
 -- the events of a message: whole revisions from the front
 abbrev pub message_from : List Version → ℕ → Watched → List Version → List WatchEvent

@@ -3,7 +3,7 @@ use Rattle.std.specs.Prelude.{◌≡◌, ℕ, suc, ◌<◌, ◌≤◌, pos, List
 use Rattle.std.specs.List.{AllByRecursion}
 use Rattle.slab.specs.Slab.{Slab, get}
 use Rattle.kv_model.specs.Events.{plain_watch}
-use Rattle.kv_model.specs.Stands.{Tracked}
+use Rattle.store_laws.specs.Stands.{Tracked}
 use Rattle.watch_hub.specs.declared.entry.Entry.{Entry}
 use Rattle.watch_hub.specs.declared.entries.Place.{Place}
 

@@ -2,7 +2,7 @@
 ghost use Rattle.std.specs.Prelude.{◌≡◌, ◌≢◌, ℕ, ◌<◌, ◌≤◌, [], ◌∷◌, ◌++◌, length, map, is_some, option_map, option_copied, OnOk, OnErr, IfSome};
 ghost use Rattle.std.specs.List.{AllByRecursion, slice_get};
 ghost use Rattle.slab.specs.Slab.{get};
-ghost use Rattle.kv_model.specs.Stands.{noted};
+ghost use Rattle.store_laws.specs.Stands.{noted};
 ghost use Rattle.kv_model.specs.Step.{last_main};
 ghost use Rattle.version_table.specs.Rising.{IsRising};
 ghost use Rattle.watch_hub.specs.Hub.{advanced_to, told_to, tracked_at, without_tracked};
@@ -30,7 +30,7 @@ pub(crate) struct Entries {
 
 impl Model for Entries {
     ghost use Rattle.std.specs.Prelude.{List};
-    ghost use Rattle.kv_model.specs.Stands.{Tracked};
+    ghost use Rattle.store_laws.specs.Stands.{Tracked};
     ghost use Rattle.watch_hub.specs.Entries.{seen_in, listed, ArePlaced};
 
     ghost Value = { List Tracked };

@@ -21,7 +21,7 @@ pub(crate) struct Entry {
 
 impl Entry {
     ghost use Rattle.std.specs.Prelude.{◌≡◌, ◌≤◌};
-    ghost use Rattle.kv_model.specs.Stands.{noted};
+    ghost use Rattle.store_laws.specs.Stands.{noted};
     ghost use Rattle.kv_model.specs.Step.{last_main};
     ghost use Rattle.version_table.specs.Rising.{IsRising};
     ghost use Rattle.watch_hub.specs.Hub.{told_to};

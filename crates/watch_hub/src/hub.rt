@@ -2,9 +2,9 @@
 ghost use Rattle.std.specs.Prelude.{◌≡◌, ◌⊎◌, ◌+◌, ◌<◌, ◌≤◌, Some, None, [], map, is_ok, is_some, option_map, IfOk, IfErr, OnOk, OnErr};
 ghost use Rattle.kv_model.specs.declared.refusal.Refusal.TheVariants.{Memory, NoWatch};
 ghost use Rattle.kv_model.specs.Lists as lists;
-ghost use Rattle.kv_model.specs.Stands.{noted};
+ghost use Rattle.store_laws.specs.Stands.{noted};
 ghost use Rattle.kv_model.specs.Step.{last_main, start_of, watched_range};
-ghost use Rattle.kv_model.specs.Stores.{refusal_of_watch, tracked_made};
+ghost use Rattle.store_laws.specs.Stores.{refusal_of_watch, tracked_made};
 ghost use Rattle.watch_hub.specs.Hub.{advanced_to, entry_made, pending_of, store_with, tracked_at, with_watch, without_tracked};
 ghost use Rattle.watch_hub.specs.Entries.{tracked_of};
 ghost use Rattle.watch_hub.specs.Views.{pending_view};

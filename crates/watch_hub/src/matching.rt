@@ -3,7 +3,7 @@ ghost use Rattle.std.specs.Prelude.{◌≡◌, ◌≤◌, ◌&&◌, false, filte
 ghost use Rattle.std.specs.List.{AllByRecursion};
 ghost use Rattle.kv_model.specs.Keys.{in_range, key_lt, key_le, same_key, zero_byte};
 ghost use Rattle.kv_model.specs.Events.{matches, wants};
-ghost use Rattle.kv_model.specs.Stands.{ahead_of, first_main_of, is_reached, still_ahead};
+ghost use Rattle.store_laws.specs.Stands.{ahead_of, first_main_of, is_reached, still_ahead};
 ghost use Rattle.version_table.specs.Rising.{IsRising};
 ghost use Rattle.watch_hub.specs.Hub.{first_from};
 

@@ -19,7 +19,7 @@ use std::alloc::AllocError;
 impl Core {
     ghost use Rattle.kv_model.specs.Calls.{Call};
     ghost use Rattle.kv_model.specs.World.{World};
-    ghost use Rattle.kv_model.specs.Stands.{StandsFor};
+    ghost use Rattle.store_laws.specs.Stands.{StandsFor};
     ghost use Rattle.kv_model.specs.Step.{perform};
     ghost use Rattle.request_core.specs.State.{IsTold, added_by, fault_of_delete, added_by_delete, after_delete, answer_after_delete, live_in, raised_by_delete};
     ghost use Rattle.request_core.specs.Answers.{Accepts, IsRefusal, IsReadable, answer_of, first_refusal, is_beside};

@@ -10,7 +10,7 @@ use kv_model::refusal::Refusal;
 
 impl Core {
     ghost use Rattle.kv_model.specs.World.{World, at_moment};
-    ghost use Rattle.kv_model.specs.Stands.{StandsFor};
+    ghost use Rattle.store_laws.specs.Stands.{StandsFor};
     ghost use Rattle.kv_model.specs.Step.{expire};
     ghost use Rattle.request_core.specs.State.{IsTold, added_by_expiry, added_by_revoke, after_moment, due_in};
     ghost use Rattle.request_core.specs.Answers.{expiry_view};

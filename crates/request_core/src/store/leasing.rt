@@ -2,7 +2,7 @@
 ghost use Rattle.kv_model.specs.History.{value_now};
 ghost use Rattle.kv_model.specs.Leases.{lease_at, keys_of_lease, without_lease};
 ghost use Rattle.kv_model.specs.Ranges.{keys_of};
-ghost use Rattle.kv_model.specs.Stores.{granted_lease, refusal_of_grant, reply_of_time_to_live};
+ghost use Rattle.store_laws.specs.Stores.{granted_lease, refusal_of_grant, reply_of_time_to_live};
 ghost use Rattle.kv_model.specs.Told.{Reply};
 ghost use Rattle.kv_model.specs.Txns.{if_asked};
 ghost use Rattle.lease_keys.specs.Holding.{AreNotUnder};
@@ -26,7 +26,7 @@ use std::alloc::{AllocError, Global};
 impl Core {
     ghost use Rattle.kv_model.specs.Calls.{Call};
     ghost use Rattle.kv_model.specs.World.{World};
-    ghost use Rattle.kv_model.specs.Stands.{StandsFor};
+    ghost use Rattle.store_laws.specs.Stands.{StandsFor};
     ghost use Rattle.kv_model.specs.Step.{perform};
     ghost use Rattle.request_core.specs.State.{AreReached, IsTold, added_by, added_by_revoke, after_grant, after_keep_alive, after_revoke, fault_of_revoke, leased, leased_in, stamped, raised_by_delete, with_any};
     ghost use Rattle.request_core.specs.Answers.{Accepts, IsAllowed, IsRefusal, IsReadable, answer_of, first_refusal, has_changed, is_beside, reply_left};

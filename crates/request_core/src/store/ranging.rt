@@ -15,9 +15,9 @@ use std::alloc::AllocError;
 impl Core {
     ghost use Rattle.kv_model.specs.Calls.{Call};
     ghost use Rattle.kv_model.specs.World.{World};
-    ghost use Rattle.kv_model.specs.Stands.{StandsFor};
+    ghost use Rattle.store_laws.specs.Stands.{StandsFor};
     ghost use Rattle.kv_model.specs.Step.{perform};
-    ghost use Rattle.kv_model.specs.Stores.{refusal_of_range, reply_of_range};
+    ghost use Rattle.store_laws.specs.Stores.{refusal_of_range, reply_of_range};
     ghost use Rattle.request_core.specs.Answers.{Accepts, IsRefusal, IsReadable, answer_of, first_refusal, is_beside};
 
     /// A Range changes nothing, and takes no memory before its answer.

@@ -1,6 +1,6 @@
 //! Txn.
 ghost use Rattle.kv_model.specs.Step.{last_main};
-ghost use Rattle.kv_model.specs.Stores.{path_in, refusal_of_path, changes_of_path};
+ghost use Rattle.store_laws.specs.Stores.{path_in, refusal_of_path, changes_of_path};
 ghost use Rattle.kv_model.specs.Txns.{Path, replies_of};
 ghost use Rattle.range_view.specs.Replies.{replies_view};
 ghost use Rattle.range_view.specs.Stored.{IsUpTo};
@@ -27,7 +27,7 @@ impl Core {
     ghost use Rattle.kv_model.specs.Calls.{as_call, txn_view};
     ghost use Rattle.kv_model.specs.History.{end_of};
     ghost use Rattle.kv_model.specs.World.{World};
-    ghost use Rattle.kv_model.specs.Stands.{StandsFor};
+    ghost use Rattle.store_laws.specs.Stands.{StandsFor};
     ghost use Rattle.kv_model.specs.Step.{perform};
     ghost use Rattle.request_core.specs.State.{IsTold, added_by, fault_of_txn, added_by_txn, after_txn, raised_from, with_some};
     ghost use Rattle.request_core.specs.Answers.{Accepts, CanReply, IsAllowed, IsRefusal, IsReadable, answer_of, first_refusal, is_beside, reply_left};

@@ -2,7 +2,7 @@
 use Rattle.std.proofs.Common.{sym, ◌∙◌, ap, subst, []}
 use Rattle.kv_model.specs.Calls.{txn_view}
 use Rattle.kv_model.specs.Leases.{is_granted}
-use Rattle.kv_model.proofs.PlaceLaws.{AreBy}
+use Rattle.store_laws.proofs.PlaceLaws.{AreBy}
 use Rattle.txn_core.specs.Planning.{IsRefusal, path_in, made_in, refusal_in}
 use Rattle.txn_core.specs.Steps.{steps_view}
 use Rattle.txn_core.proofs.Making.{by-end, made-planned, refusal-planned}

@@ -1,5 +1,5 @@
 use Rattle.std.proofs.Common.{◌≡◌, ◌+◌, map, drop}
-use Rattle.kv_model.specs.Plans.{ReadsKept}
+use Rattle.store_laws.specs.Plans.{ReadsKept}
 use Rattle.kv_model.specs.Txns.{changes_of, replies_of}
 use Rattle.range_view.specs.Replies.{in_row, op_reply_view}
 use Rattle.txn_core.specs.Steps.{steps_view}

@@ -1,6 +1,6 @@
 use Rattle.std.proofs.Common.{◌≡◌, ℕ, ◌<◌, ◌≤◌, option_map}
 use Rattle.slab.specs.Slab.{get}
-use Rattle.kv_model.specs.Stands.{noted}
+use Rattle.store_laws.specs.Stands.{noted}
 use Rattle.watch_hub.specs.Entries.{seen_in}
 use Rattle.watch_hub.proofs.entries.note_all.Given as goal
 

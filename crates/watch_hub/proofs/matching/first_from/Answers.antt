@@ -2,7 +2,7 @@ use Rattle.std.proofs.Common.{◌&&◌, ◌∙◌, ap, filter, List}
 use Rattle.kv_model.specs.declared.version.Version.{Version}
 use Rattle.std.specs.Prelude.{nat_le}
 use Rattle.kv_model.specs.Events.{matches}
-use Rattle.kv_model.specs.Stands.{first_main_of}
+use Rattle.store_laws.specs.Stands.{first_main_of}
 use Rattle.watch_hub.proofs.Matches.{filter-behind}
 use Rattle.watch_hub.proofs.matching.first_from.Goals as goal
 

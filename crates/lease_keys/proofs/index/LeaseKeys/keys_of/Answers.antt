@@ -1,7 +1,7 @@
 use Rattle.std.proofs.Common.{◌≡◌, [], map, IfOk, unwrap_or, ◌∙◌, ap, subst}
 use Rattle.std.proofs.lemmas.Int.{to_z-of_z}
 use Rattle.std.specs.Int.{w64}
-use Rattle.kv_model.specs.Laws.{IsStrictlyAscending}
+use Rattle.store_laws.specs.Laws.{IsStrictlyAscending}
 use Rattle.lease_keys.specs.Pairs.{keys_at}
 use Rattle.lease_keys.proofs.index.LeaseKeys.keys_of.Goals as goal
 

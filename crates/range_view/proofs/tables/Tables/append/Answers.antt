@@ -1,6 +1,6 @@
 -- No versions change nothing.
 use Rattle.std.proofs.Common.{◌∙◌, sym, ap}
-use Rattle.kv_model.specs.Stands.{first_main_of}
+use Rattle.store_laws.specs.Stands.{first_main_of}
 use Rattle.range_view.proofs.Growing.{appended-nothing}
 use Rattle.range_view.proofs.tables.Tables.append.Goals as goal
 

@@ -2,7 +2,7 @@
 use Rattle.std.proofs.Common.{◌≡◌, ◌∙◌, ap, sym, arith, [], None, Some}
 use Rattle.std.specs.Prelude.{option_map, option_to_list, Option}
 use Rattle.kv_model.specs.History.{KeyValue}
-use Rattle.kv_model.proofs.KeyLaws.{live-one}
+use Rattle.store_laws.proofs.KeyLaws.{live-one}
 use Rattle.range_view.specs.Replies.{kv_view}
 use Rattle.range_view.proofs.view.View.walk_one.Goals as goal
 use Rattle.range_view.proofs.view.View.walk_one.Goals.{in-Some+in_ok-add-in-Some, in-None}

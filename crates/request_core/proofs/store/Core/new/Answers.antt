@@ -1,7 +1,7 @@
 use Rattle.std.proofs.Common.{sym, subst}
 use Rattle.kv_model.specs.World.{opening}
-use Rattle.kv_model.specs.Stands.{Store, StandsFor}
-use Rattle.kv_model.proofs.Openings.{blank_good}
+use Rattle.store_laws.specs.Stands.{Store, StandsFor}
+use Rattle.store_laws.proofs.Openings.{blank_good}
 use Rattle.request_core.proofs.store.Core.new.Goals as goal
 
 pub returns : goal.returns

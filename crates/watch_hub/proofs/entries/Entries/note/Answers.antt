@@ -1,5 +1,5 @@
 use Rattle.std.proofs.Common.{map, ◌∙◌, ap}
-use Rattle.kv_model.specs.Stands.{noted}
+use Rattle.store_laws.specs.Stands.{noted}
 use Rattle.watch_hub.specs.Entries.{seen_in}
 use Rattle.watch_hub.proofs.Placing.{all-listed}
 use Rattle.watch_hub.proofs.entries.Entries.note.Goals as goal

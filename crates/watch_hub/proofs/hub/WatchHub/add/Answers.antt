@@ -1,5 +1,5 @@
 use Rattle.std.proofs.Common.{sym, ap, subst}
-use Rattle.kv_model.specs.Stands.{Tracked}
+use Rattle.store_laws.specs.Stands.{Tracked}
 use Rattle.watch_hub.specs.Entries.{AreUpTo, tracked_of}
 use Rattle.std.proofs.Common.{◌+◌}
 use Rattle.watch_hub.proofs.Placing.{up-to-push}

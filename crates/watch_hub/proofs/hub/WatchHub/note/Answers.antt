@@ -1,5 +1,5 @@
 use Rattle.std.proofs.Common.{sym, subst}
-use Rattle.kv_model.specs.Stands.{noted}
+use Rattle.store_laws.specs.Stands.{noted}
 use Rattle.watch_hub.specs.Entries.{AreUpTo}
 use Rattle.watch_hub.proofs.Placing.{up-to-map, noted-number}
 use Rattle.watch_hub.proofs.hub.WatchHub.note.Goals as goal

@@ -1,5 +1,0 @@
-use Rattle.kv_model.proofs.FeedLaws.{command_one}
-use Rattle.kv_model.proofs.feed_laws.command_is_one_change.Goals as goal
-
-pub returns : goal.returns
-returns c = command_one

@@ -1,5 +1,0 @@
-use Rattle.kv_model.proofs.FeedLaws.{expiry_one}
-use Rattle.kv_model.proofs.feed_laws.expiry_is_one_change.Goals as goal
-
-pub returns : goal.returns
-returns c = expiry_one

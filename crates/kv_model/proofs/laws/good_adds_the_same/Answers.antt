@@ -1,5 +1,0 @@
-use Rattle.kv_model.proofs.BatchLaws.{good-added, dress-added}
-use Rattle.kv_model.proofs.laws.good_adds_the_same.Goals as goal
-
-pub returns : goal.returns
-returns c = λ vs ms us c g h f. (good-added vs ms us c g h f, dress-added ms us)

@@ -1,0 +1,7 @@
+pub mod Plans
+pub mod FeedLaws
+pub mod Stands
+pub mod Stores
+pub mod TrimmingLaws
+pub mod Laws
+pub mod Growth

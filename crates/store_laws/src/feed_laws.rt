@@ -1,0 +1,27 @@
+//! Laws of what is published to readers, each the contract of a function that does nothing.
+ghost use Rattle.store_laws.specs.FeedLaws.{CommandIsPublished, ExpiryIsPublished, CommandIsOneChange, ExpiryIsOneChange, ReaderStoresPart};
+
+/// What a command publishes leads from its world to the world after it.
+pub fn command_is_published()
+    ensures { CommandIsPublished }
+{}
+
+/// What an expiry step publishes leads from its world to the world after it.
+pub fn expiry_is_published()
+    ensures { ExpiryIsPublished }
+{}
+
+/// A command publishes one operation or none.
+pub fn command_is_one_change()
+    ensures { CommandIsOneChange }
+{}
+
+/// An expiry step publishes one operation or none.
+pub fn expiry_is_one_change()
+    ensures { ExpiryIsOneChange }
+{}
+
+/// A reader stores some of the versions that were published.
+pub fn reader_stores_part()
+    ensures { ReaderStoresPart }
+{}
