@@ -5,3 +5,4 @@ pub mod Stores
 pub mod TrimmingLaws
 pub mod Laws
 pub mod Growth
+pub mod PlanLaws

@@ -3,4 +3,5 @@
 
 pub mod feed_laws;
 pub mod laws;
+pub mod plan_laws;
 pub mod trimming_laws;
