@@ -1,5 +1,7 @@
 -- The texts of answers (etcd: the JSON gateway): names in byte order, a field at its default left out.
-use Rattle.std.specs.Prelude.{ℕ, ℤ, pos, List, [], ◌∷◌, ◌++◌, map, Bool, true, ◌==◌, if◌then◌else◌, Option, None, Some, option_map, Result, Ok, Err, codes, decimal}
+use Rattle.std.specs.Prelude.{
+  ℕ, ℤ, pos, List, [], ◌∷◌, ◌++◌, map, Bool, true, ◌==◌, if◌then◌else◌, Option, None, Some, option_map, Result, Ok, Err,
+  codes, decimal}
 use Rattle.std.specs.Fmt.{signed_decimal}
 use Rattle.std.specs.Ordering.{int_eq}
 use Rattle.serde_json.specs.Data.{Num, Data, Items, Members}
@@ -10,7 +12,9 @@ use Rattle.kv_model.specs.declared.version.Version.{Version}
 use Rattle.kv_model.specs.declared.version.Body.{Body}
 use Rattle.kv_model.specs.declared.version.Body.TheVariants.{Put, Gone}
 use Rattle.kv_model.specs.declared.refusal.Refusal.{Refusal}
-use Rattle.kv_model.specs.declared.refusal.Refusal.TheVariants.{Memory, Compacted, Future, NoKey, TooManyOps, DuplicateKey, ValueGiven, LeaseGiven, TooDeep, KeyMissing, LeaseMissing, LeaseExists, TtlTooLarge, TooManyLeases, TooManyWatches, NoWatch, RevisionsSpent, NoPlace}
+use Rattle.kv_model.specs.declared.refusal.Refusal.TheVariants.{
+  Memory, Compacted, Future, NoKey, TooManyOps, DuplicateKey, ValueGiven, LeaseGiven, TooDeep, KeyMissing, LeaseMissing,
+  LeaseExists, TtlTooLarge, TooManyLeases, TooManyWatches, NoWatch, RevisionsSpent, NoPlace}
 use Rattle.kv_model.specs.declared.ids.Ids.{Ids}
 use Rattle.kv_model.specs.Lists.{is_empty}
 use Rattle.kv_model.specs.History.{KeyValue, key_value}
@@ -64,27 +68,33 @@ object fs = Data.object (members fs)
 -- ---- the messages
 
 unfoldable pub header : Ids → ℕ → Data
-header ids r = object ((codes "cluster_id", nat_field ids.cluster) ∷ (codes "member_id", nat_field ids.member) ∷ (codes "raft_term", nat_field 1) ∷ (codes "revision", nat_field r) ∷ [])
+header ids r = object ((codes "cluster_id", nat_field ids.cluster) ∷ (codes "member_id", nat_field ids.member)
+    ∷ (codes "raft_term", nat_field 1) ∷ (codes "revision", nat_field r) ∷ [])
 
 -- the header within a transaction has the revision alone
 unfoldable pub short_header : ℕ → Data
 short_header r = object ((codes "revision", nat_field r) ∷ [])
 
 unfoldable pub key_value_text : KeyValue → Data
-key_value_text kv = object ((codes "create_revision", nat_field kv.create) ∷ (codes "key", bytes_field kv.key) ∷ (codes "lease", int_field kv.lease)
-    ∷ (codes "mod_revision", nat_field kv.modified) ∷ (codes "value", bytes_field kv.value) ∷ (codes "version", nat_field kv.version) ∷ [])
+key_value_text kv = object ((codes "create_revision", nat_field kv.create) ∷ (codes "key", bytes_field kv.key)
+    ∷ (codes "lease", int_field kv.lease)
+    ∷ (codes "mod_revision", nat_field kv.modified) ∷ (codes "value", bytes_field kv.value)
+    ∷ (codes "version", nat_field kv.version) ∷ [])
 
 unfoldable pub range_text : Data → RangeReply → Data
-range_text h r = object ((codes "count", nat_field r.count) ∷ (codes "header", Some h) ∷ (codes "kvs", list_field (map key_value_text r.kvs)) ∷ (codes "more", truth_field r.more) ∷ [])
+range_text h r = object ((codes "count", nat_field r.count) ∷ (codes "header", Some h)
+    ∷ (codes "kvs", list_field (map key_value_text r.kvs)) ∷ (codes "more", truth_field r.more) ∷ [])
 
 unfoldable pub put_text : Data → Option KeyValue → Data
 put_text h held = object ((codes "header", Some h) ∷ (codes "prev_kv", option_map key_value_text held) ∷ [])
 
 unfoldable pub delete_text : Data → ℕ → List KeyValue → Data
-delete_text h n kvs = object ((codes "deleted", nat_field n) ∷ (codes "header", Some h) ∷ (codes "prev_kvs", list_field (map key_value_text kvs)) ∷ [])
+delete_text h n kvs = object ((codes "deleted", nat_field n) ∷ (codes "header", Some h)
+    ∷ (codes "prev_kvs", list_field (map key_value_text kvs)) ∷ [])
 
 unfoldable pub txn_text : Data → Bool → List Data → Data
-txn_text h b responses = object ((codes "header", Some h) ∷ (codes "responses", list_field responses) ∷ (codes "succeeded", truth_field b) ∷ [])
+txn_text h b responses = object ((codes "header", Some h) ∷ (codes "responses", list_field responses)
+    ∷ (codes "succeeded", truth_field b) ∷ [])
 
 unfoldable pub response : List ℕ → Data → Data
 response name d = object ((name, Some d) ∷ [])
@@ -92,10 +102,14 @@ response name d = object ((name, Some d) ∷ [])
 -- the responses of a transaction that ends at the revision
 unfoldable pub responses : ℕ → Replies → List Data
 responses r Replies.no_replies = []
-responses r (Replies.range reply rest) = response (codes "response_range") (range_text (short_header r) reply) ∷ responses r rest
-responses r (Replies.put held rest) = response (codes "response_put") (put_text (short_header r) held) ∷ responses r rest
-responses r (Replies.delete n kvs rest) = response (codes "response_delete_range") (delete_text (short_header r) n kvs) ∷ responses r rest
-responses r (Replies.txn b inner rest) = response (codes "response_txn") (txn_text (short_header r) b (responses r inner)) ∷ responses r rest
+responses r (Replies.range reply rest) = response (codes "response_range") (range_text (short_header r) reply)
+    ∷ responses r rest
+responses r (Replies.put held rest) = response (codes "response_put") (put_text (short_header r) held)
+    ∷ responses r rest
+responses r (Replies.delete n kvs rest) = response (codes "response_delete_range") (delete_text (short_header r) n kvs)
+    ∷ responses r rest
+responses r (Replies.txn b inner rest) = response (codes "response_txn") (txn_text (short_header r) b
+    (responses r inner)) ∷ responses r rest
 
 unfoldable pub header_alone : Data → Data
 header_alone h = object ((codes "header", Some h) ∷ [])
@@ -108,7 +122,8 @@ unfoldable pub lease_text : ℤ → Data
 lease_text id = object ((codes "ID", int_field id) ∷ [])
 
 unfoldable pub created_text : Data → ℤ → Data
-created_text h id = result_text (object ((codes "created", truth_field true) ∷ (codes "header", Some h) ∷ (codes "watch_id", int_field id) ∷ []))
+created_text h id = result_text (object ((codes "created", truth_field true) ∷ (codes "header", Some h)
+    ∷ (codes "watch_id", int_field id) ∷ []))
 
 unfoldable pub reply_text : Data → ℕ → Reply → Data
 reply_text h r (Reply.range reply) = range_text h reply
@@ -117,12 +132,16 @@ reply_text h r (Reply.delete n kvs) = delete_text h n kvs
 reply_text h r (Reply.txn b replies) = txn_text h b (responses r replies)
 reply_text h r Reply.compact = header_alone h
 reply_text h r (Reply.watch id number) = created_text h id
-reply_text h r (Reply.grant id ttl) = object ((codes "ID", int_field id) ∷ (codes "TTL", nat_field ttl) ∷ (codes "header", Some h) ∷ [])
+reply_text h r (Reply.grant id ttl) = object ((codes "ID", int_field id) ∷ (codes "TTL", nat_field ttl)
+    ∷ (codes "header", Some h) ∷ [])
 reply_text h r Reply.revoke = header_alone h
-reply_text h r (Reply.keep_alive id ttl) = result_text (object ((codes "ID", int_field id) ∷ (codes "TTL", nat_field ttl) ∷ (codes "header", Some h) ∷ []))
-reply_text h r (Reply.time_to_live id ttl granted keys) = object ((codes "ID", int_field id) ∷ (codes "TTL", int_field ttl) ∷ (codes "grantedTTL", nat_field granted)
+reply_text h r (Reply.keep_alive id ttl) = result_text (object ((codes "ID", int_field id)
+    ∷ (codes "TTL", nat_field ttl) ∷ (codes "header", Some h) ∷ []))
+reply_text h r (Reply.time_to_live id ttl granted keys) = object ((codes "ID", int_field id)
+    ∷ (codes "TTL", int_field ttl) ∷ (codes "grantedTTL", nat_field granted)
     ∷ (codes "header", Some h) ∷ (codes "keys", list_field (map bytes_text keys)) ∷ [])
-reply_text h r (Reply.leases ids) = object ((codes "header", Some h) ∷ (codes "leases", list_field (map lease_text ids)) ∷ [])
+reply_text h r (Reply.leases ids) = object ((codes "header", Some h) ∷ (codes "leases", list_field (map lease_text ids))
+    ∷ [])
 
 -- ---- watch messages
 
@@ -138,13 +157,16 @@ event_type (Put create version lease value) = None
 event_type Gone = Some (text_of (codes "DELETE"))
 
 unfoldable pub event_text : WatchEvent → Data
-event_text e = object ((codes "kv", Some (version_text e.version (key_value e.version))) ∷ (codes "prev_kv", option_map key_value_text e.before) ∷ (codes "type", event_type e.version.body) ∷ [])
+event_text e = object ((codes "kv", Some (version_text e.version (key_value e.version)))
+    ∷ (codes "prev_kv", option_map key_value_text e.before) ∷ (codes "type", event_type e.version.body) ∷ [])
 
 unfoldable pub events_text : Data → ℤ → List WatchEvent → Data
-events_text h id es = result_text (object ((codes "events", list_field (map event_text es)) ∷ (codes "header", Some h) ∷ (codes "watch_id", int_field id) ∷ []))
+events_text h id es = result_text (object ((codes "events", list_field (map event_text es)) ∷ (codes "header", Some h)
+    ∷ (codes "watch_id", int_field id) ∷ []))
 
 unfoldable pub cancelled_text : Data → ℤ → ℕ → Data
-cancelled_text h id c = result_text (object ((codes "canceled", truth_field true) ∷ (codes "compact_revision", nat_field c) ∷ (codes "header", Some h) ∷ (codes "watch_id", int_field id) ∷ []))
+cancelled_text h id c = result_text (object ((codes "canceled", truth_field true) ∷ (codes "compact_revision",
+    nat_field c) ∷ (codes "header", Some h) ∷ (codes "watch_id", int_field id) ∷ []))
 
 -- ---- refusals: status, code and text
 
@@ -188,7 +210,8 @@ fault_of_bad (Bad.bad_field name) = fault 400 3 (codes "gateway: bad field " ++ 
 fault_of_bad (Bad.bad_base64 name) = fault 400 3 (codes "gateway: bad base64 in " ++ name)
 
 unfoldable pub fault_text : Fault → Data
-fault_text f = object ((codes "code", Some (Data.number (Num.unsigned f.code))) ∷ (codes "error", Some (text_of f.text)) ∷ (codes "message", Some (text_of f.text)) ∷ [])
+fault_text f = object ((codes "code", Some (Data.number (Num.unsigned f.code))) ∷ (codes "error", Some (text_of f.text))
+    ∷ (codes "message", Some (text_of f.text)) ∷ [])
 
 -- ---- the bytes
 

@@ -1,5 +1,7 @@
 -- Certificates: a dump of the versions that are kept, a need for each, and what a check of the two finds.
-use Rattle.std.specs.Prelude.{◌≡◌, ℕ, max, List, [], ◌∷◌, find, filter_map, count_by, Bool, not, ◌&&◌, ◌==◌, nat_lt, nat_le, if◌then◌else◌, Option, None, Some, option_map, ⊤}
+use Rattle.std.specs.Prelude.{
+  ◌≡◌, ℕ, max, List, [], ◌∷◌, find, filter_map, count_by, Bool, not, ◌&&◌, ◌==◌, nat_lt, nat_le, if◌then◌else◌, Option,
+  None, Some, option_map, ⊤}
 use Rattle.std.specs.Option.{option_or}
 use Rattle.kv_model.specs.declared.version.Rev.{Rev}
 use Rattle.kv_model.specs.declared.version.Version.{Version}
@@ -28,7 +30,8 @@ pub record Claim : Type 0 where
 -- The last put of its key answers a Range, and any other put that is above the floor answers one at its own revision.
 -- A tombstone from the floor on answers a watch. What is left has no need.
 abbrev pub need_of : Dump → Version → Body → Option Need
-need_of d v (Put create version lease value) = if is_superseded d.versions (max v.rev.main d.floor) v then None else Some (Need.range (max v.rev.main d.floor))
+need_of d v (Put create version lease value) = if is_superseded d.versions (max v.rev.main d.floor) v then None
+    else Some (Need.range (max v.rev.main d.floor))
 need_of d v Gone = if nat_le d.floor v.rev.main then Some (Need.watch v.rev.main) else None
 
 abbrev pub claim_of : Dump → Version → Option Claim
@@ -46,7 +49,8 @@ is_asked d v r = not (is_empty v.key) && nat_le 1 r && nat_le d.floor r && nat_l
 
 -- the version answers the question: a Range shows it, or a watch of its revision tells of it
 abbrev pub is_met : Dump → Version → Need → Bool
-is_met d v (Need.range r) = is_asked d v r && not (is_tombstone v.body) && nat_le v.rev.main r && not (is_superseded d.versions r v)
+is_met d v (Need.range r) = is_asked d v r && not (is_tombstone v.body) && nat_le v.rev.main r
+    && not (is_superseded d.versions r v)
 is_met d v (Need.watch r) = is_asked d v r && v.rev.main == r
 
 pub data NeedFault : Type 0 where

@@ -1,5 +1,7 @@
 -- What a run keeps: each change adds, and trimming takes out what no least list needs.
-use Rattle.std.specs.Prelude.{◌≡◌, ℕ, List, [], ◌∷◌, ◌++◌, length, filter, Bool, nat_lt, nat_le, if◌then◌else◌, MatchBool, MatchOption, Option, None, Some, ⊤}
+use Rattle.std.specs.Prelude.{
+  ◌≡◌, ℕ, List, [], ◌∷◌, ◌++◌, length, filter, Bool, nat_lt, nat_le, if◌then◌else◌, MatchBool, MatchOption, Option,
+  None, Some, ⊤}
 use Rattle.kv_model.specs.declared.version.Version.{Version}
 use Rattle.kv_model.specs.declared.ids.Ids.{Ids}
 use Rattle.kv_model.specs.Lists.{IsIn}
@@ -58,9 +60,11 @@ pub record IsDone (w : World) (k : Keeping) (n : ℕ) (certificate : Option (Lis
   pub least : IsLeast k.kept w.mutations w.compacted
   pub certified : MatchOption certificate ⊤ (IsCertificate w k.kept)
 
--- A trimming step names the next version to visit: removed where no least list has it, and else kept. Without a next one it is done.
+-- A trimming step names the next version to visit: removed where no least list has it, and else kept. Without a next
+-- one it is done.
 abbrev pub Trims : World → Keeping → List Version → WireTold → Keeping → Type 0
-Trims w k (v ∷ vs) (WireTold.removed p) l = (p ≡ v.rev) × (IsInLeast w v → ⊥) × (l ≡ record { kept = without_rev (Some p) k.kept; ahead = vs })
+Trims w k (v ∷ vs) (WireTold.removed p) l = (p ≡ v.rev) × (IsInLeast w v → ⊥)
+    × (l ≡ record { kept = without_rev (Some p) k.kept; ahead = vs })
 Trims w k (v ∷ vs) (WireTold.kept p) l = (p ≡ v.rev) × IsInLeast w v × (l ≡ record { kept = k.kept; ahead = vs })
 Trims w k [] (WireTold.done n certificate) l = IsDone w k n certificate × (l ≡ k)
 Trims w k _ _ l = ⊥

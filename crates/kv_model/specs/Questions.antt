@@ -49,7 +49,8 @@ answered = answered_by before_is_kept
 -- some of the versions, that answer every question between the two as all of them do
 pub record IsGoodBy (has_before : ℕ → ℕ → Bool) (whole : List Version) (c now : ℕ) (vs : List Version) : Type 0 where
   pub part : IsPart vs whole
-  pub answers : (q : Question) → IsQuestion c now q → answered_by has_before vs c now q ≡ answered_by has_before whole c now q
+  pub answers : (q : Question) → IsQuestion c now q → answered_by has_before vs c now q
+      ≡ answered_by has_before whole c now q
 
 -- and no fewer do
 pub record IsLeastBy (has_before : ℕ → ℕ → Bool) (whole : List Version) (c now : ℕ) (vs : List Version) : Type 0 where

@@ -1,5 +1,8 @@
 -- What a request asks, read from its path and from the JSON value of its body (etcd: the JSON gateway).
-use Rattle.std.specs.Prelude.{ℕ, zero, suc, ◌+◌, ◌-◌, ◌*◌, ◌^◌, ℤ, pos, neg_ℤ, List, [], ◌∷◌, length, map, fold, slice_get, Bool, true, false, not, ◌&&◌, ◌==◌, nat_lt, int_le, int_lt, if◌then◌else◌, Option, None, Some, option_map, option_and_then, Result, Ok, Err, codes}
+use Rattle.std.specs.Prelude.{
+  ℕ, zero, suc, ◌+◌, ◌-◌, ◌*◌, ◌^◌, ℤ, pos, neg_ℤ, List, [], ◌∷◌, length, map, fold, slice_get, Bool, true, false, not,
+  ◌&&◌, ◌==◌, nat_lt, int_le, int_lt, if◌then◌else◌, Option, None, Some, option_map, option_and_then, Result, Ok, Err,
+  codes}
 use Rattle.std.specs.Option.{option_or}
 use Rattle.std.specs.List.{list_any, list_all}
 use Rattle.std.specs.Result.{result_ok}
@@ -88,11 +91,13 @@ members_of _ = None
 
 -- at least one digit, and nothing else
 abbrev pub digits_value : List ℕ → Option ℕ
-digits_value ds = if not (is_empty ds) && list_all is_ascii_digit ds then Some (fold (λ n d. n * 10 + (d - 48)) 0 ds) else None
+digits_value ds = if not (is_empty ds) && list_all is_ascii_digit ds then Some (fold (λ n d. n * 10 + (d - 48)) 0 ds)
+    else None
 
 abbrev pub signed_value : List ℕ → Option ℤ
 signed_value [] = None
-signed_value (x ∷ xs) = if x == 45 then option_map (λ n. neg_ℤ (pos n)) (digits_value xs) else option_map pos (digits_value (x ∷ xs))
+signed_value (x ∷ xs) = if x == 45 then option_map (λ n. neg_ℤ (pos n)) (digits_value xs)
+    else option_map pos (digits_value (x ∷ xs))
 
 -- it fits 64 signed bits
 abbrev pub if_signed_64 : ℤ → Option ℤ
@@ -150,10 +155,12 @@ abbrev pub sort_orders : List (List ℕ × SortOrder)
 sort_orders = (codes "NONE", Unsorted) ∷ (codes "ASCEND", Ascend) ∷ (codes "DESCEND", Descend) ∷ []
 
 abbrev pub sort_targets : List (List ℕ × SortTarget)
-sort_targets = (codes "KEY", ByKey) ∷ (codes "VERSION", ByVersion) ∷ (codes "CREATE", ByCreate) ∷ (codes "MOD", ByMod) ∷ (codes "VALUE", ByValue) ∷ []
+sort_targets = (codes "KEY", ByKey) ∷ (codes "VERSION", ByVersion) ∷ (codes "CREATE", ByCreate) ∷ (codes "MOD", ByMod)
+    ∷ (codes "VALUE", ByValue) ∷ []
 
 abbrev pub relations : List (List ℕ × Relation)
-relations = (codes "EQUAL", IsEqual) ∷ (codes "GREATER", IsGreater) ∷ (codes "LESS", IsLess) ∷ (codes "NOT_EQUAL", IsNotEqual) ∷ []
+relations = (codes "EQUAL", IsEqual) ∷ (codes "GREATER", IsGreater) ∷ (codes "LESS", IsLess)
+    ∷ (codes "NOT_EQUAL", IsNotEqual) ∷ []
 
 -- what a compare looks at
 pub data Target : Type 0 where
@@ -164,7 +171,8 @@ pub data Target : Type 0 where
   to_lease : Target
 
 abbrev pub targets : List (List ℕ × Target)
-targets = (codes "VERSION", Target.to_version) ∷ (codes "CREATE", Target.to_create) ∷ (codes "MOD", Target.to_mod) ∷ (codes "VALUE", Target.to_value) ∷ (codes "LEASE", Target.to_lease) ∷ []
+targets = (codes "VERSION", Target.to_version) ∷ (codes "CREATE", Target.to_create) ∷ (codes "MOD", Target.to_mod)
+    ∷ (codes "VALUE", Target.to_value) ∷ (codes "LEASE", Target.to_lease) ∷ []
 
 pub data Filter : Type 0 where
   no_put : Filter
@@ -217,7 +225,8 @@ put_request ms = do
   prev_kv ← truth_field (codes "prev_kv") ms
   ignore_value ← truth_field (codes "ignore_value") ms
   ignore_lease ← truth_field (codes "ignore_lease") ms
-  Ok (record { key = key; value = value; lease = lease; prev_kv = prev_kv; ignore_value = ignore_value; ignore_lease = ignore_lease })
+  Ok (record { key = key; value = value; lease = lease; prev_kv = prev_kv; ignore_value = ignore_value;
+      ignore_lease = ignore_lease })
 
 unfoldable pub delete_request : Members → Read DeleteRequest
 delete_request ms = do
@@ -245,7 +254,8 @@ compare_request d = do
   modified ← integer_field (codes "mod_revision") ms
   value ← bytes_field (codes "value") ms
   lease ← integer_field (codes "lease") ms
-  Ok (record { range = record { key = key; end = end }; relation = result; operand = operand_of target version create modified value lease })
+  Ok (record { range = record { key = key; end = end }; relation = result;
+      operand = operand_of target version create modified value lease })
 
 -- the message under this name
 abbrev pub message : {X : Type 0} → List ℕ → (Members → Read X) → Data → Read X
@@ -253,9 +263,12 @@ message name f d = some_or (bad_field name) (members_of d) >>= f
 
 -- exactly one of the four kinds
 abbrev pub one_kind : List ℕ → (Members → Read Ops) → Option Data → Option Data → Option Data → Option Data → Read Ops
-one_kind name txn (Some d) None None None = message (codes "request_range") range_query d >>= λ q. Ok (Ops.range q Ops.no_ops)
-one_kind name txn None (Some d) None None = message (codes "request_put") put_request d >>= λ p. Ok (Ops.put p Ops.no_ops)
-one_kind name txn None None (Some d) None = message (codes "request_delete_range") delete_request d >>= λ r. Ok (Ops.delete r Ops.no_ops)
+one_kind name txn (Some d) None None None = message (codes "request_range") range_query d >>= λ q. Ok
+    (Ops.range q Ops.no_ops)
+one_kind name txn None (Some d) None None = message (codes "request_put") put_request d >>= λ p. Ok
+    (Ops.put p Ops.no_ops)
+one_kind name txn None None (Some d) None = message (codes "request_delete_range") delete_request d >>= λ r. Ok
+    (Ops.delete r Ops.no_ops)
 one_kind name txn None None None (Some d) = message (codes "request_txn") txn d
 one_kind name txn _ _ _ _ = Err (bad_field name)
 
@@ -263,7 +276,8 @@ one_kind name txn _ _ _ _ = Err (bad_field name)
 abbrev pub operation : (Members → Read Ops) → List ℕ → Data → Read Ops
 operation txn name d = do
   ms ← some_or (bad_field name) (members_of d)
-  one_kind name txn (given (codes "request_range") ms) (given (codes "request_put") ms) (given (codes "request_delete_range") ms) (given (codes "request_txn") ms)
+  one_kind name txn (given (codes "request_range") ms) (given (codes "request_put") ms)
+      (given (codes "request_delete_range") ms) (given (codes "request_txn") ms)
 
 abbrev pub branch : (Members → Read Ops) → List ℕ → Members → Read Ops
 branch txn name ms = do
@@ -271,7 +285,8 @@ branch txn name ms = do
   ops ← each (operation txn name) items
   Ok (joined ops)
 
--- A transaction, as a row of one. Transactions nest to this depth at most; a body that `serde_json` reads nests to 127, and each transaction takes three levels.
+-- A transaction, as a row of one. Transactions nest to this depth at most; a body that `serde_json` reads nests to 127,
+-- and each transaction takes three levels.
 abbrev pub most_nested : ℕ
 most_nested = 127
 
@@ -296,7 +311,8 @@ watch_create ms = do
   fs ← each filter_request items
   prev_kv ← truth_field (codes "prev_kv") ms
   id ← integer_field (codes "watch_id") ms
-  Ok (Call.watch (record { range = record { key = key; end = end }; no_put = list_any drops_puts fs; no_delete = list_any (λ f. not (drops_puts f)) fs; prev_kv = prev_kv }) start id)
+  Ok (Call.watch (record { range = record { key = key; end = end }; no_put = list_any drops_puts fs;
+      no_delete = list_any (λ f. not (drops_puts f)) fs; prev_kv = prev_kv }) start id)
 
 unfoldable pub watch_request : Members → Read Call
 watch_request ms = do
@@ -356,7 +372,8 @@ abbrev pub json_of : List ℕ → Option Data
 json_of text = if is_utf8 text then read text else None
 
 abbrev pub object_of : List ℕ → Read Members
-object_of body = if nat_lt longest_body (length body) then Err too_long else some_or not_json (option_and_then members_of (json_of (body_or_empty body)))
+object_of body = if nat_lt longest_body (length body) then Err too_long
+    else some_or not_json (option_and_then members_of (json_of (body_or_empty body)))
 
 -- the command that a request asks for, or its first fault
 unfoldable pub request_of : List ℕ → List ℕ → Read Call

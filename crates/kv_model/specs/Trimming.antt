@@ -1,5 +1,7 @@
 -- Trimming: one step looks at one version at or below the compaction, the oldest first (etcd: mvcc compaction).
-use Rattle.std.specs.Prelude.{◌≡◌, ℕ, ◌+◌, ◌-◌, ◌^◌, List, length, filter, find, Bool, false, not, ◌&&◌, ◌||◌, ◌==◌, nat_lt, nat_le, if◌then◌else◌, Option, None, Some}
+use Rattle.std.specs.Prelude.{
+  ◌≡◌, ℕ, ◌+◌, ◌-◌, ◌^◌, List, length, filter, find, Bool, false, not, ◌&&◌, ◌||◌, ◌==◌, nat_lt, nat_le, if◌then◌else◌,
+  Option, None, Some}
 use Rattle.std.specs.List.{list_any, AllByRecursion}
 use Rattle.kv_model.specs.declared.version.Rev.{Rev}
 use Rattle.kv_model.specs.declared.version.Version.{Version}
@@ -71,6 +73,7 @@ abbrev pub trimmed_next : List Version → Rev → ℕ → Option Version → Tr
 trimmed_next vs p c None = finished vs p
 trimmed_next vs p c (Some v) = if nat_le v.rev.main c then visited vs c v else finished vs p
 
--- one step over versions that rise, from a place on: it looks at the first version that is not before the place, if that is at or below c
+-- one step over versions that rise, from a place on: it looks at the first version that is not before the place, if
+-- that is at or below c
 unfoldable pub trimmed : List Version → Rev → ℕ → TrimStep
 trimmed vs p c = trimmed_next vs p c (find (λ v. not (rev_lt v.rev p)) vs)

@@ -1,5 +1,7 @@
 -- Transactions: what is refused, which branch runs, and what it changes (etcd: TxnRequest).
-use Rattle.std.specs.Prelude.{ℕ, zero, suc, ◌+◌, ◌-◌, ℤ, pos, List, [], ◌∷◌, ◌++◌, length, map, Bool, true, false, not, ◌&&◌, ◌||◌, nat_lt, nat_le, if◌then◌else◌, Option, None, Some, is_none, option_map, unwrap_or}
+use Rattle.std.specs.Prelude.{
+  ℕ, zero, suc, ◌+◌, ◌-◌, ℤ, pos, List, [], ◌∷◌, ◌++◌, length, map, Bool, true, false, not, ◌&&◌, ◌||◌, nat_lt, nat_le,
+  if◌then◌else◌, Option, None, Some, is_none, option_map, unwrap_or}
 use Rattle.std.specs.Option.{option_or}
 use Rattle.std.specs.List.{list_any, list_all}
 use Rattle.std.specs.declared.cmp.Ordering.{Ordering}
@@ -18,7 +20,8 @@ use Rattle.kv_model.specs.declared.call.Relation.TheVariants.{IsEqual, IsGreater
 use Rattle.kv_model.specs.declared.call.Operand.{Operand}
 use Rattle.kv_model.specs.declared.call.Operand.TheVariants.{OfVersion, OfCreate, OfMod, OfValue, OfLease}
 use Rattle.kv_model.specs.declared.refusal.Refusal.{Refusal}
-use Rattle.kv_model.specs.declared.refusal.Refusal.TheVariants.{NoKey, TooDeep, TooManyOps, ValueGiven, LeaseGiven, KeyMissing, LeaseMissing, DuplicateKey}
+use Rattle.kv_model.specs.declared.refusal.Refusal.TheVariants.{
+  NoKey, TooDeep, TooManyOps, ValueGiven, LeaseGiven, KeyMissing, LeaseMissing, DuplicateKey}
 use Rattle.kv_model.specs.Lists.{is_empty}
 use Rattle.kv_model.specs.Keys.{key_cmp, same_key, in_range}
 use Rattle.kv_model.specs.History.{Mutation, Action, KeyValue, value_at, end_of, value_now}
@@ -128,7 +131,8 @@ clashes Ops.no_ops = false
 clashes (Ops.range q rest) = clashes rest
 clashes (Ops.put p rest) = list_any (collides (Touch.one p.key)) (touches rest) || clashes rest
 clashes (Ops.delete d rest) = list_any (collides (Touch.each d.range)) (touches rest) || clashes rest
-clashes (Ops.txn cs s f rest) = any_collide (touches s ++ touches f) (touches rest) || clashes s || clashes f || clashes rest
+clashes (Ops.txn cs s f rest) = any_collide (touches s ++ touches f) (touches rest) || clashes s || clashes f
+    || clashes rest
 
 unfoldable pub static_fault : Ops → Option Refusal
 static_fault ops = option_or (walk_fault 0 ops) (refuse_if (clashes ops) DuplicateKey)
@@ -183,12 +187,14 @@ put_action p held = Action.put (if p.ignore_value then unwrap_or (option_map (λ
     (if p.ignore_lease then unwrap_or (option_map (λ kv. kv.lease) held) (pos 0) else p.lease)
 
 abbrev pub put_change : List Version → ℕ → ℕ → PutRequest → Mutation
-put_change vs main sub p = record { rev = record { main = main; sub = sub }; key = p.key; action = put_action p (value_now vs p.key) }
+put_change vs main sub p = record { rev = record { main = main; sub = sub }; key = p.key;
+    action = put_action p (value_now vs p.key) }
 
 -- one delete for each of the keys, numbered on
 abbrev pub deletes_of : ℕ → ℕ → List (List ℕ) → List Mutation
 deletes_of main sub [] = []
-deletes_of main sub (k ∷ ks) = (record { rev = record { main = main; sub = sub }; key = k; action = Action.delete }) ∷ deletes_of main (suc sub) ks
+deletes_of main sub (k ∷ ks) = (record { rev = record { main = main; sub = sub }; key = k; action = Action.delete })
+    ∷ deletes_of main (suc sub) ks
 
 abbrev pub delete_changes : List Version → ℕ → ℕ → DeleteRequest → List Mutation
 delete_changes vs main sub d = deletes_of main sub (map (λ kv. kv.key) (live_now vs d.range))
@@ -214,19 +220,23 @@ abbrev pub put_lease_refusal : (ℤ → Bool) → PutRequest → Option Refusal
 put_lease_refusal granted p = refuse_if (not (int_eq p.lease (pos 0)) && not (granted p.lease)) LeaseMissing
 
 abbrev pub put_refusal : (ℤ → Bool) → List Version → PutRequest → Option Refusal
-put_refusal granted vs p = option_or (refuse_if ((p.ignore_value || p.ignore_lease) && is_none (value_now vs p.key)) KeyMissing) (put_lease_refusal granted p)
+put_refusal granted vs p = option_or (refuse_if ((p.ignore_value || p.ignore_lease)
+    && is_none (value_now vs p.key)) KeyMissing) (put_lease_refusal granted p)
 
 -- the first refusal of the operations that run, in order; a Range's own revision is held against the state before
 unfoldable pub run_refusal : (ℤ → Bool) → ℕ → ℕ → List Version → ℕ → Path → Option Refusal
 run_refusal granted c now vs sub Path.end = None
-run_refusal granted c now vs sub (Path.range q rest) = option_or (revision_refusal c now q.revision) (run_refusal granted c now vs sub rest)
-run_refusal granted c now vs sub (Path.put p rest) = option_or (put_refusal granted vs p) (run_refusal granted c now (extend vs (put_change vs (now + 1) sub p)) (suc sub) rest)
+run_refusal granted c now vs sub (Path.range q rest) = option_or (revision_refusal c now q.revision)
+    (run_refusal granted c now vs sub rest)
+run_refusal granted c now vs sub (Path.put p rest) = option_or (put_refusal granted vs p) (run_refusal granted c now
+    (extend vs (put_change vs (now + 1) sub p)) (suc sub) rest)
 run_refusal granted c now vs sub (Path.delete d rest) =
     let ms = delete_changes vs (now + 1) sub d in
     run_refusal granted c now (extend_all vs ms) (sub + length ms) rest
 run_refusal granted c now vs sub (Path.txn b inner rest) =
     let ms = effect vs (now + 1) sub inner in
-    option_or (run_refusal granted c now vs sub inner) (run_refusal granted c now (extend_all vs ms) (sub + length ms) rest)
+    option_or (run_refusal granted c now vs sub inner) (run_refusal granted c now (extend_all vs ms) (sub + length ms)
+        rest)
 
 -- ---- what they answer, read in the versions after the whole at the place that each stands at
 
@@ -263,8 +273,10 @@ changes_of vs main sub (Path.txn b inner rest) =
 
 unfoldable pub replies_of : List Version → ℕ → ℕ → ℕ → Path → Replies
 replies_of vs c now sub Path.end = Replies.no_replies
-replies_of vs c now sub (Path.range q rest) = Replies.range (range_reply vs c now (place_before (now + 1) sub) q) (replies_of vs c now sub rest)
-replies_of vs c now sub (Path.put p rest) = Replies.put (previous_value p.prev_kv (value_at vs (place_before (now + 1) sub) p.key)) (replies_of vs c now (suc sub) rest)
+replies_of vs c now sub (Path.range q rest) = Replies.range (range_reply vs c now (place_before (now + 1) sub) q)
+    (replies_of vs c now sub rest)
+replies_of vs c now sub (Path.put p rest) = Replies.put (previous_value p.prev_kv
+    (value_at vs (place_before (now + 1) sub) p.key)) (replies_of vs c now (suc sub) rest)
 replies_of vs c now sub (Path.delete d rest) =
     let kvs = live vs (place_before (now + 1) sub) d.range in
     Replies.delete (length kvs) (if_asked d.prev_kv kvs) (replies_of vs c now (sub + length kvs) rest)

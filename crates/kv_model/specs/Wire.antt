@@ -1,5 +1,7 @@
 -- From bytes to bytes: the events of a run, and what they are answered.
-use Rattle.std.specs.Prelude.{◌≡◌, ℕ, ℤ, pos, List, Bool, true, false, IsTrue, ◌||◌, ◌&&◌, nat_lt, if◌then◌else◌, is_some, is_none, Option, None, Some, Result, Ok, Err}
+use Rattle.std.specs.Prelude.{
+  ◌≡◌, ℕ, ℤ, pos, List, Bool, true, false, IsTrue, ◌||◌, ◌&&◌, nat_lt, if◌then◌else◌, is_some, is_none, Option, None,
+  Some, Result, Ok, Err}
 use Rattle.kv_model.specs.declared.version.Rev.{Rev}
 use Rattle.kv_model.specs.Calls.{Call}
 use Rattle.kv_model.specs.World.{World, Watch, revision, watch_at, without_watch, at_moment}
@@ -79,12 +81,15 @@ tell_message stands (Some text) = WireTold.message text
 tell_message true None = WireTold.nothing
 tell_message false None = WireTold.no_watch
 
--- one event: what is told, and the world after it; trimming and certifying change nothing, and what they tell goes by what is kept
+-- one event: what is told, and the world after it; trimming and certifying change nothing, and what they tell goes by
+-- what is kept
 abbrev pub wire_step : Ids → World → WireEvent → WireTold × World
 wire_step ids w (WireEvent.moment m) = (WireTold.clock (at_moment w m).clock, at_moment w m)
 wire_step ids w (WireEvent.post path body) = tell_reply w (reply_to ids w path body)
-wire_step ids w (WireEvent.deliver n) = (tell_message (is_some (watch_at w.watches n)) (message_to ids w n), (delivered w n).1)
-wire_step ids w (WireEvent.close n) = (WireTold.closed (is_some (watch_at w.watches n)), record w { watches = without_watch n w.watches })
+wire_step ids w (WireEvent.deliver n) = (tell_message (is_some (watch_at w.watches n)) (message_to ids w n),
+    (delivered w n).1)
+wire_step ids w (WireEvent.close n) = (WireTold.closed (is_some (watch_at w.watches n)),
+    record w { watches = without_watch n w.watches })
 wire_step ids w WireEvent.expire = (WireTold.expiry (expired w).0, (expired w).1)
 wire_step ids w WireEvent.trim = (WireTold.untold, w)
 wire_step ids w WireEvent.certify = (WireTold.untold, w)
@@ -119,7 +124,8 @@ loss_of w u = record { revision = revision u; raised = raised w u; watch = numbe
 -- the command is accepted and changes the world, with this loss
 abbrev pub IsChange : World → Call → Loss → Made → Type 0
 IsChange w call l (Err e) = ⊥
-IsChange w call l (Ok made) = IsTrue (nat_lt (revision w) (revision made.1) || changes_beside w call) × (l ≡ loss_of w made.1)
+IsChange w call l (Ok made) = IsTrue (nat_lt (revision w) (revision made.1) || changes_beside w call)
+    × (l ≡ loss_of w made.1)
 
 abbrev pub IsChangeBy : World → Loss → Result Call Bad → Type 0
 IsChangeBy w l (Ok call) = IsChange w call l (made_in w call)

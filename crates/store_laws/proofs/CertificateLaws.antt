@@ -1,5 +1,7 @@
 -- Where nothing is left to take out, each version has its need, and the certificate passes its check.
-use Rattle.std.proofs.Common.{◌≡◌, ◌≤◌, ◌≢◌, ℕ, ℤ, max, length, filter, List, [], ◌∷◌, find, filter_map, Bool, true, false, not, ◌&&◌, cond, Option, None, Some, refl, sym, ◌∙◌, ap, subst, inl, inr, arith}
+use Rattle.std.proofs.Common.{
+  ◌≡◌, ◌≤◌, ◌≢◌, ℕ, ℤ, max, length, filter, List, [], ◌∷◌, find, filter_map, Bool, true, false, not, ◌&&◌, cond, Option, None, Some, refl,
+  sym, ◌∙◌, ap, subst, inl, inr, arith}
 use Rattle.std.specs.Prelude.{option_map, nat_lt, ◌==◌}
 use Rattle.std.proofs.lemmas.Bool.{le-leb, le-ltb, eq-eqb, eqb-true}
 use Rattle.std.specs.Option.{option_or}
@@ -17,7 +19,8 @@ use Rattle.kv_model.specs.World.{World, IsSound, revision, versions}
 use Rattle.kv_model.specs.Questions.{Question, IsKept, answered, IsGood}
 use Rattle.kv_model.specs.Needs.{Need, HasNeed}
 use Rattle.kv_model.specs.Trimming.{is_tombstone, is_superseded}
-use Rattle.kv_model.specs.Certificates.{Claim, need_of, claim_of, claims_of, is_met, is_asked, NeedFault, fall_after, first_fall, is_double, claims_fault, first_fault}
+use Rattle.kv_model.specs.Certificates.{
+  Claim, need_of, claim_of, claims_of, is_met, is_asked, NeedFault, fall_after, first_fall, is_double, claims_fault, first_fault}
 use Rattle.kv_model.specs.Kept.{dump_of, AreNeeds}
 use Rattle.store_laws.specs.TrimmingLaws.{SettledIsCertified}
 use Rattle.store_laws.proofs.PartLaws.{in_whole}
@@ -28,7 +31,8 @@ use Rattle.store_laws.proofs.LeastLaws.{stand, IsLeft, put-in, told-in, sits, pu
 
 -- what answers a plain Range alike holds the same
 pub same-value : (us vs : List Version) (c n r : ℕ) (k : List ℕ) → k ≢ [] → IsKept c n r
-    → answered us c n (Question.range (plain_range k r)) ≡ answered vs c n (Question.range (plain_range k r)) → value_at us (end_of r) k ≡ value_at vs (end_of r) k
+    → answered us c n (Question.range (plain_range k r)) ≡ answered vs c n (Question.range (plain_range k r)) → value_at us (end_of r) k
+    ≡ value_at vs (end_of r) k
 same-value us vs c n r [] ne h e = absurd (ne refl)
 same-value us vs c n r (x ∷ k) ne h e = one_listed _ _ (sym (plain_shows us c n r x k h) ∙ ap kvs_of e ∙ plain_shows vs c n r x k h)
 
@@ -43,9 +47,11 @@ record HasOwn (w : World) (vs : List Version) (v : Version) : Type 0 where
   has : HasNeed w.compacted (revision w) (versions w) v need
   met : is_met (dump_of w vs) v need ≡ true
 
-module _ (w : World) (sound : IsSound w) (vs : List Version) (g : IsGood vs w.mutations w.compacted) (v : Version) (i : IsIn v vs) (left : IsLeft vs w.compacted v) where
+module _ (w : World) (sound : IsSound w) (vs : List Version) (g : IsGood vs w.mutations w.compacted) (v : Version) (i : IsIn v vs)
+    (left : IsLeft vs w.compacted v) where
   asked : (r : ℕ) → IsKept w.compacted (revision w) r → is_asked (dump_of w vs) v r ≡ true
-  asked r k = λ j. not (not-empty v.key (sits w.mutations w.compacted sound.history sound.floor vs g v i left).has_key j) && le-leb 1 r k.first j && le-leb w.compacted r k.kept j && le-leb r (revision w) k.past j
+  asked r k = λ j. not (not-empty v.key (sits w.mutations w.compacted sound.history sound.floor vs g v i left).has_key j)
+      && le-leb 1 r k.first j && le-leb w.compacted r k.kept j && le-leb r (revision w) k.past j
 
   put-need : (create version : ℕ) (lease : ℤ) (value : List ℕ) → v.body ≡ Put create version lease value → HasOwn w vs v
   put-need create version lease value b = record {
@@ -71,17 +77,23 @@ module _ (w : World) (sound : IsSound w) (vs : List Version) (g : IsGood vs w.mu
       alone =
           let s = stand v vs i in
           subst (λ us. is_superseded us r v ≡ false) (sym s.is)
-          (not-replaced w.compacted s.before v s.after (subst AreRising s.is (rising-part g.part (rising-dress w.mutations sound.history))) (subst (λ us. IsLeft us w.compacted v) s.is left))
+          (not-replaced w.compacted s.before v s.after (subst AreRising s.is (rising-part g.part (rising-dress w.mutations sound.history)))
+              (subst (λ us. IsLeft us w.compacted v) s.is left))
 
-      needed : (us : List Version) → IsPart us (versions w) → (IsIn v us → ⊥) → answered us w.compacted (revision w) (Question.range (plain_range v.key r)) ≢ answered (versions w) w.compacted (revision w) (Question.range (plain_range v.key r))
+      needed : (us : List Version) → IsPart us (versions w) → (IsIn v us → ⊥)
+          → answered us w.compacted (revision w) (Question.range (plain_range v.key r))
+          ≢ answered (versions w) w.compacted (revision w) (Question.range (plain_range v.key r))
       needed us part out e = out (put-in us (versions w) v r (rising-dress w.mutations sound.history) part (in_whole g.part v i) live
-          (same-value us (versions w) w.compacted (revision w) r v.key has_key kept e ∙ put-shown w.mutations w.compacted sound.history sound.floor vs g v i left))
+          (same-value us (versions w) w.compacted (revision w) r v.key has_key kept e
+              ∙ put-shown w.mutations w.compacted sound.history sound.floor vs g v i left))
 
   gone-need : v.body ≡ Gone → HasOwn w vs v
   gone-need b = record {
     need = Need.watch v.rev.main;
-    listed = ap (need_of (dump_of w vs) v) b ∙ ap (λ t. cond t (Some (Need.watch v.rev.main)) None) (le-leb w.compacted v.rev.main kept.kept);
-    has = record { asked = kept; needed = λ us part out e. out (told-in before_is_kept us (versions w) w.compacted (revision w) v (in_whole g.part v i) e) };
+    listed = ap (need_of (dump_of w vs) v) b ∙ ap (λ t. cond t (Some (Need.watch v.rev.main)) None) (le-leb w.compacted v.rev.main
+        kept.kept);
+    has = record { asked = kept; needed = λ us part out e. out (told-in before_is_kept us (versions w) w.compacted (revision w) v
+        (in_whole g.part v i) e) };
     met = λ j. asked v.rev.main kept j && eq-eqb v.rev.main v.rev.main refl j;
   }
     where
@@ -101,19 +113,24 @@ module _ (w : World) (sound : IsSound w) (vs : List Version) (g : IsGood vs w.mu
 abbrev AllHaveOwn : World → List Version → List Version → Type 0
 AllHaveOwn w vs us = AllByRecursion (HasOwn w vs) us
 
-claimed : (w : World) (vs : List Version) (v : Version) (h : HasOwn w vs v) → claim_of (dump_of w vs) v ≡ Some (record { rev = v.rev; need = h.need })
+claimed : (w : World) (vs : List Version) (v : Version) (h : HasOwn w vs v) → claim_of (dump_of w vs) v
+    ≡ Some (record { rev = v.rev; need = h.need })
 claimed w vs v h = ap (option_map (λ n. record { rev = v.rev; need = n })) h.listed
 
 are-needs : (w : World) (vs us : List Version) → AllHaveOwn w vs us → AreNeeds w us (filter_map (claim_of (dump_of w vs)) us)
 are-needs w vs [] h = tt
-are-needs w vs (u ∷ us) h = subst (λ (o : Option Claim). AreNeeds w (u ∷ us) (cons_option o (filter_map (claim_of (dump_of w vs)) us))) (sym (claimed w vs u h.0)) (refl, h.0.has, are-needs w vs us h.1)
+are-needs w vs (u ∷ us) h = subst (λ (o : Option Claim). AreNeeds w (u ∷ us) (cons_option o (filter_map (claim_of (dump_of w vs)) us)))
+    (sym (claimed w vs u h.0)) (refl, h.0.has, are-needs w vs us h.1)
 
-matches_claims : (w : World) (vs us : List Version) → AllHaveOwn w vs us → claims_fault (dump_of w vs) us (filter_map (claim_of (dump_of w vs)) us) ≡ None
+matches_claims : (w : World) (vs us : List Version) → AllHaveOwn w vs us
+    → claims_fault (dump_of w vs) us (filter_map (claim_of (dump_of w vs)) us) ≡ None
 matches_claims w vs [] h = refl
 matches_claims w vs (u ∷ us) h =
-    ap (λ (o : Option Claim). claims_fault (dump_of w vs) (u ∷ us) (cons_option o (filter_map (claim_of (dump_of w vs)) us))) (claimed w vs u h.0)
+    ap (λ (o : Option Claim). claims_fault (dump_of w vs) (u ∷ us) (cons_option o (filter_map (claim_of (dump_of w vs)) us)))
+        (claimed w vs u h.0)
     ∙ (λ i. cond (eq-eqb u.rev.main u.rev.main refl i && eq-eqb u.rev.sub u.rev.sub refl i)
-    (cond (h.0.met i) (claims_fault (dump_of w vs) us (filter_map (claim_of (dump_of w vs)) us)) (Some (NeedFault.need_unmet u.rev))) (Some (NeedFault.no_need u.rev)))
+    (cond (h.0.met i) (claims_fault (dump_of w vs) us (filter_map (claim_of (dump_of w vs)) us)) (Some (NeedFault.need_unmet u.rev)))
+        (Some (NeedFault.no_need u.rev)))
     ∙ matches_claims w vs us h.1
 
 -- ---- a list that rises has no fault of its own
@@ -133,7 +150,8 @@ is_twin v u = same_key u.key v.key && u.rev.main == v.rev.main
 pub twins : (v u : Version) → is_twin v u ≡ true → (u.key ≡ v.key) × (u.rev.main ≡ v.rev.main)
 twins v u e = by (same_key u.key v.key) refl (u.rev.main == v.rev.main) refl e
   where
-    by : (a : Bool) → same_key u.key v.key ≡ a → (b : Bool) → (u.rev.main == v.rev.main) ≡ b → (a && b) ≡ true → (u.key ≡ v.key) × (u.rev.main ≡ v.rev.main)
+    by : (a : Bool) → same_key u.key v.key ≡ a → (b : Bool) → (u.rev.main == v.rev.main) ≡ b → (a && b) ≡ true → (u.key ≡ v.key)
+        × (u.rev.main ≡ v.rev.main)
     by true d true f e = (same_key-eq u.key v.key d, eqb-true u.rev.main v.rev.main f)
     by true d false f e = cc
     by false d b f e = cc
@@ -150,18 +168,21 @@ one-twin : (v : Version) (vs : List Version) → AreRising vs → length (filter
 one-twin v [] h = omega arith
 one-twin v (x ∷ xs) h = by (is_twin v x) refl (one-twin v xs h.1)
   where
-    by : (b : Bool) → is_twin v x ≡ b → length (filter (is_twin v) xs) ≤ 1 → length (cond b (x ∷ filter (is_twin v) xs) (filter (is_twin v) xs)) ≤ 1
+    by : (b : Bool) → is_twin v x ≡ b → length (filter (is_twin v) xs) ≤ 1
+        → length (cond b (x ∷ filter (is_twin v) xs) (filter (is_twin v) xs)) ≤ 1
     by true f rest = let e : length (filter (is_twin v) xs) ≡ 0 = ap length (no-twin v x xs f h.0) in omega arith
     by false f rest = rest
 
 no-double : (vs us : List Version) → AreRising vs → find (is_double vs) us ≡ None
 no-double vs [] h = refl
 no-double vs (u ∷ us) h =
-    ap (λ b. cond b (Some u) (find (is_double vs) us)) (ap (nat_lt 1) (sym (length-filter (is_twin u) vs)) ∙ le-ltb 1 (length (filter (is_twin u) vs)) (one-twin u vs h)) ∙ no-double vs us h
+    ap (λ b. cond b (Some u) (find (is_double vs) us)) (ap (nat_lt 1) (sym (length-filter (is_twin u) vs))
+        ∙ le-ltb 1 (length (filter (is_twin u) vs)) (one-twin u vs h)) ∙ no-double vs us h
 
 -- ---- the certificate
 
-all-own : (w : World) (sound : IsSound w) (vs : List Version) (g : IsGood vs w.mutations w.compacted) (us : List Version) → ((v : Version) → IsIn v us → IsIn v vs) → AllByRecursion (IsLeft vs w.compacted) us → AllHaveOwn w vs us
+all-own : (w : World) (sound : IsSound w) (vs : List Version) (g : IsGood vs w.mutations w.compacted) (us : List Version)
+    → ((v : Version) → IsIn v us → IsIn v vs) → AllByRecursion (IsLeft vs w.compacted) us → AllHaveOwn w vs us
 all-own w sound vs g [] f h = tt
 all-own w sound vs g (u ∷ us) f h = (own w sound vs g u (f u (inl refl)) h.0, all-own w sound vs g us (λ v i. f v (inr i)) h.1)
 
@@ -171,6 +192,8 @@ settled-certified w vs sound g left =
     let have : AllHaveOwn w vs vs = all-own w sound vs g vs (λ v i. i) left in
     let rising : AreRising vs = rising-part g.part (rising-dress w.mutations sound.history) in
     record {
-      passes = (λ i. option_or (option_map NeedFault.not_rising (rises vs rising i)) (option_or (option_map NeedFault.double_key (option_map (λ v. v.rev) (no-double vs vs rising i))) (matches_claims w vs vs have i)));
+      passes = (λ i. option_or (option_map NeedFault.not_rising (rises vs rising i))
+          (option_or (option_map NeedFault.double_key (option_map (λ v. v.rev) (no-double vs vs rising i))) (matches_claims w vs vs have
+          i)));
       needs = are-needs w vs vs have;
     }

@@ -1,5 +1,6 @@
 -- A Compact asks for less, so a good part stays good behind it.
-use Rattle.std.proofs.Common.{◌≡◌, ◌≤◌, ℕ, ◌-◌, ℤ, List, [], ◌∷◌, Bool, true, false, ◌&&◌, ◌||◌, cond, Option, None, Some, Ok, map, filter, refl, sym, ◌∙◌, ap, arith}
+use Rattle.std.proofs.Common.{
+  ◌≡◌, ◌≤◌, ℕ, ◌-◌, ℤ, List, [], ◌∷◌, Bool, true, false, ◌&&◌, ◌||◌, cond, Option, None, Some, Ok, map, filter, refl, sym, ◌∙◌, ap, arith}
 use Rattle.std.specs.Prelude.{pos, negsuc, nat_lt, nat_le, ◌==◌}
 use Rattle.std.specs.List.{AllByRecursion}
 use Rattle.std.proofs.lemmas.Bool.{ltb-false}
@@ -28,7 +29,8 @@ use Rattle.store_laws.proofs.BatchLaws.{is_told, good-events}
 kept-before : (c d r : ℕ) → c ≤ d → before_is_kept d r ≡ true → before_is_kept c r ≡ true
 kept-before c d r h e = grind (arith, nat_tests)
 
-pub versions-told : (vs : List Version) (c : ℕ) (w : Watched) (xs : List Version) → map (λ (e : WatchEvent). e.version) (map (event_of vs c w) xs) ≡ xs
+pub versions-told : (vs : List Version) (c : ℕ) (w : Watched) (xs : List Version)
+    → map (λ (e : WatchEvent). e.version) (map (event_of vs c w) xs) ≡ xs
 versions-told vs c w [] = refl
 versions-told vs c w (x ∷ xs) = ap (λ ys. x ∷ ys) (versions-told vs c w xs)
 
@@ -46,8 +48,10 @@ map-same : {X Y : Type 0} (f g : X → Y) (xs : List X) → AllByRecursion (λ x
 map-same f g [] h = refl
 map-same f g (x ∷ xs) h = λ i. h.0 i ∷ map-same f g xs h.1 i
 
-event-later : (vs ws : List Version) (c d : ℕ) (w : Watched) (v : Version) → c ≤ d → event_of vs c w v ≡ event_of ws c w v → event_of vs d w v ≡ event_of ws d w v
-event-later vs ws c d w v h e = ap (λ (o : Option KeyValue). record { version = v; before = o }) (by (before_is_kept d v.rev.main) refl w.prev_kv (ap (λ (x : WatchEvent). x.before) e))
+event-later : (vs ws : List Version) (c d : ℕ) (w : Watched) (v : Version) → c ≤ d → event_of vs c w v ≡ event_of ws c w v
+    → event_of vs d w v ≡ event_of ws d w v
+event-later vs ws c d w v h e = ap (λ (o : Option KeyValue). record { version = v; before = o }) (by (before_is_kept d v.rev.main) refl
+    w.prev_kv (ap (λ (x : WatchEvent). x.before) e))
   where
     a : Option KeyValue
     a = value_at vs (end_of (v.rev.main - 1)) v.key
@@ -59,18 +63,21 @@ event-later vs ws c d w v h e = ap (λ (o : Option KeyValue). record { version =
     known true f p g = g
     known false f p g = cc
 
-    by : (t : Bool) → before_is_kept d v.rev.main ≡ t → (p : Bool) → cond (before_is_kept c v.rev.main && p) a None ≡ cond (before_is_kept c v.rev.main && p) b None → cond (t && p) a None ≡ cond (t && p) b None
+    by : (t : Bool) → before_is_kept d v.rev.main ≡ t → (p : Bool) → cond (before_is_kept c v.rev.main && p) a None
+        ≡ cond (before_is_kept c v.rev.main && p) b None → cond (t && p) a None ≡ cond (t && p) b None
     by false f p g = refl
     by true f p g = known (before_is_kept c v.rev.main) (kept-before c d v.rev.main h f) p g
 
-events-later : (vs ws : List Version) (c d r : ℕ) (w : Watched) → c ≤ d → events_of vs c r w ≡ events_of ws c r w → events_of vs d r w ≡ events_of ws d r w
+events-later : (vs ws : List Version) (c d r : ℕ) (w : Watched) → c ≤ d → events_of vs c r w ≡ events_of ws c r w → events_of vs d r w
+    ≡ events_of ws d r w
 events-later vs ws c d r w h e =
     let fs : List Version = filter (is_told r w) vs in
     let gs : List Version = filter (is_told r w) ws in
     let same : fs ≡ gs = sym (versions-told vs c w fs) ∙ ap (map (λ (x : WatchEvent). x.version)) e ∙ versions-told ws c w gs in
     let each : map (event_of vs c w) gs ≡ map (event_of ws c w) gs = ap (map (event_of vs c w)) (sym same) ∙ e in
     ap (map (event_of vs d w)) same ∙ map-same (event_of vs d w) (event_of ws d w) gs
-    (each-map (λ v. event_of vs c w v ≡ event_of ws c w v) (λ v. event_of vs d w v ≡ event_of ws d w v) (λ v f. event-later vs ws c d w v h f) gs (map-pointwise (event_of vs c w) (event_of ws c w) gs each))
+    (each-map (λ v. event_of vs c w v ≡ event_of ws c w v) (λ v. event_of vs d w v
+        ≡ event_of ws d w v) (λ v f. event-later vs ws c d w v h f) gs (map-pointwise (event_of vs c w) (event_of ws c w) gs each))
 
 -- ---- a later floor
 
@@ -81,11 +88,13 @@ good-compacts vs ms c d g h l = record { part = g.part; answers = answers }
     kept r k = record { first = k.first; kept = omega (arith, k.kept); past = k.past }
 
     answers : (q : Question) → IsQuestion d (now ms) q → answered vs d (now ms) q ≡ answered (dress ms) d (now ms) q
-    answers (Question.range q) a = ap Answered.range (same_ranges vs (dress ms) d (now ms) a.revision (end_of (now ms)) q a.kept.first a.is (λ k. good-value_at vs ms c a.revision k g h (kept a.revision a.kept)))
+    answers (Question.range q) a = ap Answered.range (same_ranges vs (dress ms) d (now ms) a.revision (end_of (now ms)) q a.kept.first a.is
+        (λ k. good-value_at vs ms c a.revision k g h (kept a.revision a.kept)))
     answers (Question.watch w r) a = ap Answered.watch (events-later vs (dress ms) c d r w l (good-events vs ms c r w g (kept r a)))
 
 -- the store goes on standing for the world behind a Compact
-pub compact_stands : (s : Store) (w : World) → StandsFor s w → (c : ℕ) → s.compacted ≤ c → c ≤ s.revision → StandsFor (with_floor s c) (record w { compacted = c })
+pub compact_stands : (s : Store) (w : World) → StandsFor s w → (c : ℕ) → s.compacted ≤ c → c ≤ s.revision
+    → StandsFor (with_floor s c) (record w { compacted = c })
 compact_stands s w h c l m =
     let least : w.compacted ≤ c = omega (arith, h.compacted) in
     let most : c ≤ revision w = omega (arith, h.revision_is) in
@@ -101,16 +110,19 @@ compact_stands s w h c l m =
     }
 
 pub compact_told : (s : Store) (w : World) → StandsFor s w → (r : ℤ) (physical : Bool)
-    → made_in w (Call.compact r physical) ≡ refused_or (compact_refusal s.compacted s.revision r) (Ok (Reply.compact, record w { compacted = at_least_zero r }))
+    → made_in w (Call.compact r physical) ≡ refused_or (compact_refusal s.compacted s.revision r) (Ok (Reply.compact,
+    record w { compacted = at_least_zero r }))
 unfolding compact_in
-compact_told s w h r physical = sym (λ i. refused_or (compact_refusal (h.compacted i) (h.revision_is i) r) (Ok (Reply.compact, record w { compacted = at_least_zero r })))
+compact_told s w h r physical = sym (λ i. refused_or (compact_refusal (h.compacted i) (h.revision_is i) r) (Ok (Reply.compact,
+    record w { compacted = at_least_zero r })))
 
 -- what is not refused lies between the last Compact and the revision
 pub compact_within : (c n : ℕ) (r : ℤ) → compact_refusal c n r ≡ None → (c ≤ at_least_zero r) × (at_least_zero r ≤ n)
 compact_within c n (negsuc m) e = cc
 compact_within c n (pos r) e = by (r == 0 || nat_le r c) refl e
   where
-    by : (b : Bool) → (r == 0 || nat_le r c) ≡ b → cond b (Some (Compacted c)) (refuse_if (nat_lt n r) (Future n)) ≡ None → (c ≤ r) × (r ≤ n)
+    by : (b : Bool) → (r == 0 || nat_le r c) ≡ b → cond b (Some (Compacted c)) (refuse_if (nat_lt n r) (Future n)) ≡ None → (c ≤ r)
+        × (r ≤ n)
     by true f g = cc
     by false f g =
         let past : nat_lt n r ≡ false = not-refused (nat_lt n r) (Future n) g in

@@ -1,5 +1,7 @@
 -- Which versions answer what is asked from a compaction on.
-use Rattle.std.proofs.Common.{◌≡◌, ℕ, zero, suc, ◌≤◌, pos, List, [], ◌∷◌, ◌++◌, length, Bool, true, false, ◌&&◌, cond, Option, None, Some, option_and_then, is_some, Ok, Err, refl, sym, ◌∙◌, ap, subst, arith}
+use Rattle.std.proofs.Common.{
+  ◌≡◌, ℕ, zero, suc, ◌≤◌, pos, List, [], ◌∷◌, ◌++◌, length, Bool, true, false, ◌&&◌, cond, Option, None, Some, option_and_then, is_some, Ok,
+  Err, refl, sym, ◌∙◌, ap, subst, arith}
 use Rattle.std.specs.Prelude.{codes, map, option_to_list, nat_lt}
 use Rattle.std.proofs.lemmas.Bool.{le-ltb}
 use Rattle.kv_model.specs.Keys.{one_key}
@@ -48,7 +50,8 @@ unfolding value_at dress
 held_at_four k = by (same_key (codes "a") k) (same_key (codes "b") k)
   where
     by : (a b : Bool) → option_and_then key_value (option_or None (cond (b && true) (Some put_b) None))
-        ≡ option_and_then key_value (option_or (option_or (option_or None (cond (b && true) (Some put_b) None)) (cond (a && true) (Some no_a) None)) (cond (a && true) (Some put_a) None))
+        ≡ option_and_then key_value (option_or (option_or (option_or None (cond (b && true) (Some put_b) None)) (cond (a
+        && true) (Some no_a) None)) (cond (a && true) (Some put_a) None))
     by true true = refl
     by true false = refl
     by false true = refl
@@ -59,10 +62,13 @@ four r k = omega arith
 
 answers : (q : Question) → IsQuestion 4 4 q → answered last_put 4 4 q ≡ answered (dress put_delete_put) 4 4 q
 unfolding dress
-answers (Question.range q) a = ap Answered.range (same_ranges last_put (dress put_delete_put) 4 4 4 (end_of 4) q (omega arith) (a.is ∙ ap pos (four a.revision a.kept)) held_at_four)
-answers (Question.watch w r) a = subst (λ n. answered last_put 4 4 (Question.watch w n) ≡ answered (dress put_delete_put) 4 4 (Question.watch w n)) (sym (four r a)) (by (matches w put_b))
+answers (Question.range q) a = ap Answered.range (same_ranges last_put (dress put_delete_put) 4 4 4 (end_of 4) q (omega arith) (a.is
+    ∙ ap pos (four a.revision a.kept)) held_at_four)
+answers (Question.watch w r) a = subst (λ n. answered last_put 4 4 (Question.watch w n)
+    ≡ answered (dress put_delete_put) 4 4 (Question.watch w n)) (sym (four r a)) (by (matches w put_b))
   where
-    by : (b : Bool) → Answered.watch (map (event_of last_put 4 w) (cond b (put_b ∷ []) [])) ≡ Answered.watch (map (event_of (dress put_delete_put) 4 w) (cond b (put_b ∷ []) []))
+    by : (b : Bool) → Answered.watch (map (event_of last_put 4 w) (cond b (put_b ∷ []) []))
+        ≡ Answered.watch (map (event_of (dress put_delete_put) 4 w) (cond b (put_b ∷ []) []))
     by true = refl
     by false = refl
 
@@ -75,7 +81,8 @@ least : (us : List Version) → IsGood us put_delete_put 4 → 1 ≤ length us
 unfolding shown_count range_reply reply_from live dress value_at
 least [] g =
     let q : RangeQuery = plain_range (codes "b") 4 in
-    let asked : IsRangeAt 4 4 q = record { revision = 4; is = refl; kept = record { first = omega arith; kept = omega arith; past = omega arith }; has_key = λ e. cc } in
+    let asked : IsRangeAt 4 4 q = record { revision = 4; is = refl; kept = record { first = omega arith; kept = omega arith;
+            past = omega arith }; has_key = λ e. cc } in
     let same : ◌≡◌ {A = ℕ} 0 1 = ap shown_count (g.answers (Question.range q) asked) in cc
 least (u ∷ us) g = omega arith
 
@@ -85,9 +92,11 @@ last_put_least = record { good = record { part = leave (leave (keep nothing)); a
 
 -- ---- what may be taken out
 
-pub latest-out : (xs : List Version) (v : Version) (ys : List Version) (p : Rev) (k : List ℕ) (b : Bool) → (same_key v.key k && rev_le v.rev p) ≡ b
+pub latest-out : (xs : List Version) (v : Version) (ys : List Version) (p : Rev) (k : List ℕ) (b : Bool)
+    → (same_key v.key k && rev_le v.rev p) ≡ b
     → latest (xs ++ v ∷ ys) p k ≡ option_or (option_or (latest ys p k) (cond b (Some v) None)) (latest xs p k)
-latest-out xs v ys p k b e = last_that-append (λ u. same_key u.key k && rev_le u.rev p) xs (v ∷ ys) ∙ ap (λ a. option_or (option_or (latest ys p k) (cond a (Some v) None)) (latest xs p k)) e
+latest-out xs v ys p k b e = last_that-append (λ u. same_key u.key k && rev_le u.rev p) xs (v ∷ ys)
+    ∙ ap (λ a. option_or (option_or (latest ys p k) (cond a (Some v) None)) (latest xs p k)) e
 
 latest-rest : (xs ys : List Version) (p : Rev) (k : List ℕ) → latest (xs ++ ys) p k ≡ option_or (latest ys p k) (latest xs p k)
 latest-rest xs ys p k = last_that-append (λ u. same_key u.key k && rev_le u.rev p) xs ys
@@ -107,8 +116,10 @@ unfolding value_at
 superseded-out xs v ys p k h = by (same_key v.key k && rev_le v.rev p) refl
   where
     by : (b : Bool) → (same_key v.key k && rev_le v.rev p) ≡ b → value_at (xs ++ v ∷ ys) p k ≡ value_at (xs ++ ys) p k
-    by true e = ap (option_and_then key_value) (latest-out xs v ys p k true e ∙ ap (λ o. option_or o (latest xs p k)) (or_some (latest ys p k) (Some v) (h e)) ∙ sym (latest-rest xs ys p k))
-    by false e = ap (option_and_then key_value) (latest-out xs v ys p k false e ∙ ap (λ o. option_or o (latest xs p k)) (or_none (latest ys p k)) ∙ sym (latest-rest xs ys p k))
+    by true e = ap (option_and_then key_value) (latest-out xs v ys p k true e
+        ∙ ap (λ o. option_or o (latest xs p k)) (or_some (latest ys p k) (Some v) (h e)) ∙ sym (latest-rest xs ys p k))
+    by false e = ap (option_and_then key_value) (latest-out xs v ys p k false e
+        ∙ ap (λ o. option_or o (latest xs p k)) (or_none (latest ys p k)) ∙ sym (latest-rest xs ys p k))
 
 tombstone-shows : (v : Version) → v.body ≡ Gone → key_value v ≡ None
 tombstone-shows v e = ap (shown v.rev.main v.key) e
@@ -119,14 +130,17 @@ pub tombstone-out : (xs : List Version) (v : Version) (ys : List Version) (p : R
 unfolding value_at
 tombstone-out xs v ys p k gone h = by (same_key v.key k && rev_le v.rev p) refl
   where
-    later : (o : Option Version) → option_and_then key_value (option_or (option_or o (Some v)) None) ≡ option_and_then key_value (option_or o None)
+    later : (o : Option Version) → option_and_then key_value (option_or (option_or o (Some v)) None)
+        ≡ option_and_then key_value (option_or o None)
     later None = tombstone-shows v gone
     later (Some u) = refl
 
     by : (b : Bool) → (same_key v.key k && rev_le v.rev p) ≡ b → value_at (xs ++ v ∷ ys) p k ≡ value_at (xs ++ ys) p k
-    by true e = ap (option_and_then key_value) (latest-out xs v ys p k true e ∙ ap (option_or (option_or (latest ys p k) (Some v))) (h e)) ∙ later (latest ys p k)
+    by true e = ap (option_and_then key_value) (latest-out xs v ys p k true e ∙ ap (option_or (option_or (latest ys p k) (Some v))) (h e))
+        ∙ later (latest ys p k)
         ∙ sym (ap (option_and_then key_value) (latest-rest xs ys p k ∙ ap (option_or (latest ys p k)) (h e)))
-    by false e = ap (option_and_then key_value) (latest-out xs v ys p k false e ∙ ap (λ o. option_or o (latest xs p k)) (or_none (latest ys p k)) ∙ sym (latest-rest xs ys p k))
+    by false e = ap (option_and_then key_value) (latest-out xs v ys p k false e
+        ∙ ap (λ o. option_or o (latest xs p k)) (or_none (latest ys p k)) ∙ sym (latest-rest xs ys p k))
 
 -- ---- what answers alike holds alike
 
@@ -135,7 +149,8 @@ not_below = le-ltb
 
 not_refused : (c n r : ℕ) (x : ℕ) (k : List ℕ) → IsKept c n r → range_refusal c n (plain_range (x ∷ k) r) ≡ None
 not_refused c n zero x k h = absurd (omega arith)
-not_refused c n (suc r) x k h = λ i. option_or (refuse_if (not_below (suc r) c h.kept i) (Compacted c)) (refuse_if (not_below n (suc r) h.past i) (Future n))
+not_refused c n (suc r) x k h = λ i. option_or (refuse_if (not_below (suc r) c h.kept i) (Compacted c))
+    (refuse_if (not_below n (suc r) h.past i) (Future n))
 
 unfoldable pub kvs_of : Answered → List KeyValue
 kvs_of (Answered.range (Ok r)) = r.kvs
@@ -151,7 +166,8 @@ pub plain_shows : (us : List Version) (c n r : ℕ) (x : ℕ) (k : List ℕ) →
     → kvs_of (answered us c n (Question.range (plain_range (x ∷ k) r))) ≡ option_to_list (value_at us (end_of r) (x ∷ k))
 unfolding kvs_of range_reply reply_from
 plain_shows us c n r x k h =
-    ap (λ o. kvs_of (Answered.range (unless_refused o (reply_from (plain_range (x ∷ k) r) n (live us (read_place (pos r) (end_of n)) (one_key (x ∷ k))))))) (not_refused c n r x k h)
+    ap (λ o. kvs_of (Answered.range (unless_refused o (reply_from (plain_range (x ∷ k) r) n (live us (read_place (pos r) (end_of n))
+        (one_key (x ∷ k))))))) (not_refused c n r x k h)
     ∙ ap (λ p. (reply_from (plain_range (x ∷ k) r) n (live us p (one_key (x ∷ k)))).kvs) (place-asked r (end_of n) h.first)
     ∙ ap (λ kvs. (reply_from (plain_range (x ∷ k) r) n kvs).kvs) (live-one us (end_of r) (x ∷ k))
     ∙ plain_kvs n r (x ∷ k) (value_at us (end_of r) (x ∷ k))
@@ -167,4 +183,5 @@ pub good-values : (vs : List Version) (ms : List Mutation) (c r : ℕ) (x : ℕ)
     → value_at vs (end_of r) (x ∷ k) ≡ value_at (dress ms) (end_of r) (x ∷ k)
 good-values vs ms c r x k g h =
     let asked : IsRangeAt c (now ms) (plain_range (x ∷ k) r) = record { revision = r; is = refl; kept = h; has_key = λ e. cc } in
-    one_listed _ _ (sym (plain_shows vs c (now ms) r x k h) ∙ ap kvs_of (g.answers (Question.range (plain_range (x ∷ k) r)) asked) ∙ plain_shows (dress ms) c (now ms) r x k h)
+    one_listed _ _ (sym (plain_shows vs c (now ms) r x k h) ∙ ap kvs_of (g.answers (Question.range (plain_range (x ∷ k) r)) asked)
+        ∙ plain_shows (dress ms) c (now ms) r x k h)

@@ -1,5 +1,7 @@
 -- The deletes of live keys: the keys ascend and are not empty, so their deletes are the changes of one revision.
-use Rattle.std.proofs.Common.{◌≡◌, ◌≤◌, ◌<◌, ◌≢◌, ℕ, suc, ◌+◌, ◌^◌, List, [], ◌∷◌, length, Bool, true, false, ◌&&◌, cond, Option, None, Some, option_and_then, is_some, filter, filter_map, refl, sym, ◌∙◌, ap, subst, arith}
+use Rattle.std.proofs.Common.{
+  ◌≡◌, ◌≤◌, ◌<◌, ◌≢◌, ℕ, suc, ◌+◌, ◌^◌, List, [], ◌∷◌, length, Bool, true, false, ◌&&◌, cond, Option, None, Some, option_and_then, is_some,
+  filter, filter_map, refl, sym, ◌∙◌, ap, subst, arith}
 use Rattle.std.specs.Option.{option_or}
 use Rattle.std.specs.List.{AllByRecursion, cons_option}
 use Rattle.std.specs.declared.cmp.Ordering.{Ordering}
@@ -25,7 +27,8 @@ pub last_that-passes : {X : Type 0} (p : X → Bool) (xs : List X) (x : X) → l
 last_that-passes p [] x e = cc
 last_that-passes {X} p (y ∷ ys) x e = by (last_that p ys) refl (p y) refl e (last_that-passes p ys x)
   where
-    by : (o : Option X) → last_that p ys ≡ o → (b : Bool) → p y ≡ b → option_or o (cond b (Some y) None) ≡ Some x → (last_that p ys ≡ Some x → p x ≡ true) → p x ≡ true
+    by : (o : Option X) → last_that p ys ≡ o → (b : Bool) → p y ≡ b → option_or o (cond b (Some y) None) ≡ Some x → (last_that p ys ≡ Some x
+        → p x ≡ true) → p x ≡ true
     by (Some z) is b f g rest = rest (is ∙ g)
     by None is true f g rest = let same : y ≡ x = cc in subst (λ z. p z ≡ true) same f
     by None is false f g rest = cc
@@ -48,7 +51,8 @@ value_at-key vs p k kv e = by (latest vs p k) refl e
   where
     by : (o : Option Version) → latest vs p k ≡ o → option_and_then key_value o ≡ Some kv → kv.key ≡ k
     by None is f = cc
-    by (Some v) is f = shown-key v.rev.main v.key v.body kv f ∙ same_key-eq v.key k (and-first _ _ (last_that-passes (λ u. same_key u.key k && rev_le u.rev p) vs v is))
+    by (Some v) is f = shown-key v.rev.main v.key v.body kv f ∙ same_key-eq v.key k (and-first _ _ (last_that-passes (λ u. same_key u.key k
+        && rev_le u.rev p) vs v is))
 
 within-key : (vs : List Version) (p : Rev) (r : KeyRange) (k : List ℕ) (kv : KeyValue) → value_within vs p r k ≡ Some kv → kv.key ≡ k
 within-key vs p r k kv e = by (in_range r k) e
@@ -59,21 +63,25 @@ within-key vs p r k kv e = by (in_range r k) e
 
 -- ---- the keys that are live
 
-pub mapped-keys : (g : List ℕ → Option KeyValue) → ((k : List ℕ) (kv : KeyValue) → g k ≡ Some kv → kv.key ≡ k) → (ks : List (List ℕ)) → keys_of (filter_map g ks) ≡ filter (λ k. is_some (g k)) ks
+pub mapped-keys : (g : List ℕ → Option KeyValue) → ((k : List ℕ) (kv : KeyValue) → g k ≡ Some kv → kv.key ≡ k) → (ks : List (List ℕ))
+    → keys_of (filter_map g ks) ≡ filter (λ k. is_some (g k)) ks
 mapped-keys g h [] = refl
 mapped-keys g h (k ∷ ks) = by (g k) refl (mapped-keys g h ks)
   where
-    by : (o : Option KeyValue) → g k ≡ o → keys_of (filter_map g ks) ≡ filter (λ k. is_some (g k)) ks → keys_of (cons_option o (filter_map g ks)) ≡ cond (is_some o) (k ∷ filter (λ k. is_some (g k)) ks) (filter (λ k. is_some (g k)) ks)
+    by : (o : Option KeyValue) → g k ≡ o → keys_of (filter_map g ks) ≡ filter (λ k. is_some (g k)) ks
+        → keys_of (cons_option o (filter_map g ks)) ≡ cond (is_some o) (k ∷ filter (λ k. is_some (g k)) ks) (filter (λ k. is_some (g k)) ks)
     by None e rest = rest
     by (Some kv) e rest = λ i. h k kv e i ∷ rest i
 
-pub live-keys : (vs : List Version) (p : Rev) (r : KeyRange) → keys_of (live vs p r) ≡ filter (λ k. is_some (value_within vs p r k)) (keys vs)
+pub live-keys : (vs : List Version) (p : Rev) (r : KeyRange) → keys_of (live vs p r)
+    ≡ filter (λ k. is_some (value_within vs p r k)) (keys vs)
 unfolding live
 live-keys vs p r = mapped-keys (value_within vs p r) (within-key vs p r) (keys vs)
 
 -- the live keys ascend
 pub live-ascends : (vs : List Version) (p : Rev) (r : KeyRange) → IsAscending (keys_of (live vs p r))
-live-ascends vs p r = subst IsAscending (sym (live-keys vs p r)) (ascending-filter (λ k. is_some (value_within vs p r k)) (keys vs) (ascending-keys vs))
+live-ascends vs p r = subst IsAscending (sym (live-keys vs p r)) (ascending-filter (λ k. is_some (value_within vs p r k)) (keys vs)
+    (ascending-keys vs))
 
 abbrev pub AreGiven : List (List ℕ) → Type 0
 AreGiven ks = AllByRecursion (λ k. k ≢ []) ks
@@ -101,7 +109,8 @@ each-filter P t (x ∷ xs) h = by (t x) (each-filter P t xs h.1)
 
 -- and are not empty where no version's key is
 pub live-given : (vs : List Version) (p : Rev) (r : KeyRange) → AllByRecursion (λ v. v.key ≢ []) vs → AreGiven (keys_of (live vs p r))
-live-given vs p r h = subst AreGiven (sym (live-keys vs p r)) (each-filter (λ k. k ≢ []) (λ k. is_some (value_within vs p r k)) (keys vs) (given-keys vs h))
+live-given vs p r h = subst AreGiven (sym (live-keys vs p r)) (each-filter (λ k. k ≢ []) (λ k. is_some (value_within vs p r k)) (keys vs)
+    (given-keys vs h))
 
 -- the same of some of the live keys
 above-some : (t : KeyValue → Bool) (k : List ℕ) (kvs : List KeyValue) → AllAbove k (keys_of kvs) → AllAbove k (keys_of (filter t kvs))
@@ -136,20 +145,25 @@ below-other k l h e = let bad : Less ≡ Equal = sym h ∙ ap (key_cmp k) (sym e
 abbrev pub delete_at : ℕ → ℕ → List ℕ → Mutation
 delete_at main sub k = record { rev = record { main = main; sub = sub }; key = k; action = Action.delete }
 
-deletes-before : (main sub n : ℕ) (k : List ℕ) (ks : List (List ℕ)) → sub < n → AllAbove k ks → AllByRecursion (IsBefore (delete_at main sub k)) (deletes_of main n ks)
+deletes-before : (main sub n : ℕ) (k : List ℕ) (ks : List (List ℕ)) → sub < n → AllAbove k ks
+    → AllByRecursion (IsBefore (delete_at main sub k)) (deletes_of main n ks)
 deletes-before main sub n k [] l a = tt
 deletes-before main sub n k (j ∷ ks) l a =
-    ((rev_lt-subs (record { main = main; sub = sub }) (record { main = main; sub = n }) refl l, λ e. below-other k j a.0), deletes-before main sub (suc n) k ks (omega arith) a.1)
+    ((rev_lt-subs (record { main = main; sub = sub }) (record { main = main; sub = n }) refl l, λ e. below-other k j a.0),
+        deletes-before main sub (suc n) k ks (omega arith) a.1)
 
-deletes-history : (main sub : ℕ) (ks : List (List ℕ)) → IsAscending ks → AreGiven ks → 1 < main → sub + length ks ≤ 2 ^ 64 → IsHistory (deletes_of main sub ks)
+deletes-history : (main sub : ℕ) (ks : List (List ℕ)) → IsAscending ks → AreGiven ks → 1 < main → sub + length ks ≤ 2 ^ 64
+    → IsHistory (deletes_of main sub ks)
 deletes-history main sub [] a g o l = tt
 deletes-history main sub (k ∷ ks) a g o l =
-    (record { behind = o; number = omega arith; has_key = g.0 }, deletes-before main sub (suc sub) k ks (omega arith) a.0, deletes-history main (suc sub) ks a.1 g.1 o (omega arith))
+    (record { behind = o; number = omega arith; has_key = g.0 }, deletes-before main sub (suc sub) k ks (omega arith) a.0,
+        deletes-history main (suc sub) ks a.1 g.1 o (omega arith))
 
 deletes-at : (main sub : ℕ) (ks : List (List ℕ)) → AllByRecursion (λ u. u.rev.main ≡ main) (deletes_of main sub ks)
 deletes-at main sub [] = tt
 deletes-at main sub (k ∷ ks) = (refl, deletes-at main (suc sub) ks)
 
 -- deletes of ascending keys are the changes of one revision
-pub deletes-batch : (main sub : ℕ) (ks : List (List ℕ)) → IsAscending ks → AreGiven ks → 1 < main → sub + length ks ≤ 2 ^ 64 → IsBatch main (deletes_of main sub ks)
+pub deletes-batch : (main sub : ℕ) (ks : List (List ℕ)) → IsAscending ks → AreGiven ks → 1 < main → sub + length ks ≤ 2 ^ 64
+    → IsBatch main (deletes_of main sub ks)
 deletes-batch main sub ks a g o l = record { history = deletes-history main sub ks a g o l; at = deletes-at main sub ks }

@@ -1,5 +1,7 @@
 -- What is published makes of the versions what the commands made of them, and a reader stores a part of it.
-use Rattle.std.proofs.Common.{◌≡◌, ◌⊎◌, ℕ, ◌≤◌, ℤ, pos, negsuc, List, [], ◌∷◌, ◌++◌, length, filter, Bool, true, false, not, cond, Option, None, Some, Ok, Err, refl, sym, ◌∙◌, ap, subst, inl, inr, arith}
+use Rattle.std.proofs.Common.{
+  ◌≡◌, ◌⊎◌, ℕ, ◌≤◌, ℤ, pos, negsuc, List, [], ◌∷◌, ◌++◌, length, filter, Bool, true, false, not, cond, Option, None, Some, Ok, Err, refl,
+  sym, ◌∙◌, ap, subst, inl, inr, arith}
 use Rattle.std.specs.Prelude.{fold, find, drop, ◌+◌, nat_lt, nat_le, ◌||◌, ◌==◌}
 use Rattle.std.proofs.lemmas.Bool.{le-ltb, lt-ltb, leb-false}
 use Rattle.std.proofs.lemmas.List.{append-nil}
@@ -17,7 +19,9 @@ use Rattle.kv_model.specs.Leases.{Lease, lease_at, due}
 use Rattle.kv_model.specs.World.{World, revision, versions}
 use Rattle.kv_model.specs.Txns.{Path, previous_value, put_change}
 use Rattle.kv_model.specs.Told.{Reply, Trimmed}
-use Rattle.kv_model.specs.Step.{Made, made_in, perform, expire, world_of, commit, refused_or, last_main, compact_in, keep_alive_in, time_to_live_in, range_in, put_in, delete_in, txn_in, run_path, watch_in, grant_in, revoke_in, expire_at, expiry_of}
+use Rattle.kv_model.specs.Step.{
+  Made, made_in, perform, expire, world_of, commit, refused_or, last_main, compact_in, keep_alive_in, time_to_live_in, range_in, put_in,
+  delete_in, txn_in, run_path, watch_in, grant_in, revoke_in, expire_at, expiry_of}
 use Rattle.kv_model.specs.Trimming.{TrimStep, trimmed, trimmed_next, visited, finished, without_rev, is_trimmed, is_at, place_after}
 use Rattle.kv_model.specs.Feed.{Published, Snapshot, Untrimmed, absorb, grow, blank, nothing_published, last_main_or}
 use Rattle.kv_model.specs.Changes.{untrimmed, change_between, batch_of, added}
@@ -69,11 +73,13 @@ batch_grows ms (u ∷ us) c = λ i. record {
 
 -- from one history and compaction to others, by what is published between them
 abbrev Leads : List Mutation → ℕ → List Mutation → ℕ → Type 0
-Leads ms c ns d = fold grow (whole ms c) (cond (nat_lt c d) (Published.floor d ∷ []) (batch_of (drop (length (dress ms)) (dress ns)))) ≡ whole ns d
+Leads ms c ns d = fold grow (whole ms c) (cond (nat_lt c d) (Published.floor d ∷ []) (batch_of (drop (length (dress ms)) (dress ns))))
+    ≡ whole ns d
 
 leads_on : (ms us : List Mutation) (c : ℕ) → Leads ms c (ms ++ us) c
 leads_on ms us c =
-    ap (λ b. fold grow (whole ms c) (cond b (Published.floor c ∷ []) (batch_of (drop (length (dress ms)) (dress (ms ++ us)))))) (le-ltb c c (omega arith))
+    ap (λ b. fold grow (whole ms c) (cond b (Published.floor c ∷ []) (batch_of (drop (length (dress ms)) (dress (ms ++ us))))))
+        (le-ltb c c (omega arith))
     ∙ ap (λ vs. fold grow (whole ms c) (batch_of (drop (length (dress ms)) vs))) (dress-more ms us)
     ∙ ap (λ vs. fold grow (whole ms c) (batch_of vs)) (drop-append_seam (dress ms) (dress_after ms us))
     ∙ batch_grows ms us c
@@ -88,7 +94,8 @@ Moves w u = ((us : List Mutation) × (u.mutations ≡ w.mutations ++ us) × (u.c
     ⊎ ((u.mutations ≡ w.mutations) × (nat_lt w.compacted u.compacted ≡ true))
 
 moved : (w u : World) → Moves w u → fold grow (untrimmed w) (change_between w u) ≡ untrimmed u
-moved w u (inl h) = subst (λ c. Leads w.mutations w.compacted u.mutations c) (sym h.2) (subst (λ ms. Leads w.mutations w.compacted ms w.compacted) (sym h.1) (leads_on w.mutations h.0 w.compacted))
+moved w u (inl h) = subst (λ c. Leads w.mutations w.compacted u.mutations c) (sym h.2)
+    (subst (λ ms. Leads w.mutations w.compacted ms w.compacted) (sym h.1) (leads_on w.mutations h.0 w.compacted))
 moved w u (inr h) = subst (λ ms. Leads w.mutations w.compacted ms u.compacted) (sym h.0) (leads_up w.mutations w.compacted u.compacted h.1)
 
 stays : (w u : World) → u.mutations ≡ w.mutations → u.compacted ≡ w.compacted → Moves w u
@@ -122,7 +129,8 @@ compacts w (negsuc n) = refuses w (Compacted w.compacted)
 compacts w (pos r) = by (r == 0) (nat_le r w.compacted) refl (nat_lt (revision w) r)
   where
     by : (zero low : Bool) → nat_le r w.compacted ≡ low → (high : Bool)
-        → MovesBy w (refused_or (cond (zero || low) (Some (Compacted w.compacted)) (refuse_if high (Future (revision w)))) (Ok (Reply.compact, record w { compacted = r })))
+        → MovesBy w (refused_or (cond (zero || low) (Some (Compacted w.compacted)) (refuse_if high (Future (revision w))))
+        (Ok (Reply.compact, record w { compacted = r })))
     by true low e high = refuses w (Compacted w.compacted)
     by false true e high = refuses w (Compacted w.compacted)
     by false false e true = refuses w (Future (revision w))
@@ -149,7 +157,8 @@ revokes w id = unless w _ _ (commits w _ _ _ refl refl)
 moves : (w : World) (call : Call) → MovesBy w (made_in w call)
 unfolding range_in put_in delete_in txn_in watch_in grant_in
 moves w (Call.range q) = unless w _ _ (rests w _ _ refl refl)
-moves w (Call.put p) = unless w _ _ (commits w w (Reply.put (previous_value p.prev_kv (value_at (versions w) (end_of (revision w)) p.key))) (put_change (versions w) (revision w + 1) 0 p ∷ []) refl refl)
+moves w (Call.put p) = unless w _ _ (commits w w (Reply.put (previous_value p.prev_kv (value_at (versions w) (end_of (revision w)) p.key)))
+    (put_change (versions w) (revision w + 1) 0 p ∷ []) refl refl)
 moves w (Call.delete d) = unless w _ _ (commits w _ _ _ refl refl)
 moves w (Call.txn cs s f) = unless w _ _ (runs w _)
 moves w (Call.compact r physical) = compacts w r
@@ -189,7 +198,9 @@ trimmed_part : (vs us : List Version) (p : Rev) (c : ℕ) → IsPart vs us → I
 unfolding trimmed
 trimmed_part vs us p c h = next (find (λ v. not (rev_lt v.rev p)) vs)
   where
-    visit : (v : Version) (b : Bool) → IsPart (cond {A = TrimStep} b (record { told = Trimmed.removed v.rev; versions = without_rev (Some v.rev) vs; place = place_after v.rev }) (record { told = Trimmed.kept v.rev; versions = vs; place = place_after v.rev })).versions us
+    visit : (v : Version) (b : Bool)
+        → IsPart (cond {A = TrimStep} b (record { told = Trimmed.removed v.rev; versions = without_rev (Some v.rev) vs;
+        place = place_after v.rev }) (record { told = Trimmed.kept v.rev; versions = vs; place = place_after v.rev })).versions us
     visit v true = part-filter (λ u. not (is_at v.rev u)) h
     visit v false = h
 
@@ -208,9 +219,11 @@ record StoresOf (s : Snapshot) (u : Untrimmed) : Type 0 where
   revision : s.revision ≡ u.revision
 
 stores_one : (s : Snapshot) (u : Untrimmed) (op : Published) → StoresOf s u → StoresOf (absorb s op) (grow u op)
-stores_one s u (Published.batch vs) h = record { part = part-append vs h.part; compacted = h.compacted; revision = ap (λ r. last_main_or r vs) h.revision }
+stores_one s u (Published.batch vs) h = record { part = part-append vs h.part; compacted = h.compacted;
+    revision = ap (λ r. last_main_or r vs) h.revision }
 stores_one s u (Published.floor c) h = record { part = h.part; compacted = refl; revision = h.revision }
-stores_one s u Published.trim h = record { part = trimmed_part s.versions u.versions s.place s.compacted h.part; compacted = h.compacted; revision = h.revision }
+stores_one s u Published.trim h = record { part = trimmed_part s.versions u.versions s.place s.compacted h.part; compacted = h.compacted;
+    revision = h.revision }
 
 stores_all : (ops : List Published) (s : Snapshot) (u : Untrimmed) → StoresOf s u → StoresOf (fold absorb s ops) (fold grow u ops)
 stores_all [] s u h = h

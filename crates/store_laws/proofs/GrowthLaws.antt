@@ -1,5 +1,7 @@
 -- A version that is dressed by the one before it is the version that counting gives.
-use Rattle.std.proofs.Common.{append_assoc, ◌≡◌, ℕ, ◌+◌, ℤ, List, [], ◌∷◌, ◌++◌, length, Bool, true, false, ◌&&◌, cond, Some, option_and_then, filter, refl, sym, ◌∙◌, ap, arith, length-append}
+use Rattle.std.proofs.Common.{
+  append_assoc, ◌≡◌, ℕ, ◌+◌, ℤ, List, [], ◌∷◌, ◌++◌, length, Bool, true, false, ◌&&◌, cond, Some, option_and_then, filter, refl, sym, ◌∙◌,
+  ap, arith, length-append}
 use Rattle.std.specs.Option.{option_or}
 use Rattle.std.specs.List.{AllByRecursion, after_last}
 use Rattle.std.specs.Cmp.Lexicographic.{bytes_decides}
@@ -7,7 +9,8 @@ use Rattle.kv_model.specs.declared.version.Body.{Body}
 use Rattle.kv_model.specs.declared.version.Body.TheVariants.{Put}
 use Rattle.kv_model.specs.Lists.{last_that}
 use Rattle.kv_model.specs.Keys.{same_key}
-use Rattle.kv_model.specs.History.{Mutation, Action, KeyValue, life, is_put, puts_key, deletes_key, first_main, body_of, dress, value_now, shown}
+use Rattle.kv_model.specs.History.{
+  Mutation, Action, KeyValue, life, is_put, puts_key, deletes_key, first_main, body_of, dress, value_now, shown}
 use Rattle.kv_model.specs.Txns.{next_body, extend, extend_all}
 use Rattle.std.proofs.lemmas.List.{append-nil}
 use Rattle.store_laws.proofs.HistoryLaws.{life-push, dress-push, held, value_now-dress}
@@ -20,7 +23,8 @@ puts-filtered : (k : List ℕ) (ms : List Mutation) → ArePuts (filter (puts_ke
 puts-filtered k [] = tt
 puts-filtered k (m ∷ ms) = by (is_put m.action) refl (same_key m.key k) (puts-filtered k ms)
   where
-    by : (b : Bool) → is_put m.action ≡ b → (c : Bool) → ArePuts (filter (puts_key k) ms) → ArePuts (cond (c && b) (m ∷ filter (puts_key k) ms) (filter (puts_key k) ms))
+    by : (b : Bool) → is_put m.action ≡ b → (c : Bool) → ArePuts (filter (puts_key k) ms)
+        → ArePuts (cond (c && b) (m ∷ filter (puts_key k) ms) (filter (puts_key k) ms))
     by true e true rest = (e, rest)
     by true e false rest = rest
     by false e true rest = rest
@@ -30,13 +34,15 @@ pub puts-life : (k : List ℕ) (ms : List Mutation) → ArePuts (life k ms)
 puts-life k ms = puts-filtered k (after_last (deletes_key k) ms)
 
 -- the last of some puts is there, and is a put
-last-put : (m : Mutation) (ms : List Mutation) → ArePuts (m ∷ ms) → (n : Mutation) × (last_that (λ _. true) (m ∷ ms) ≡ Some n) × (is_put n.action ≡ true)
+last-put : (m : Mutation) (ms : List Mutation) → ArePuts (m ∷ ms) → (n : Mutation) × (last_that (λ _. true) (m ∷ ms) ≡ Some n)
+    × (is_put n.action ≡ true)
 last-put m [] h = (m, refl, h.0)
 last-put m (x ∷ xs) h = let r = last-put x xs h.1 in (r.0, ap (λ o. option_or o (Some m)) r.1, r.2)
 
 shown-put : (main : ℕ) (k : List ℕ) (l : List Mutation) (a : Action) → is_put a ≡ true
     → (kv : KeyValue) × (shown main k (body_of l a) ≡ Some kv) × (kv.create ≡ first_main l) × (kv.version ≡ length l)
-shown-put main k l (Action.put value lease) e = (record { key = k; value = value; create = first_main l; modified = main; version = length l; lease = lease }, refl, refl, refl)
+shown-put main k l (Action.put value lease) e = (record { key = k; value = value; create = first_main l; modified = main;
+    version = length l; lease = lease }, refl, refl, refl)
 shown-put main k l Action.delete e = cc
 
 -- a life that is not over is seen in what the key holds
@@ -55,7 +61,8 @@ next-put (n ∷ ns) m value lease h =
     let count : length ((n ∷ ns) ++ m ∷ []) ≡ r.0.version + 1 = omega (arith, length-append (n ∷ ns) (m ∷ []), r.3) in
     (λ i. Put (sym r.2 i) (count i) lease value) ∙ ap (next_body m.rev.main (Action.put value lease)) (sym r.1)
 
-next : (l : List Mutation) (m : Mutation) (a : Action) → ArePuts l → body_of (cond (is_put a) (l ++ m ∷ []) []) a ≡ next_body m.rev.main a (held l)
+next : (l : List Mutation) (m : Mutation) (a : Action) → ArePuts l → body_of (cond (is_put a) (l ++ m ∷ []) []) a
+    ≡ next_body m.rev.main a (held l)
 next l m (Action.put value lease) h = next-put l m value lease h
 next l m Action.delete h = refl
 
@@ -64,7 +71,8 @@ pub dress-extend : (ms : List Mutation) (m : Mutation) → dress (ms ++ m ∷ []
 dress-extend ms m = dress-push ms m ∙ ap (λ (b : Body). dress ms ++ (record { rev = m.rev; key = m.key; body = b }) ∷ []) same
   where
     grown : life m.key (ms ++ m ∷ []) ≡ cond (is_put m.action) (life m.key ms ++ m ∷ []) []
-    grown = life-push m.key ms m ∙ ap (λ a. cond a (cond (is_put m.action) (life m.key ms ++ m ∷ []) []) (life m.key ms)) ((bytes_decides m.key m.key).1 refl)
+    grown = life-push m.key ms m ∙ ap (λ a. cond a (cond (is_put m.action) (life m.key ms ++ m ∷ []) []) (life m.key ms))
+        ((bytes_decides m.key m.key).1 refl)
 
     same : body_of (life m.key (ms ++ m ∷ [])) m.action ≡ next_body m.rev.main m.action (value_now (dress ms) m.key)
     same = ap (λ l. body_of l m.action) grown ∙ next (life m.key ms) m m.action (puts-life m.key ms)
@@ -73,4 +81,5 @@ dress-extend ms m = dress-push ms m ∙ ap (λ (b : Body). dress ms ++ (record {
 -- and so for any changes in a row
 pub dress-extend_all : (ms us : List Mutation) → dress (ms ++ us) ≡ extend_all (dress ms) us
 dress-extend_all ms [] = ap dress (append-nil ms)
-dress-extend_all ms (u ∷ us) = ap dress (sym (append_assoc ms (u ∷ []) us)) ∙ dress-extend_all (ms ++ u ∷ []) us ∙ ap (λ vs. extend_all vs us) (dress-extend ms u)
+dress-extend_all ms (u ∷ us) = ap dress (sym (append_assoc ms (u ∷ []) us)) ∙ dress-extend_all (ms ++ u ∷ []) us
+    ∙ ap (λ vs. extend_all vs us) (dress-extend ms u)

@@ -1,5 +1,7 @@
 -- What a place in the history sees of versions: those behind it count for nothing, and behind all of them it sees the last.
-use Rattle.std.proofs.Common.{◌≡◌, ◌≤◌, ◌<◌, ℕ, ◌-◌, ◌^◌, List, [], ◌∷◌, ◌++◌, Bool, true, false, ◌&&◌, cond, Option, None, Some, option_and_then, refl, sym, ◌∙◌, ap, arith}
+use Rattle.std.proofs.Common.{
+  ◌≡◌, ◌≤◌, ◌<◌, ℕ, ◌-◌, ◌^◌, List, [], ◌∷◌, ◌++◌, Bool, true, false, ◌&&◌, cond, Option, None, Some, option_and_then, refl, sym, ◌∙◌, ap,
+  arith}
 use Rattle.std.specs.Option.{option_or}
 use Rattle.std.specs.List.{AllByRecursion}
 use Rattle.std.specs.declared.cmp.Ordering.{Ordering}
@@ -10,7 +12,9 @@ use Rattle.kv_model.specs.declared.version.Rev.{Rev}
 use Rattle.kv_model.specs.declared.version.Version.{Version}
 use Rattle.kv_model.specs.Lists.{IsPart, nothing, keep, leave, last_that}
 use Rattle.kv_model.specs.Keys.{same_key}
-use Rattle.kv_model.specs.History.{Mutation, IsChange, IsBefore, IsHistory, now, now_after, dress, dress_after, latest, value_at, value_now, key_value, rev_le, rev_lt, end_of}
+use Rattle.kv_model.specs.History.{
+  Mutation, IsChange, IsBefore, IsHistory, now, now_after, dress, dress_after, latest, value_at, value_now, key_value, rev_le, rev_lt,
+  end_of}
 use Rattle.store_laws.proofs.HistoryLaws.{last_that-append}
 
 -- ---- what holds of each element
@@ -61,7 +65,8 @@ pub latest-behind : (vs us : List Version) (p : Rev) (k : List ℕ) → AreBehin
 latest-behind vs us p k h =
     last_that-append (λ v. same_key v.key k && rev_le v.rev p) vs us
     ∙ ap (λ o. option_or o (latest vs p k)) (last_that-none (λ v. same_key v.key k && rev_le v.rev p) us
-    (each-map (λ v. rev_le v.rev p ≡ false) (λ v. (same_key v.key k && rev_le v.rev p) ≡ false) (λ v e. ap (λ b. same_key v.key k && b) e ∙ and-false (same_key v.key k)) us h))
+    (each-map (λ v. rev_le v.rev p ≡ false) (λ v. (same_key v.key k && rev_le v.rev p) ≡ false) (λ v e. ap (λ b. same_key v.key k && b) e
+        ∙ and-false (same_key v.key k)) us h))
 
 pub value_at-behind : (vs us : List Version) (p : Rev) (k : List ℕ) → AreBehind p us → value_at (vs ++ us) p k ≡ value_at vs p k
 unfolding value_at
@@ -71,7 +76,8 @@ value_at-behind vs us p k h = ap (option_and_then key_value) (latest-behind vs u
 pub value_at-by : (vs : List Version) (p : Rev) (k : List ℕ) → AreBy p vs → value_at vs p k ≡ value_now vs k
 unfolding value_at value_now
 value_at-by vs p k h = ap (option_and_then key_value) (last_that-same (λ v. same_key v.key k && rev_le v.rev p) (λ v. same_key v.key k) vs
-    (each-map (λ v. rev_le v.rev p ≡ true) (λ v. (same_key v.key k && rev_le v.rev p) ≡ same_key v.key k) (λ v e. ap (λ b. same_key v.key k && b) e ∙ and-true (same_key v.key k)) vs h))
+    (each-map (λ v. rev_le v.rev p ≡ true) (λ v. (same_key v.key k && rev_le v.rev p) ≡ same_key v.key k) (λ v e. ap (λ b. same_key v.key k
+        && b) e ∙ and-true (same_key v.key k)) vs h))
 
 or-same : (t : Option Version) (a b : Option Version) → option_and_then key_value a ≡ option_and_then key_value b
     → option_and_then key_value (option_or t a) ≡ option_and_then key_value (option_or t b)
@@ -79,23 +85,29 @@ or-same None a b e = e
 or-same (Some v) a b e = refl
 
 -- lists that hold the same of a key do so when both grow by the same versions
-pub value_at-grows : (vs bs us : List Version) (p : Rev) (k : List ℕ) → value_at vs p k ≡ value_at bs p k → value_at (vs ++ us) p k ≡ value_at (bs ++ us) p k
+pub value_at-grows : (vs bs us : List Version) (p : Rev) (k : List ℕ) → value_at vs p k ≡ value_at bs p k → value_at (vs ++ us) p k
+    ≡ value_at (bs ++ us) p k
 unfolding value_at
 value_at-grows vs bs us p k e =
     let test : Version → Bool = λ v. same_key v.key k && rev_le v.rev p in
-    ap (option_and_then key_value) (last_that-append test vs us) ∙ or-same (latest us p k) (latest vs p k) (latest bs p k) e ∙ sym (ap (option_and_then key_value) (last_that-append test bs us))
+    ap (option_and_then key_value) (last_that-append test vs us) ∙ or-same (latest us p k) (latest vs p k) (latest bs p k) e
+        ∙ sym (ap (option_and_then key_value) (last_that-append test bs us))
 
-pub value_now-grows : (vs bs us : List Version) (k : List ℕ) → value_now vs k ≡ value_now bs k → value_now (vs ++ us) k ≡ value_now (bs ++ us) k
+pub value_now-grows : (vs bs us : List Version) (k : List ℕ) → value_now vs k ≡ value_now bs k → value_now (vs ++ us) k
+    ≡ value_now (bs ++ us) k
 unfolding value_now
 value_now-grows vs bs us k e =
     let test : Version → Bool = λ v. same_key v.key k in
-    ap (option_and_then key_value) (last_that-append test vs us) ∙ or-same (last_that test us) (last_that test vs) (last_that test bs) e ∙ sym (ap (option_and_then key_value) (last_that-append test bs us))
+    ap (option_and_then key_value) (last_that-append test vs us) ∙ or-same (last_that test us) (last_that test vs) (last_that test bs) e
+        ∙ sym (ap (option_and_then key_value) (last_that-append test bs us))
 
 -- a key that no version has holds nothing
-pub value_at-absent : (vs : List Version) (p : Rev) (k : List ℕ) → AllByRecursion (λ v. same_key v.key k ≡ false) vs → value_at vs p k ≡ None
+pub value_at-absent : (vs : List Version) (p : Rev) (k : List ℕ) → AllByRecursion (λ v. same_key v.key k ≡ false) vs → value_at vs p k
+    ≡ None
 unfolding value_at
 value_at-absent vs p k h = ap (option_and_then key_value) (last_that-none (λ v. same_key v.key k && rev_le v.rev p) vs
-    (each-map (λ v. same_key v.key k ≡ false) (λ v. (same_key v.key k && rev_le v.rev p) ≡ false) (λ v e. ap (λ b. b && rev_le v.rev p) e) vs h))
+    (each-map (λ v. same_key v.key k ≡ false) (λ v. (same_key v.key k && rev_le v.rev p) ≡ false) (λ v e. ap (λ b. b && rev_le v.rev p) e)
+        vs h))
 
 -- ---- the order of places, in numbers
 
@@ -114,7 +126,8 @@ rev_le-end p r h s = by (nat_cmp p.main r) (ranks p.main r) (nat_cmp p.sub (2 ^ 
 pub rev_le-after : (p q : Rev) → q.main < p.main → rev_le p q ≡ false
 rev_le-after p q h = by (nat_cmp p.main q.main) (ranks p.main q.main) (nat_cmp p.sub q.sub)
   where
-    by : (o : Ordering) → MatchOrdering o (p.main < q.main) (p.main ≡ q.main) (q.main < p.main) → (t : Ordering) → is_le (ordering_then o t) ≡ false
+    by : (o : Ordering) → MatchOrdering o (p.main < q.main) (p.main ≡ q.main) (q.main < p.main) → (t : Ordering) → is_le (ordering_then o t)
+        ≡ false
     by Less a t = absurd (omega arith)
     by Equal a t = absurd (omega arith)
     by Greater a t = refl
@@ -122,7 +135,8 @@ rev_le-after p q h = by (nat_cmp p.main q.main) (ranks p.main q.main) (nat_cmp p
 pub rev_le-before : (p q : Rev) → p.main < q.main → rev_le p q ≡ true
 rev_le-before p q h = by (nat_cmp p.main q.main) (ranks p.main q.main) (nat_cmp p.sub q.sub)
   where
-    by : (o : Ordering) → MatchOrdering o (p.main < q.main) (p.main ≡ q.main) (q.main < p.main) → (t : Ordering) → is_le (ordering_then o t) ≡ true
+    by : (o : Ordering) → MatchOrdering o (p.main < q.main) (p.main ≡ q.main) (q.main < p.main) → (t : Ordering) → is_le (ordering_then o t)
+        ≡ true
     by Less a t = refl
     by Equal a t = absurd (omega arith)
     by Greater a t = absurd (omega arith)
@@ -130,7 +144,8 @@ rev_le-before p q h = by (nat_cmp p.main q.main) (ranks p.main q.main) (nat_cmp 
 pub rev_lt-main : (p q : Rev) → rev_lt p q ≡ true → p.main ≤ q.main
 rev_lt-main p q h = by (nat_cmp p.main q.main) (ranks p.main q.main) (nat_cmp p.sub q.sub) h
   where
-    by : (o : Ordering) → MatchOrdering o (p.main < q.main) (p.main ≡ q.main) (q.main < p.main) → (t : Ordering) → is_lt (ordering_then o t) ≡ true → p.main ≤ q.main
+    by : (o : Ordering) → MatchOrdering o (p.main < q.main) (p.main ≡ q.main) (q.main < p.main) → (t : Ordering) → is_lt (ordering_then o t)
+        ≡ true → p.main ≤ q.main
     by Less a t e = omega arith
     by Equal a t e = omega arith
     by Greater a t e = cc
@@ -138,7 +153,8 @@ rev_lt-main p q h = by (nat_cmp p.main q.main) (ranks p.main q.main) (nat_cmp p.
 pub rev_lt-mains : (p q : Rev) → p.main < q.main → rev_lt p q ≡ true
 rev_lt-mains p q h = by (nat_cmp p.main q.main) (ranks p.main q.main) (nat_cmp p.sub q.sub)
   where
-    by : (o : Ordering) → MatchOrdering o (p.main < q.main) (p.main ≡ q.main) (q.main < p.main) → (t : Ordering) → is_lt (ordering_then o t) ≡ true
+    by : (o : Ordering) → MatchOrdering o (p.main < q.main) (p.main ≡ q.main) (q.main < p.main) → (t : Ordering) → is_lt (ordering_then o t)
+        ≡ true
     by Less a t = refl
     by Equal a t = absurd (omega arith)
     by Greater a t = absurd (omega arith)
@@ -157,7 +173,8 @@ rev_lt-subs p q e h = by (nat_cmp p.main q.main) (ranks p.main q.main) (nat_cmp 
 -- ---- the changes of a history and their versions
 
 -- what holds of each change's place and key holds of each version's
-pub each-dressed : (P : Rev → List ℕ → Type 0) (ms : List Mutation) → AllByRecursion (λ m. P m.rev m.key) ms → AllByRecursion (λ v. P v.rev v.key) (dress ms)
+pub each-dressed : (P : Rev → List ℕ → Type 0) (ms : List Mutation) → AllByRecursion (λ m. P m.rev m.key) ms
+    → AllByRecursion (λ v. P v.rev v.key) (dress ms)
 unfolding dress
 each-dressed P = go []
   where
@@ -170,11 +187,14 @@ each-change [] h = tt
 each-change (m ∷ ms) h = (h.0, each-change ms h.2)
 
 -- the revision after some changes is not below any of them
-now_after-above : (r : ℕ) (ms : List Mutation) → AllByRecursion (λ m. r ≤ m.rev.main) ms → IsHistory ms → (r ≤ now_after r ms) × AllByRecursion (λ m. m.rev.main ≤ now_after r ms) ms
+now_after-above : (r : ℕ) (ms : List Mutation) → AllByRecursion (λ m. r ≤ m.rev.main) ms → IsHistory ms → (r ≤ now_after r ms)
+    × AllByRecursion (λ m. m.rev.main ≤ now_after r ms) ms
 now_after-above r [] a h = (omega arith, tt)
 now_after-above r (m ∷ ms) a h =
-    let later : AllByRecursion (λ n. m.rev.main ≤ n.rev.main) ms = each-map (IsBefore m) (λ n. m.rev.main ≤ n.rev.main) (λ n b. rev_lt-main m.rev n.rev b.0) ms h.1 in
-    let rest : (m.rev.main ≤ now_after m.rev.main ms) × AllByRecursion (λ n. n.rev.main ≤ now_after m.rev.main ms) ms = now_after-above m.rev.main ms later h.2 in
+    let later : AllByRecursion (λ n. m.rev.main ≤ n.rev.main) ms = each-map (IsBefore m) (λ n. m.rev.main ≤ n.rev.main)
+            (λ n b. rev_lt-main m.rev n.rev b.0) ms h.1 in
+    let rest : (m.rev.main ≤ now_after m.rev.main ms) × AllByRecursion (λ n. n.rev.main ≤ now_after m.rev.main ms) ms = now_after-above
+            m.rev.main ms later h.2 in
     let first : r ≤ m.rev.main = a.0 in
     (omega arith, (rest.0, rest.1))
 

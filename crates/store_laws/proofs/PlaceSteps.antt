@@ -1,5 +1,7 @@
 -- A trimming step from a place on, over versions that rise.
-use Rattle.std.proofs.Common.{◌≡◌, ◌≤◌, ◌<◌, ◌⊎◌, ℕ, ◌+◌, ◌-◌, ◌^◌, List, [], ◌∷◌, ◌++◌, find, filter, Bool, true, false, not, ◌&&◌, cond, None, Some, refl, sym, ◌∙◌, ap, inl, inr, arith}
+use Rattle.std.proofs.Common.{
+  ◌≡◌, ◌≤◌, ◌<◌, ◌⊎◌, ℕ, ◌+◌, ◌-◌, ◌^◌, List, [], ◌∷◌, ◌++◌, find, filter, Bool, true, false, not, ◌&&◌, cond, None, Some, refl, sym, ◌∙◌,
+  ap, inl, inr, arith}
 use Rattle.std.specs.Prelude.{nat_le, ◌==◌}
 use Rattle.std.proofs.lemmas.Bool.{lt-leb, lt-ltb, le-ltb, eqb-true, eq-eqb}
 use Rattle.std.proofs.lemmas.List.Elements.{filter-append}
@@ -13,7 +15,8 @@ use Rattle.store_laws.proofs.TrimLaws.{below-cases, ranked, Precedes, AreRising,
 
 -- ---- places
 
-joined : (p q r : Rev) → (p.main < q.main) ⊎ ((p.main ≡ q.main) × (p.sub < q.sub)) → (q.main < r.main) ⊎ ((q.main ≡ r.main) × (q.sub < r.sub)) → rev_lt p r ≡ true
+joined : (p q r : Rev) → (p.main < q.main) ⊎ ((p.main ≡ q.main) × (p.sub < q.sub)) → (q.main < r.main)
+    ⊎ ((q.main ≡ r.main) × (q.sub < r.sub)) → rev_lt p r ≡ true
 joined p q r (inl a) (inl b) = rev_lt-mains p r (omega arith)
 joined p q r (inl a) (inr b) = rev_lt-mains p r (omega arith)
 joined p q r (inr a) (inl b) = rev_lt-mains p r (omega arith)
@@ -35,7 +38,8 @@ pub after-self : (p : Rev) → p.main < 2 ^ 63 → p.sub < 2 ^ 64 → rev_lt p (
 after-self p h g = by (ranked (2 ^ 64 - 1) p.sub)
   where
     by : (2 ^ 64 - 1 ≤ p.sub) ⊎ (p.sub < 2 ^ 64 - 1) → rev_lt p (place_after p) ≡ true
-    by (inl a) = rw (le-ltb p.sub (2 ^ 64 - 1) a, lt-ltb p.main (2 ^ 64 - 1) (omega arith)) (rev_lt-mains p (record { main = p.main + 1; sub = 0 }) (omega arith))
+    by (inl a) = rw (le-ltb p.sub (2 ^ 64 - 1) a, lt-ltb p.main (2 ^ 64 - 1) (omega arith)) (rev_lt-mains p (record { main = p.main + 1;
+        sub = 0 }) (omega arith))
     by (inr a) = rw (lt-ltb p.sub (2 ^ 64 - 1) a) (rev_lt-subs p (record p { sub = p.sub + 1 }) refl (omega arith))
 
 -- and nothing stands between them
@@ -44,11 +48,15 @@ after-next p q h g k l = by (rev_lt q (place_after p)) refl
   where
     no : (2 ^ 64 - 1 ≤ p.sub) ⊎ (p.sub < 2 ^ 64 - 1) → rev_lt q (place_after p) ≡ true → ⊥
     no (inl a) e =
-        let f : rev_lt q (record { main = p.main + 1; sub = 0 }) ≡ true = (rw (le-ltb p.sub (2 ^ 64 - 1) a, lt-ltb p.main (2 ^ 64 - 1) (omega arith)) at e) in
-        elim (below-cases p q l) [ inl x ↦ elim (below-cases q (record { main = p.main + 1; sub = 0 }) f) [ inl y ↦ omega arith | inr y ↦ omega arith ] | inr x ↦ omega arith ]
+        let f : rev_lt q (record { main = p.main + 1; sub = 0 })
+                ≡ true = (rw (le-ltb p.sub (2 ^ 64 - 1) a, lt-ltb p.main (2 ^ 64 - 1) (omega arith)) at e) in
+        elim (below-cases p q l) [ inl x ↦ elim (below-cases q (record { main = p.main + 1; sub = 0 }) f) [ inl y ↦ omega arith
+            | inr y ↦ omega arith ] | inr x ↦ omega arith ]
     no (inr a) e =
         let f : rev_lt q (record p { sub = p.sub + 1 }) ≡ true = (rw (lt-ltb p.sub (2 ^ 64 - 1) a) at e) in
-        elim (below-cases p q l) [ inl x ↦ elim (below-cases q (record p { sub = p.sub + 1 }) f) [ inl y ↦ omega arith | inr y ↦ omega arith ] | inr x ↦ elim (below-cases q (record p { sub = p.sub + 1 }) f) [ inl y ↦ omega arith | inr y ↦ omega arith ] ]
+        elim (below-cases p q l) [ inl x ↦ elim (below-cases q (record p { sub = p.sub + 1 }) f) [ inl y ↦ omega arith
+            | inr y ↦ omega arith ] | inr x ↦ elim (below-cases q (record p { sub = p.sub + 1 }) f) [ inl y ↦ omega arith
+            | inr y ↦ omega arith ] ]
 
     by : (b : Bool) → rev_lt q (place_after p) ≡ b → b ≡ false
     by true e = absurd (no (ranked (2 ^ 64 - 1) p.sub) e)
@@ -68,15 +76,19 @@ pub first-from : (p : Rev) (v : Version) (vs : List Version) → find (λ u. not
 first-from p v [] e = cc
 first-from p v (u ∷ us) e = by (rev_lt u.rev p) refl (first-from p v us) e
   where
-    by : (b : Bool) → rev_lt u.rev p ≡ b → (find (λ u. not (rev_lt u.rev p)) us ≡ Some v → First p v us) → cond (not b) (Some u) (find (λ u. not (rev_lt u.rev p)) us) ≡ Some v → First p v (u ∷ us)
-    by true f rest e = let r = rest e in record { before = u ∷ r.before; after = r.after; is = ap (λ xs. u ∷ xs) r.is; all_before = (f, r.all_before); from = r.from }
-    by false f rest e = let same : u ≡ v = cc in record { before = []; after = us; is = ap (λ w. w ∷ us) same; all_before = tt; from = sym (ap (λ w. rev_lt w.rev p) same) ∙ f }
+    by : (b : Bool) → rev_lt u.rev p ≡ b → (find (λ u. not (rev_lt u.rev p)) us ≡ Some v → First p v us)
+        → cond (not b) (Some u) (find (λ u. not (rev_lt u.rev p)) us) ≡ Some v → First p v (u ∷ us)
+    by true f rest e = let r = rest e in record { before = u ∷ r.before; after = r.after; is = ap (λ xs. u ∷ xs) r.is;
+                               all_before = (f, r.all_before); from = r.from }
+    by false f rest e = let same : u ≡ v = cc in record { before = []; after = us; is = ap (λ w. w ∷ us) same; all_before = tt;
+                                from = sym (ap (λ w. rev_lt w.rev p) same) ∙ f }
 
 pub none-from : (p : Rev) (vs : List Version) → find (λ u. not (rev_lt u.rev p)) vs ≡ None → AllByRecursion (λ u. rev_lt u.rev p ≡ true) vs
 none-from p [] e = tt
 none-from p (u ∷ us) e = by (rev_lt u.rev p) refl (none-from p us) e
   where
-    by : (b : Bool) → rev_lt u.rev p ≡ b → (find (λ u. not (rev_lt u.rev p)) us ≡ None → AllByRecursion (λ u. rev_lt u.rev p ≡ true) us) → cond (not b) (Some u) (find (λ u. not (rev_lt u.rev p)) us) ≡ None → AllByRecursion (λ u. rev_lt u.rev p ≡ true) (u ∷ us)
+    by : (b : Bool) → rev_lt u.rev p ≡ b → (find (λ u. not (rev_lt u.rev p)) us ≡ None → AllByRecursion (λ u. rev_lt u.rev p ≡ true) us)
+        → cond (not b) (Some u) (find (λ u. not (rev_lt u.rev p)) us) ≡ None → AllByRecursion (λ u. rev_lt u.rev p ≡ true) (u ∷ us)
     by true f rest e = (f, rest e)
     by false f rest e = cc
 
@@ -87,19 +99,23 @@ is_ahead p c v = not (rev_lt v.rev p) && nat_le v.rev.main c
 
 pub ahead-none : (p : Rev) (c : ℕ) (vs : List Version) → AllByRecursion (λ u. rev_lt u.rev p ≡ true) vs → filter (is_ahead p c) vs ≡ []
 ahead-none p c [] h = refl
-ahead-none p c (v ∷ vs) h = ap (λ b. cond (not b && nat_le v.rev.main c) (v ∷ filter (is_ahead p c) vs) (filter (is_ahead p c) vs)) h.0 ∙ ahead-none p c vs h.1
+ahead-none p c (v ∷ vs) h = ap (λ b. cond (not b && nat_le v.rev.main c) (v ∷ filter (is_ahead p c) vs) (filter (is_ahead p c) vs)) h.0
+    ∙ ahead-none p c vs h.1
 
 pub ahead-above : (p : Rev) (c : ℕ) (vs : List Version) → AllByRecursion (λ u. c < u.rev.main) vs → filter (is_ahead p c) vs ≡ []
 ahead-above p c [] h = refl
 ahead-above p c (v ∷ vs) h = by (not (rev_lt v.rev p)) (ahead-above p c vs h.1)
   where
-    by : (b : Bool) → filter (is_ahead p c) vs ≡ [] → cond (b && nat_le v.rev.main c) (v ∷ filter (is_ahead p c) vs) (filter (is_ahead p c) vs) ≡ []
+    by : (b : Bool) → filter (is_ahead p c) vs ≡ [] → cond (b && nat_le v.rev.main c) (v
+        ∷ filter (is_ahead p c) vs) (filter (is_ahead p c) vs) ≡ []
     by true rest = ap (λ b. cond b (v ∷ filter (is_ahead p c) vs) (filter (is_ahead p c) vs)) (lt-leb v.rev.main c h.0) ∙ rest
     by false rest = rest
 
-pub ahead-same : (p q : Rev) (c : ℕ) (vs : List Version) → AllByRecursion (λ u. rev_lt u.rev p ≡ false) vs → AllByRecursion (λ u. rev_lt u.rev q ≡ false) vs → filter (is_ahead p c) vs ≡ filter (is_ahead q c) vs
+pub ahead-same : (p q : Rev) (c : ℕ) (vs : List Version) → AllByRecursion (λ u. rev_lt u.rev p ≡ false) vs
+    → AllByRecursion (λ u. rev_lt u.rev q ≡ false) vs → filter (is_ahead p c) vs ≡ filter (is_ahead q c) vs
 ahead-same p q c [] g h = refl
-ahead-same p q c (v ∷ vs) g h = λ i. cond (not ((g.0 ∙ sym h.0) i) && nat_le v.rev.main c) (v ∷ ahead-same p q c vs g.1 h.1 i) (ahead-same p q c vs g.1 h.1 i)
+ahead-same p q c (v ∷ vs) g h = λ i. cond (not ((g.0 ∙ sym h.0) i) && nat_le v.rev.main c) (v
+    ∷ ahead-same p q c vs g.1 h.1 i) (ahead-same p q c vs g.1 h.1 i)
 
 -- ---- taking one out
 
@@ -115,15 +131,20 @@ kept-all : {X : Type 0} (p : X → Bool) (xs : List X) → AllByRecursion (λ x.
 kept-all p [] h = refl
 kept-all p (x ∷ xs) h = ap (λ b. cond b (x ∷ filter p xs) (filter p xs)) h.0 ∙ ap (λ ys. x ∷ ys) (kept-all p xs h.1)
 
-not-at : (p q : Rev) → (p.main < q.main) ⊎ ((p.main ≡ q.main) × (p.sub < q.sub)) → (((p.main == q.main) && (p.sub == q.sub)) ≡ false) × (((q.main == p.main) && (q.sub == p.sub)) ≡ false)
+not-at : (p q : Rev) → (p.main < q.main) ⊎ ((p.main ≡ q.main) × (p.sub < q.sub)) → (((p.main == q.main) && (p.sub == q.sub)) ≡ false)
+    × (((q.main == p.main) && (q.sub == p.sub)) ≡ false)
 not-at p q (inl a) = (other_place p q (λ d e. omega arith), other_place q p (λ d e. omega arith))
 not-at p q (inr a) = (other_place p q (λ d e. omega arith), other_place q p (λ d e. omega arith))
 
-pub without-mid : (xs : List Version) (v : Version) (ys : List Version) → AreRising (xs ++ v ∷ ys) → without_rev (Some v.rev) (xs ++ v ∷ ys) ≡ xs ++ ys
+pub without-mid : (xs : List Version) (v : Version) (ys : List Version) → AreRising (xs ++ v ∷ ys) → without_rev (Some v.rev) (xs ++ v ∷ ys)
+    ≡ xs ++ ys
 without-mid xs v ys h =
     let test : Version → Bool = λ u. not (is_at v.rev u) in
     let mid = rising-mid xs v ys h in
     filter-append test xs (v ∷ ys)
-    ∙ ap (λ b. filter test xs ++ cond (not b) (v ∷ filter test ys) (filter test ys)) (λ i. eq-eqb v.rev.main v.rev.main refl i && eq-eqb v.rev.sub v.rev.sub refl i)
-    ∙ ap (λ us. us ++ filter test ys) (kept-all test xs (each-map (λ u. Precedes u v) (λ u. test u ≡ true) (λ u a. ap not (not-at u.rev v.rev (below-cases u.rev v.rev a.0)).0) xs mid.0))
-    ∙ ap (λ us. xs ++ us) (kept-all test ys (each-map (Precedes v) (λ u. test u ≡ true) (λ u a. ap not (not-at v.rev u.rev (below-cases v.rev u.rev a.0)).1) ys mid.1))
+    ∙ ap (λ b. filter test xs ++ cond (not b) (v ∷ filter test ys) (filter test ys)) (λ i. eq-eqb v.rev.main v.rev.main refl i
+    && eq-eqb v.rev.sub v.rev.sub refl i)
+    ∙ ap (λ us. us ++ filter test ys) (kept-all test xs (each-map (λ u. Precedes u v) (λ u. test u
+    ≡ true) (λ u a. ap not (not-at u.rev v.rev (below-cases u.rev v.rev a.0)).0) xs mid.0))
+    ∙ ap (λ us. xs ++ us) (kept-all test ys (each-map (Precedes v) (λ u. test u
+    ≡ true) (λ u a. ap not (not-at v.rev u.rev (below-cases v.rev u.rev a.0)).1) ys mid.1))

@@ -1,5 +1,7 @@
 -- A trimming step by the rule is one that a run may make.
-use Rattle.std.proofs.Common.{◌≡◌, ◌≤◌, ◌<◌, ◌⊎◌, ℕ, ◌^◌, List, [], ◌∷◌, ◌++◌, length, find, filter, Bool, true, false, not, ◌&&◌, cond, Option, None, Some, refl, sym, ◌∙◌, ap, subst, inl, inr, arith}
+use Rattle.std.proofs.Common.{
+  ◌≡◌, ◌≤◌, ◌<◌, ◌⊎◌, ℕ, ◌^◌, List, [], ◌∷◌, ◌++◌, length, find, filter, Bool, true, false, not, ◌&&◌, cond, Option, None, Some, refl, sym,
+  ◌∙◌, ap, subst, inl, inr, arith}
 use Rattle.std.specs.Prelude.{⊤, nat_le, MatchOption}
 use Rattle.std.proofs.lemmas.Bool.{leb-true, le-leb, leb-false}
 use Rattle.std.proofs.lemmas.List.Elements.{filter-append}
@@ -11,7 +13,8 @@ use Rattle.kv_model.specs.History.{now, rev_lt}
 use Rattle.kv_model.specs.World.{World, IsSound}
 use Rattle.kv_model.specs.Told.{Trimmed}
 use Rattle.kv_model.specs.Questions.{IsGood}
-use Rattle.kv_model.specs.Trimming.{TrimStep, trimmed, trimmed_next, visited, finished, without_rev, place_after, is_trimmed, IsSettled, IsTrimmedTo}
+use Rattle.kv_model.specs.Trimming.{
+  TrimStep, trimmed, trimmed_next, visited, finished, without_rev, place_after, is_trimmed, IsSettled, IsTrimmedTo}
 use Rattle.kv_model.specs.Certificates.{Claim}
 use Rattle.kv_model.specs.Wire.{WireTold}
 use Rattle.kv_model.specs.Kept.{Keeping, IsInLeast, IsTrimmed, IsCertificate, Trims}
@@ -19,39 +22,47 @@ use Rattle.store_laws.specs.TrimmingLaws.{keeping, trim_told, IsOwn, StepsWell, 
 use Rattle.store_laws.proofs.PartLaws.{in_whole}
 use Rattle.store_laws.proofs.HistoryLaws.{AllByRecursion-split}
 use Rattle.store_laws.proofs.PlaceLaws.{each-map, each-append, rev_lt-main}
-use Rattle.store_laws.proofs.TrimLaws.{Precedes, AreRising, rising-dress, rising-part, rising-mid, Sits, AllSit, sit-part, AreLeft, rev_lt-self}
+use Rattle.store_laws.proofs.TrimLaws.{
+  Precedes, AreRising, rising-dress, rising-part, rising-mid, Sits, AllSit, sit-part, AreLeft, rev_lt-self}
 use Rattle.store_laws.proofs.StepLaws.{settles, fewer, step-good}
 use Rattle.store_laws.proofs.LeastLaws.{each-in, IsLeft, stays-in, settled-least, least-settled}
-use Rattle.store_laws.proofs.PlaceSteps.{rev_lt-trans, not-before, after-self, after-next, First, first-from, none-from, is_ahead, ahead-none, ahead-above, ahead-same, without-mid}
+use Rattle.store_laws.proofs.PlaceSteps.{
+  rev_lt-trans, not-before, after-self, after-next, First, first-from, none-from, is_ahead, ahead-none, ahead-above, ahead-same, without-mid}
 use Rattle.store_laws.proofs.CertificateLaws.{settled-certified}
 
 -- ---- done
 
 -- where nothing is ahead, what is not left to take out before the place is not left at all
-settled-from : (vs : List Version) (p : Rev) (c : ℕ) (us : List Version) → filter (is_ahead p c) us ≡ [] → AllByRecursion (λ v. (rev_lt v.rev p && (nat_le v.rev.main c && is_trimmed vs c v)) ≡ false) us → AreLeft vs c us
+settled-from : (vs : List Version) (p : Rev) (c : ℕ) (us : List Version) → filter (is_ahead p c) us ≡ []
+    → AllByRecursion (λ v. (rev_lt v.rev p && (nat_le v.rev.main c && is_trimmed vs c v)) ≡ false) us → AreLeft vs c us
 settled-from vs p c [] e h = tt
 settled-from vs p c (u ∷ us) e h = by (rev_lt u.rev p) refl (nat_le u.rev.main c) refl e h.0 (λ f. settled-from vs p c us f h.1)
   where
-    by : (a : Bool) → rev_lt u.rev p ≡ a → (b : Bool) → nat_le u.rev.main c ≡ b → cond (not a && b) (u ∷ filter (is_ahead p c) us) (filter (is_ahead p c) us) ≡ []
+    by : (a : Bool) → rev_lt u.rev p ≡ a → (b : Bool) → nat_le u.rev.main c ≡ b
+        → cond (not a && b) (u ∷ filter (is_ahead p c) us) (filter (is_ahead p c) us) ≡ []
         → (a && (b && is_trimmed vs c u)) ≡ false → (filter (is_ahead p c) us ≡ [] → AreLeft vs c us) → AreLeft vs c (u ∷ us)
     by true d b f e l rest = (ap (λ t. t && is_trimmed vs c u) f ∙ l, rest e)
     by false d true f e l rest = cc
     by false d false f e l rest = (ap (λ t. t && is_trimmed vs c u) f, rest e)
 
-own-certificate : (w : World) (vs : List Version) (certificate : Option (List Claim)) → IsSound w → IsGood vs w.mutations w.compacted → IsSettled vs w.compacted → IsOwn w vs certificate
+own-certificate : (w : World) (vs : List Version) (certificate : Option (List Claim)) → IsSound w → IsGood vs w.mutations w.compacted
+    → IsSettled vs w.compacted → IsOwn w vs certificate
     → MatchOption certificate ⊤ (IsCertificate w vs)
 own-certificate w vs None sound g left own = tt
 own-certificate w vs (Some claims) sound g left own = subst (IsCertificate w vs) (sym own) (settled-certified w vs sound g left)
 
-finishes : (w : World) (vs : List Version) (p : Rev) (certificate : Option (List Claim)) → IsSound w → IsGood vs w.mutations w.compacted → IsTrimmedTo vs p w.compacted → IsOwn w vs certificate
+finishes : (w : World) (vs : List Version) (p : Rev) (certificate : Option (List Claim)) → IsSound w → IsGood vs w.mutations w.compacted
+    → IsTrimmedTo vs p w.compacted → IsOwn w vs certificate
     → filter (is_ahead p w.compacted) vs ≡ [] → StepsWell w vs p certificate (finished vs p)
 finishes w vs p certificate sound g to own e =
     let left : IsSettled vs w.compacted = settled-from vs p w.compacted vs e to in
     record {
       good = g;
       up_to = to;
-      trims = subst (λ (a : List Version). Trims w (record { kept = vs; ahead = a }) a (WireTold.done (length vs) certificate) (record { kept = vs; ahead = a })) (sym e)
-          (record { number = refl; least = settled-least w.mutations w.compacted vs sound.history sound.floor g left; certified = own-certificate w vs certificate sound g left own }, refl);
+      trims = subst (λ (a : List Version). Trims w (record { kept = vs; ahead = a }) a (WireTold.done (length vs) certificate)
+          (record { kept = vs; ahead = a })) (sym e)
+          (record { number = refl; least = settled-least w.mutations w.compacted vs sound.history sound.floor g left;
+              certified = own-certificate w vs certificate sound g left own }, refl);
     }
 
 -- ---- a version is looked at
@@ -72,8 +83,10 @@ in-mid : {X : Type 0} (xs : List X) (v : X) (ys : List X) → IsIn v (xs ++ v �
 in-mid [] v ys = inl refl
 in-mid (x ∷ xs) v ys = inr (in-mid xs v ys)
 
-module _ (w : World) (xs : List Version) (v : Version) (ys : List Version) (p : Rev) (certificate : Option (List Claim)) (sound : IsSound w) (small : w.compacted < 2 ^ 63)
-    (g : IsGood (xs ++ v ∷ ys) w.mutations w.compacted) (to : IsTrimmedTo (xs ++ v ∷ ys) p w.compacted) (all_before : AllByRecursion (λ u. rev_lt u.rev p ≡ true) xs) (from : rev_lt v.rev p ≡ false) (low : v.rev.main ≤ w.compacted) where
+module _ (w : World) (xs : List Version) (v : Version) (ys : List Version) (p : Rev) (certificate : Option (List Claim)) (sound : IsSound w)
+    (small : w.compacted < 2 ^ 63)
+    (g : IsGood (xs ++ v ∷ ys) w.mutations w.compacted) (to : IsTrimmedTo (xs ++ v ∷ ys) p w.compacted) (all_before : AllByRecursion
+        (λ u. rev_lt u.rev p ≡ true) xs) (from : rev_lt v.rev p ≡ false) (low : v.rev.main ≤ w.compacted) where
   rising : AreRising (xs ++ v ∷ ys)
   rising = rising-part g.part (rising-dress w.mutations sound.history)
 
@@ -87,8 +100,10 @@ module _ (w : World) (xs : List Version) (v : Version) (ys : List Version) (p : 
   next = place_after v.rev
 
   to-parts : AllByRecursion (λ u. (rev_lt u.rev p && (nat_le u.rev.main w.compacted && is_trimmed (xs ++ v ∷ ys) w.compacted u)) ≡ false) xs
-      × AllByRecursion (λ u. (rev_lt u.rev p && (nat_le u.rev.main w.compacted && is_trimmed (xs ++ v ∷ ys) w.compacted u)) ≡ false) (v ∷ ys)
-  to-parts = AllByRecursion-split (λ u. (rev_lt u.rev p && (nat_le u.rev.main w.compacted && is_trimmed (xs ++ v ∷ ys) w.compacted u)) ≡ false) xs (v ∷ ys) to
+      × AllByRecursion (λ u. (rev_lt u.rev p && (nat_le u.rev.main w.compacted && is_trimmed (xs ++ v ∷ ys) w.compacted u)) ≡ false) (v
+      ∷ ys)
+  to-parts = AllByRecursion-split (λ u. (rev_lt u.rev p && (nat_le u.rev.main w.compacted && is_trimmed (xs ++ v ∷ ys) w.compacted u))
+      ≡ false) xs (v ∷ ys) to
 
   -- nothing before it goes
   left : AreLeft (xs ++ v ∷ ys) w.compacted xs
@@ -99,9 +114,11 @@ module _ (w : World) (xs : List Version) (v : Version) (ys : List Version) (p : 
   self-before = after-self v.rev (omega arith) sit-parts.1.0.number
 
   xs-before : AllByRecursion (λ u. rev_lt u.rev next ≡ true) xs
-  xs-before = each-map (λ u. Precedes u v) (λ u. rev_lt u.rev next ≡ true) (λ u a. rev_lt-trans u.rev v.rev next a.0 self-before) xs (rising-mid xs v ys rising).0
+  xs-before = each-map (λ u. Precedes u v) (λ u. rev_lt u.rev next ≡ true) (λ u a. rev_lt-trans u.rev v.rev next a.0 self-before) xs
+      (rising-mid xs v ys rising).0
 
-  ys-after : (us : List Version) → AllByRecursion (Precedes v) us → AllSit (now w.mutations) us → AllByRecursion (λ u. rev_lt u.rev next ≡ false) us
+  ys-after : (us : List Version) → AllByRecursion (Precedes v) us → AllSit (now w.mutations) us → AllByRecursion (λ u. rev_lt u.rev next
+      ≡ false) us
   unfolding next
   ys-after [] h s = tt
   ys-after (u ∷ us) h s = (after-next v.rev u.rev (omega arith) sit-parts.1.0.number s.0.number h.0.0, ys-after us h.1 s.1)
@@ -118,12 +135,14 @@ module _ (w : World) (xs : List Version) (v : Version) (ys : List Version) (p : 
   ahead-is : filter (is_ahead p w.compacted) (xs ++ v ∷ ys) ≡ v ∷ rest
   unfolding rest
   ahead-is = filter-append (is_ahead p w.compacted) xs (v ∷ ys)
-      ∙ (λ i. ahead-none p w.compacted xs all_before i ++ cond (not (from i) && le-leb v.rev.main w.compacted low i) (v ∷ filter (is_ahead p w.compacted) ys) (filter (is_ahead p w.compacted) ys))
+      ∙ (λ i. ahead-none p w.compacted xs all_before i ++ cond (not (from i) && le-leb v.rev.main w.compacted low i) (v
+      ∷ filter (is_ahead p w.compacted) ys) (filter (is_ahead p w.compacted) ys))
 
   ahead-kept : filter (is_ahead next w.compacted) (xs ++ v ∷ ys) ≡ rest
   unfolding rest
   ahead-kept = filter-append (is_ahead next w.compacted) xs (v ∷ ys)
-      ∙ (λ i. ahead-none next w.compacted xs xs-before i ++ cond (not (self-before i) && nat_le v.rev.main w.compacted) (v ∷ filter (is_ahead next w.compacted) ys) (filter (is_ahead next w.compacted) ys))
+      ∙ (λ i. ahead-none next w.compacted xs xs-before i ++ cond (not (self-before i) && nat_le v.rev.main w.compacted) (v
+      ∷ filter (is_ahead next w.compacted) ys) (filter (is_ahead next w.compacted) ys))
       ∙ sym (ahead-same p next w.compacted ys ys-from ys-behind)
 
   ahead-removed : filter (is_ahead next w.compacted) (xs ++ ys) ≡ rest
@@ -134,9 +153,11 @@ module _ (w : World) (xs : List Version) (v : Version) (ys : List Version) (p : 
 
   -- it goes, and no least list has it
   removes : is_trimmed (xs ++ v ∷ ys) w.compacted v ≡ true
-      → StepsWell w (xs ++ v ∷ ys) p certificate (record { told = Trimmed.removed v.rev; versions = without_rev (Some v.rev) (xs ++ v ∷ ys); place = place_after v.rev })
+      → StepsWell w (xs ++ v ∷ ys) p certificate (record { told = Trimmed.removed v.rev; versions = without_rev (Some v.rev) (xs ++ v ∷ ys);
+      place = place_after v.rev })
   unfolding next
-  removes e = record { good = subst (λ us. IsGood us w.mutations w.compacted) (sym out) good; up_to = subst (λ us. IsTrimmedTo us next w.compacted) (sym out) up_to; trims = trims }
+  removes e = record { good = subst (λ us. IsGood us w.mutations w.compacted) (sym out) good;
+      up_to = subst (λ us. IsTrimmedTo us next w.compacted) (sym out) up_to; trims = trims }
     where
       out : without_rev (Some v.rev) (xs ++ v ∷ ys) ≡ xs ++ ys
       out = without-mid xs v ys rising
@@ -150,22 +171,29 @@ module _ (w : World) (xs : List Version) (v : Version) (ys : List Version) (p : 
 
       up_to : IsTrimmedTo (xs ++ ys) next w.compacted
       up_to = each-append (λ u. (rev_lt u.rev next && (nat_le u.rev.main w.compacted && is_trimmed (xs ++ ys) w.compacted u)) ≡ false) xs ys
-          (each-map (λ u. (nat_le u.rev.main w.compacted && is_trimmed (xs ++ v ∷ ys) w.compacted u) ≡ false) (λ u. (rev_lt u.rev next && (nat_le u.rev.main w.compacted && is_trimmed (xs ++ ys) w.compacted u)) ≡ false)
+          (each-map (λ u. (nat_le u.rev.main w.compacted && is_trimmed (xs ++ v ∷ ys) w.compacted u) ≡ false) (λ u. (rev_lt u.rev next
+              && (nat_le u.rev.main w.compacted && is_trimmed (xs ++ ys) w.compacted u)) ≡ false)
           (λ u l. ap (λ b. rev_lt u.rev next && b) (fewer xs v ys w.compacted u l) ∙ and-false (rev_lt u.rev next)) xs left)
-          (each-map (λ u. rev_lt u.rev next ≡ false) (λ u. (rev_lt u.rev next && (nat_le u.rev.main w.compacted && is_trimmed (xs ++ ys) w.compacted u)) ≡ false)
+          (each-map (λ u. rev_lt u.rev next ≡ false) (λ u. (rev_lt u.rev next && (nat_le u.rev.main w.compacted
+              && is_trimmed (xs ++ ys) w.compacted u)) ≡ false)
           (λ u l. ap (λ b. b && (nat_le u.rev.main w.compacted && is_trimmed (xs ++ ys) w.compacted u)) l) ys ys-behind)
 
       none : IsInLeast w v → ⊥
       none h =
           let s = settles w.mutations w.compacted (xs ++ ys) sound.history good in
-          let same : h.0 ≡ s.settled = least-settled w.mutations w.compacted h.0 s.settled sound.history sound.floor h.1 s.good s.is_settled in
+          let same : h.0 ≡ s.settled = least-settled w.mutations w.compacted h.0 s.settled sound.history sound.floor h.1 s.good s.is_settled
+                  in
           mid-once xs v ys rising (in_whole s.part v (subst (IsIn v) same h.2))
 
-      after : ◌≡◌ {A = Keeping} (keeping (without_rev (Some v.rev) (xs ++ v ∷ ys)) next w.compacted) (record { kept = without_rev (Some v.rev) (xs ++ v ∷ ys); ahead = rest })
-      after = λ i. record { kept = without_rev (Some v.rev) (xs ++ v ∷ ys); ahead = (ap (filter (is_ahead next w.compacted)) out ∙ ahead-removed) i }
+      after : ◌≡◌ {A = Keeping} (keeping (without_rev (Some v.rev) (xs ++ v ∷ ys)) next w.compacted)
+          (record { kept = without_rev (Some v.rev) (xs ++ v ∷ ys); ahead = rest })
+      after = λ i. record { kept = without_rev (Some v.rev) (xs ++ v ∷ ys); ahead = (ap (filter (is_ahead next w.compacted)) out
+          ∙ ahead-removed) i }
 
-      trims : Trims w (keeping (xs ++ v ∷ ys) p w.compacted) (keeping (xs ++ v ∷ ys) p w.compacted).ahead (WireTold.removed v.rev) (keeping (without_rev (Some v.rev) (xs ++ v ∷ ys)) next w.compacted)
-      trims = subst (λ (a : List Version). Trims w (record { kept = xs ++ v ∷ ys; ahead = a }) a (WireTold.removed v.rev) (keeping (without_rev (Some v.rev) (xs ++ v ∷ ys)) next w.compacted)) (sym ahead-is) (refl, none, after)
+      trims : Trims w (keeping (xs ++ v ∷ ys) p w.compacted) (keeping (xs ++ v ∷ ys) p w.compacted).ahead (WireTold.removed v.rev)
+          (keeping (without_rev (Some v.rev) (xs ++ v ∷ ys)) next w.compacted)
+      trims = subst (λ (a : List Version). Trims w (record { kept = xs ++ v ∷ ys; ahead = a }) a (WireTold.removed v.rev)
+          (keeping (without_rev (Some v.rev) (xs ++ v ∷ ys)) next w.compacted)) (sym ahead-is) (refl, none, after)
 
   -- it stays, and a least list has it
   stays : is_trimmed (xs ++ v ∷ ys) w.compacted v ≡ false
@@ -180,14 +208,18 @@ module _ (w : World) (xs : List Version) (v : Version) (ys : List Version) (p : 
       here : IsLeft (xs ++ v ∷ ys) w.compacted v
       here = ap (λ b. nat_le v.rev.main w.compacted && b) e ∙ and-false (nat_le v.rev.main w.compacted)
 
-      drop_first : (u : Version) → IsLeft (xs ++ v ∷ ys) w.compacted u → (rev_lt u.rev next && (nat_le u.rev.main w.compacted && is_trimmed (xs ++ v ∷ ys) w.compacted u)) ≡ false
+      drop_first : (u : Version) → IsLeft (xs ++ v ∷ ys) w.compacted u → (rev_lt u.rev next && (nat_le u.rev.main w.compacted
+          && is_trimmed (xs ++ v ∷ ys) w.compacted u)) ≡ false
       drop_first u l = ap (λ b. rev_lt u.rev next && b) l ∙ and-false (rev_lt u.rev next)
 
       up_to : IsTrimmedTo (xs ++ v ∷ ys) next w.compacted
-      up_to = each-append (λ u. (rev_lt u.rev next && (nat_le u.rev.main w.compacted && is_trimmed (xs ++ v ∷ ys) w.compacted u)) ≡ false) xs (v ∷ ys)
-          (each-map (IsLeft (xs ++ v ∷ ys) w.compacted) (λ u. (rev_lt u.rev next && (nat_le u.rev.main w.compacted && is_trimmed (xs ++ v ∷ ys) w.compacted u)) ≡ false) drop_first xs left) (
+      up_to = each-append (λ u. (rev_lt u.rev next && (nat_le u.rev.main w.compacted && is_trimmed (xs ++ v ∷ ys) w.compacted u))
+          ≡ false) xs (v ∷ ys)
+          (each-map (IsLeft (xs ++ v ∷ ys) w.compacted) (λ u. (rev_lt u.rev next && (nat_le u.rev.main w.compacted
+              && is_trimmed (xs ++ v ∷ ys) w.compacted u)) ≡ false) drop_first xs left) (
             drop_first v here,
-            each-map (λ u. rev_lt u.rev next ≡ false) (λ u. (rev_lt u.rev next && (nat_le u.rev.main w.compacted && is_trimmed (xs ++ v ∷ ys) w.compacted u)) ≡ false)
+            each-map (λ u. rev_lt u.rev next ≡ false) (λ u. (rev_lt u.rev next && (nat_le u.rev.main w.compacted
+                && is_trimmed (xs ++ v ∷ ys) w.compacted u)) ≡ false)
                 (λ u l. ap (λ b. b && (nat_le u.rev.main w.compacted && is_trimmed (xs ++ v ∷ ys) w.compacted u)) l) ys ys-behind,
           )
 
@@ -199,22 +231,27 @@ module _ (w : World) (xs : List Version) (v : Version) (ys : List Version) (p : 
             stays-in w.mutations w.compacted sound.history sound.floor (xs ++ v ∷ ys) g v (in-mid xs v ys) here s.settled s.good,
           )
 
-      trims : Trims w (keeping (xs ++ v ∷ ys) p w.compacted) (keeping (xs ++ v ∷ ys) p w.compacted).ahead (WireTold.kept v.rev) (keeping (xs ++ v ∷ ys) next w.compacted)
-      trims = subst (λ (a : List Version). Trims w (record { kept = xs ++ v ∷ ys; ahead = a }) a (WireTold.kept v.rev) (keeping (xs ++ v ∷ ys) next w.compacted)) (sym ahead-is)
+      trims : Trims w (keeping (xs ++ v ∷ ys) p w.compacted) (keeping (xs ++ v ∷ ys) p w.compacted).ahead (WireTold.kept v.rev) (keeping (xs
+          ++ v ∷ ys) next w.compacted)
+      trims = subst (λ (a : List Version). Trims w (record { kept = xs ++ v ∷ ys; ahead = a }) a (WireTold.kept v.rev) (keeping (xs ++ v
+          ∷ ys) next w.compacted)) (sym ahead-is)
           (refl, some, λ i. record { kept = xs ++ v ∷ ys; ahead = ahead-kept i })
 
   visits : StepsWell w (xs ++ v ∷ ys) p certificate (visited (xs ++ v ∷ ys) w.compacted v)
   visits = by (is_trimmed (xs ++ v ∷ ys) w.compacted v) refl
     where
       by : (b : Bool) → is_trimmed (xs ++ v ∷ ys) w.compacted v ≡ b
-          → StepsWell w (xs ++ v ∷ ys) p certificate (cond {A = TrimStep} b (record { told = Trimmed.removed v.rev; versions = without_rev (Some v.rev) (xs ++ v ∷ ys); place = place_after v.rev }) (record { told = Trimmed.kept v.rev; versions = xs ++ v ∷ ys; place = place_after v.rev }))
+          → StepsWell w (xs ++ v ∷ ys) p certificate (cond {A = TrimStep} b (record { told = Trimmed.removed v.rev;
+          versions = without_rev (Some v.rev) (xs ++ v ∷ ys); place = place_after v.rev }) (record { told = Trimmed.kept v.rev;
+          versions = xs ++ v ∷ ys; place = place_after v.rev }))
       by true e = removes e
       by false e = stays e
 
 -- ---- the step
 
 -- what stands from a version above the compaction on is not to be visited
-none-ahead : (xs : List Version) (v : Version) (ys : List Version) (p : Rev) (c : ℕ) → AreRising (xs ++ v ∷ ys) → AllByRecursion (λ u. rev_lt u.rev p ≡ true) xs → c < v.rev.main → filter (is_ahead p c) (xs ++ v ∷ ys) ≡ []
+none-ahead : (xs : List Version) (v : Version) (ys : List Version) (p : Rev) (c : ℕ) → AreRising (xs ++ v ∷ ys)
+    → AllByRecursion (λ u. rev_lt u.rev p ≡ true) xs → c < v.rev.main → filter (is_ahead p c) (xs ++ v ∷ ys) ≡ []
 none-ahead xs v ys p c h before high = filter-append (is_ahead p c) xs (v ∷ ys)
     ∙ (λ i. ahead-none p c xs before i ++ ahead-above p c (v ∷ ys) (high, each-map (Precedes v) (λ u. c < u.rev.main) (λ u a. let l : v.rev.main ≤ u.rev.main = rev_lt-main v.rev u.rev a.0 in omega arith) ys (rising-mid xs v ys h).1) i)
 
@@ -222,11 +259,14 @@ pub steps-well : TrimmedStepsWell
 unfolding trimmed
 steps-well w vs p certificate sound small g to own = by (find (λ u. not (rev_lt u.rev p)) vs) refl
   where
-    looked : (v : Version) (f : First p v vs) (b : Bool) → nat_le v.rev.main w.compacted ≡ b → StepsWell w vs p certificate (cond b (visited vs w.compacted v) (finished vs p))
+    looked : (v : Version) (f : First p v vs) (b : Bool) → nat_le v.rev.main w.compacted ≡ b
+        → StepsWell w vs p certificate (cond b (visited vs w.compacted v) (finished vs p))
     looked v f true e = subst (λ us. StepsWell w us p certificate (visited us w.compacted v)) (sym f.is)
-        (visits w f.before v f.after p certificate sound small (subst (λ us. IsGood us w.mutations w.compacted) f.is g) (subst (λ us. IsTrimmedTo us p w.compacted) f.is to) f.all_before f.from (leb-true v.rev.main w.compacted e))
+        (visits w f.before v f.after p certificate sound small (subst (λ us. IsGood us w.mutations w.compacted) f.is g)
+            (subst (λ us. IsTrimmedTo us p w.compacted) f.is to) f.all_before f.from (leb-true v.rev.main w.compacted e))
     looked v f false e = finishes w vs p certificate sound g to own (subst (λ us. filter (is_ahead p w.compacted) us ≡ []) (sym f.is)
-        (none-ahead f.before v f.after p w.compacted (subst AreRising f.is (rising-part g.part (rising-dress w.mutations sound.history))) f.all_before (leb-false v.rev.main w.compacted e)))
+        (none-ahead f.before v f.after p w.compacted (subst AreRising f.is (rising-part g.part (rising-dress w.mutations sound.history)))
+            f.all_before (leb-false v.rev.main w.compacted e)))
 
     by : (o : Option Version) → find (λ u. not (rev_lt u.rev p)) vs ≡ o → StepsWell w vs p certificate (trimmed_next vs p w.compacted o)
     by None e = finishes w vs p certificate sound g to own (ahead-none p w.compacted vs (none-from p vs e))
@@ -234,11 +274,13 @@ steps-well w vs p certificate sound small g to own = by (find (λ u. not (rev_lt
 
 pub done-trimmed : DoneIsTrimmed
 done-trimmed w vs p n sound small g to e = by (keeping vs p w.compacted).ahead refl
-    (subst (λ t. Trims w (keeping vs p w.compacted) (keeping vs p w.compacted).ahead (trim_told t None) after) e (steps-well w vs p None sound small g to tt).trims)
+    (subst (λ t. Trims w (keeping vs p w.compacted) (keeping vs p w.compacted).ahead (trim_told t None) after) e
+        (steps-well w vs p None sound small g to tt).trims)
   where
     after : Keeping
     after = keeping (trimmed vs p w.compacted).versions (trimmed vs p w.compacted).place w.compacted
 
-    by : (a : List Version) → (keeping vs p w.compacted).ahead ≡ a → Trims w (keeping vs p w.compacted) a (WireTold.done n None) after → IsTrimmed w (keeping vs p w.compacted)
+    by : (a : List Version) → (keeping vs p w.compacted).ahead ≡ a → Trims w (keeping vs p w.compacted) a (WireTold.done n None) after
+        → IsTrimmed w (keeping vs p w.compacted)
     by [] d h = record { least = h.0.least; visited = d }
     by (u ∷ us) d h = absurd h

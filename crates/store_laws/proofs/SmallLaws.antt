@@ -26,7 +26,8 @@ collides-comm (Touch.each r) (Touch.one k) = refl
 collides-comm (Touch.each r) (Touch.each s) = refl
 
 life-deleted : (ms : List Mutation) (q : Rev) (k : List ℕ) → life k (ms ++ (record { rev = q; key = k; action = Action.delete }) ∷ []) ≡ []
-life-deleted ms q k = life-push k ms (record { rev = q; key = k; action = Action.delete }) ∙ ap (λ a. cond a [] (life k ms)) ((bytes_decides k k).1 refl)
+life-deleted ms q k = life-push k ms (record { rev = q; key = k; action = Action.delete })
+    ∙ ap (λ a. cond a [] (life k ms)) ((bytes_decides k k).1 refl)
 
 pub nothing_after : NothingAfterDelete
 nothing_after ms p q k h = value_at-dress p k _ h ∙ ap held (life-deleted ms q k)
@@ -34,7 +35,8 @@ nothing_after ms p q k h = value_at-dress p k _ h ∙ ap held (life-deleted ms q
 pub first_after : FirstAfterDelete
 first_after ms p q k value lease = ap (λ l. body_of l (Action.put value lease))
     (life-push k before (record { rev = q; key = k; action = Action.put value lease })
-    ∙ ap (λ a. cond a (life k before ++ (record { rev = q; key = k; action = Action.put value lease }) ∷ []) (life k before)) ((bytes_decides k k).1 refl)
+    ∙ ap (λ a. cond a (life k before ++ (record { rev = q; key = k; action = Action.put value lease }) ∷ []) (life k before))
+    ((bytes_decides k k).1 refl)
     ∙ ap (λ l. l ++ (record { rev = q; key = k; action = Action.put value lease }) ∷ []) (life-deleted ms p k))
   where
     before : List Mutation

@@ -30,15 +30,20 @@ use Rattle.store_laws.proofs.WatchLaws.{noted_stands}
 pub path_stands : (s : Store) (w : World) → StandsFor s w → (ops : Ops) → path_in s ops ≡ path_of (versions w) (revision w) ops
 path_stands s w h ops = path_of-same-at s.versions (versions w) s.revision (revision w) ops h.revision_is (value_stands s w h)
   where
-    path_of-same-at : (us vs : List Version) (m n : ℕ) (ops : Ops) → m ≡ n → ((k : List ℕ) → value_at us (end_of m) k ≡ value_at vs (end_of n) k) → path_of us m ops ≡ path_of vs n ops
-    path_of-same-at us vs m n ops e same = path_of-same us vs m ops (λ k. same k ∙ ap (λ r. value_at vs (end_of r) k) (sym e)) ∙ ap (λ r. path_of vs r ops) e
+    path_of-same-at : (us vs : List Version) (m n : ℕ) (ops : Ops) → m ≡ n → ((k : List ℕ) → value_at us (end_of m) k
+        ≡ value_at vs (end_of n) k) → path_of us m ops ≡ path_of vs n ops
+    path_of-same-at us vs m n ops e same = path_of-same us vs m ops (λ k. same k ∙ ap (λ r. value_at vs (end_of r) k) (sym e))
+        ∙ ap (λ r. path_of vs r ops) e
 
 -- the effect of a path without a clash is what the store plans
-pub effect_stands : (s : Store) (w : World) → StandsFor s w → (q : Path) → NoClash q → effect (versions w) (revision w + 1) 0 q ≡ changes_of_path s q
-effect_stands s w h q n = sym (effect-planned s.versions (s.revision + 1) [] q tt n ∙ effect-same s.versions (versions w) (s.revision + 1) 0 q (value_now_stands s w h)
+pub effect_stands : (s : Store) (w : World) → StandsFor s w → (q : Path) → NoClash q → effect (versions w) (revision w + 1) 0 q
+    ≡ changes_of_path s q
+effect_stands s w h q n = sym (effect-planned s.versions (s.revision + 1) [] q tt n
+    ∙ effect-same s.versions (versions w) (s.revision + 1) 0 q (value_now_stands s w h)
     ∙ ap (λ r. effect (versions w) (r + 1) 0 q) h.revision_is)
 
-pub run_refusal_stands : (s : Store) (w : World) → StandsFor s w → (q : Path) → NoClash q → run_refusal (is_granted w.leases) w.compacted (revision w) (versions w) 0 q ≡ refusal_of_path s q
+pub run_refusal_stands : (s : Store) (w : World) → StandsFor s w → (q : Path) → NoClash q
+    → run_refusal (is_granted w.leases) w.compacted (revision w) (versions w) 0 q ≡ refusal_of_path s q
 run_refusal_stands s w h q n = sym (sym (refusal-planned (is_granted s.leases) s.compacted s.revision s.versions [] q tt n)
     ∙ run_refusal-same (is_granted s.leases) s.compacted s.revision s.versions (versions w) 0 q (value_now_stands s w h)
     ∙ (λ i. run_refusal (is_granted (h.leases i)) (h.compacted i) (h.revision_is i) (versions w) 0 q))
@@ -50,10 +55,13 @@ pub replies_stand : (s : Store) (w : World) → StandsFor s w → (q : Path) →
     → replies_of (versions (changed w us)) w.compacted (revision w) 0 q ≡ replies_of (extend_all s.versions us) s.compacted s.revision 0 q
 replies_stand s w h q a us =
     let t : List Version = added_by (versions w) us in
-    let reads : ReadsKept w.compacted (revision w) q = subst (λ n. ReadsKept w.compacted n q) h.revision_is (subst (λ c. ReadsKept c s.revision q) h.compacted a) in
+    let reads : ReadsKept w.compacted (revision w) q = subst (λ n. ReadsKept w.compacted n q) h.revision_is
+            (subst (λ c. ReadsKept c s.revision q) h.compacted a) in
     ap (λ vs. replies_of vs w.compacted (revision w) 0 q) (dress-added w.mutations us)
-    ∙ sym (same-replies w.compacted (revision w) (s.versions ++ t) (versions w ++ t) (good-sees s.versions t w.mutations w.compacted h.good h.sound.history h.sound.floor) (now-kept w.mutations w.compacted h.sound.history h.sound.floor) 0 q reads)
-    ∙ ap (λ vs. replies_of vs w.compacted (revision w) 0 q) (sym (good-added s.versions w.mutations us w.compacted h.good h.sound.history h.sound.floor))
+    ∙ sym (same-replies w.compacted (revision w) (s.versions ++ t) (versions w ++ t) (good-sees s.versions t w.mutations w.compacted h.good
+    h.sound.history h.sound.floor) (now-kept w.mutations w.compacted h.sound.history h.sound.floor) 0 q reads)
+    ∙ ap (λ vs. replies_of vs w.compacted (revision w) 0 q) (sym (good-added s.versions w.mutations us w.compacted h.good h.sound.history
+    h.sound.floor))
     ∙ sym (λ i. replies_of (extend_all s.versions us) (h.compacted i) (h.revision_is i) 0 q)
 
 inner-reads : (c n : ℕ) (q : Path) → ReadsKept c n q → ReadsKept c n (inner_path q)
@@ -73,27 +81,36 @@ path_told s w h q n = by (refusal_of_path s q) refl
     made = commit_at s.revision (reply_of_path s q) w (changes_of_path s q)
 
     told : List Mutation → Made
-    told ms = commit_at (revision w) (Reply.txn (succeeded q) (replies_of (versions (changed w ms)) w.compacted (revision w) 0 (inner_path q))) w ms
+    told ms = commit_at (revision w) (Reply.txn (succeeded q) (replies_of (versions (changed w ms)) w.compacted (revision w) 0
+        (inner_path q))) w ms
 
     same : refusal_of_path s q ≡ None → told (effect (versions w) (revision w + 1) 0 q) ≡ made
     same is = ap told (effect_stands s w h q n)
-        ∙ ap (λ r. commit_at (revision w) (Reply.txn (succeeded q) r) w (changes_of_path s q)) (replies_stand s w h (inner_path q) (inner-reads s.compacted s.revision q (not-refused-reads (is_granted s.leases) s.compacted s.revision s.versions q is)) (changes_of_path s q))
+        ∙ ap (λ r. commit_at (revision w) (Reply.txn (succeeded q) r) w (changes_of_path s q)) (replies_stand s w h (inner_path q)
+        (inner-reads s.compacted s.revision q (not-refused-reads (is_granted s.leases) s.compacted s.revision s.versions q is))
+        (changes_of_path s q))
         ∙ ap (λ m. commit_at m (reply_of_path s q) w (changes_of_path s q)) (sym h.revision_is)
 
-    by : (o : Option Refusal) → refusal_of_path s q ≡ o → refused_or (run_refusal (is_granted w.leases) w.compacted (revision w) (versions w) 0 q) (told (effect (versions w) (revision w + 1) 0 q)) ≡ refused_or (refusal_of_path s q) made
-    by (Some e) is = ap (λ o. refused_or o (told (effect (versions w) (revision w + 1) 0 q))) (run_refusal_stands s w h q n ∙ is) ∙ sym (ap (λ o. refused_or o made) is)
-    by None is = ap (λ o. refused_or o (told (effect (versions w) (revision w + 1) 0 q))) (run_refusal_stands s w h q n ∙ is) ∙ same is ∙ sym (ap (λ o. refused_or o made) is)
+    by : (o : Option Refusal) → refusal_of_path s q ≡ o
+        → refused_or (run_refusal (is_granted w.leases) w.compacted (revision w) (versions w) 0 q)
+        (told (effect (versions w) (revision w + 1) 0 q)) ≡ refused_or (refusal_of_path s q) made
+    by (Some e) is = ap (λ o. refused_or o (told (effect (versions w) (revision w + 1) 0 q))) (run_refusal_stands s w h q n ∙ is)
+        ∙ sym (ap (λ o. refused_or o made) is)
+    by None is = ap (λ o. refused_or o (told (effect (versions w) (revision w + 1) 0 q))) (run_refusal_stands s w h q n ∙ is) ∙ same is
+        ∙ sym (ap (λ o. refused_or o made) is)
 
 -- ---- the call
 
-pub txn_refused : (w : World) (cs : List Compare) (a b : Ops) (e : Refusal) → static_fault (Ops.txn cs a b Ops.no_ops) ≡ Some e → made_in w (Call.txn cs a b) ≡ Err e
+pub txn_refused : (w : World) (cs : List Compare) (a b : Ops) (e : Refusal) → static_fault (Ops.txn cs a b Ops.no_ops) ≡ Some e
+    → made_in w (Call.txn cs a b) ≡ Err e
 unfolding txn_in
 txn_refused w cs a b e is = ap (λ o. refused_or o (run_path w (path_of (versions w) (revision w) (Ops.txn cs a b Ops.no_ops)))) is
 
 pub txn_told : (s : Store) (w : World) → StandsFor s w → (cs : List Compare) (a b : Ops) → static_fault (Ops.txn cs a b Ops.no_ops) ≡ None
     → made_in w (Call.txn cs a b)
     ≡ refused_or (refusal_of_path s (path_in s (Ops.txn cs a b Ops.no_ops)))
-    (commit_at s.revision (reply_of_path s (path_in s (Ops.txn cs a b Ops.no_ops))) w (changes_of_path s (path_in s (Ops.txn cs a b Ops.no_ops))))
+    (commit_at s.revision (reply_of_path s (path_in s (Ops.txn cs a b Ops.no_ops))) w
+        (changes_of_path s (path_in s (Ops.txn cs a b Ops.no_ops))))
 unfolding txn_in
 txn_told s w h cs a b is =
     let ops : Ops = Ops.txn cs a b Ops.no_ops in
@@ -101,13 +118,15 @@ txn_told s w h cs a b is =
     ∙ ap (run_path w) (sym (path_stands s w h ops))
     ∙ path_told s w h (path_in s ops) (path-checked s.versions s.revision ops is).0
 
-pub txn_batch : (s : Store) (w : World) → StandsFor s w → (ops : Ops) → static_fault ops ≡ None → length (changes_of_path s (path_in s ops)) ≤ 2 ^ 64 → IsBatch (s.revision + 1) (changes_of_path s (path_in s ops))
+pub txn_batch : (s : Store) (w : World) → StandsFor s w → (ops : Ops) → static_fault ops ≡ None
+    → length (changes_of_path s (path_in s ops)) ≤ 2 ^ 64 → IsBatch (s.revision + 1) (changes_of_path s (path_in s ops))
 txn_batch s w h ops is l =
     let one : 1 ≤ s.revision = store-one s w h in
     let checked : NoClash (path_in s ops) × HasKeys (path_in s ops) = path-checked s.versions s.revision ops is in
     planned-batch s.versions (s.revision + 1) (path_in s ops) checked.0 checked.1 (store-given s w h) (omega arith) l
 
 -- the store goes on standing for the world after a transaction
-pub txn_stands : (s : Store) (w : World) → StandsFor s w → (ops : Ops) → static_fault ops ≡ None → length (changes_of_path s (path_in s ops)) ≤ 2 ^ 64
+pub txn_stands : (s : Store) (w : World) → StandsFor s w → (ops : Ops) → static_fault ops ≡ None
+    → length (changes_of_path s (path_in s ops)) ≤ 2 ^ 64
     → StandsFor (grown_noted s (changes_of_path s (path_in s ops))) (changed w (changes_of_path s (path_in s ops)))
 txn_stands s w h ops is l = noted_stands s w h (changes_of_path s (path_in s ops)) (txn_batch s w h ops is l)

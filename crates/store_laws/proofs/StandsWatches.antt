@@ -1,5 +1,6 @@
 -- A watch that is made: what it has still to be told of is found in the versions that are kept.
-use Rattle.std.proofs.Common.{◌≡◌, ◌≤◌, ℕ, suc, ◌+◌, ℤ, List, [], ◌∷◌, ◌++◌, length, map, filter, Bool, true, false, ◌&&◌, cond, refl, sym, ◌∙◌, ap, arith}
+use Rattle.std.proofs.Common.{
+  ◌≡◌, ◌≤◌, ℕ, suc, ◌+◌, ℤ, List, [], ◌∷◌, ◌++◌, length, map, filter, Bool, true, false, ◌&&◌, cond, refl, sym, ◌∙◌, ap, arith}
 use Rattle.std.specs.Prelude.{nat_lt, nat_le, MatchBool, ⊤}
 use Rattle.std.specs.List.{AllByRecursion}
 use Rattle.std.proofs.lemmas.Bool.{eq-eqb, ltb-false}
@@ -25,7 +26,8 @@ part-fewer : {X : Type 0} {xs ys : List X} (p : X → Bool) → IsPart xs ys →
 part-fewer p nothing = omega arith
 part-fewer {X} p (keep {x = x} {xs = xs} {ys = ys} k) = by (p x) (part-fewer p k)
   where
-    by : (b : Bool) → length (filter p xs) ≤ length (filter p ys) → length (cond b (x ∷ filter p xs) (filter p xs)) ≤ length (cond b (x ∷ filter p ys) (filter p ys))
+    by : (b : Bool) → length (filter p xs) ≤ length (filter p ys) → length (cond b (x ∷ filter p xs) (filter p xs)) ≤ length (cond b (x
+        ∷ filter p ys) (filter p ys))
     by true l = omega arith
     by false l = l
 part-fewer {X} p (leave {y = y} {xs = xs} {ys = ys} k) = by (p y) (part-fewer p k)
@@ -41,33 +43,39 @@ IsCounted {X} xs ys y = (p : X → Bool) × (p y ≡ true) × (length (filter p 
 abbrev pub AreCounted : {X : Type 0} → List X → List X → (X → Bool) → List X → Type 0
 AreCounted xs ys test zs = AllByRecursion (λ z. test z ≡ true → IsCounted xs ys z) zs
 
-counted-tail : {X : Type 0} (x : X) (xs ys : List X) (test : X → Bool) (zs : List X) → AreCounted (x ∷ xs) (x ∷ ys) test zs → AreCounted xs ys test zs
+counted-tail : {X : Type 0} (x : X) (xs ys : List X) (test : X → Bool) (zs : List X) → AreCounted (x ∷ xs) (x ∷ ys) test zs
+    → AreCounted xs ys test zs
 counted-tail x xs ys test [] h = tt
 counted-tail {X} x xs ys test (z ∷ zs) h = ((λ t. less (h.0 t)), counted-tail x xs ys test zs h.1)
   where
     less : IsCounted (x ∷ xs) (x ∷ ys) z → IsCounted xs ys z
     less c = (c.0, c.1, by (c.0 x) c.2)
       where
-        by : (b : Bool) → length (cond b (x ∷ filter c.0 xs) (filter c.0 xs)) ≡ length (cond b (x ∷ filter c.0 ys) (filter c.0 ys)) → length (filter c.0 xs) ≡ length (filter c.0 ys)
+        by : (b : Bool) → length (cond b (x ∷ filter c.0 xs) (filter c.0 xs)) ≡ length (cond b (x ∷ filter c.0 ys) (filter c.0 ys))
+            → length (filter c.0 xs) ≡ length (filter c.0 ys)
         by true e = omega arith
         by false e = e
 
-counted-left : {X : Type 0} (y : X) (xs ys : List X) (test : X → Bool) (zs : List X) → IsPart xs ys → AreCounted xs (y ∷ ys) test zs → AreCounted xs ys test zs
+counted-left : {X : Type 0} (y : X) (xs ys : List X) (test : X → Bool) (zs : List X) → IsPart xs ys → AreCounted xs (y ∷ ys) test zs
+    → AreCounted xs ys test zs
 counted-left y xs ys test [] k h = tt
 counted-left {X} y xs ys test (z ∷ zs) k h = ((λ t. less (h.0 t)), counted-left y xs ys test zs k h.1)
   where
     less : IsCounted xs (y ∷ ys) z → IsCounted xs ys z
     less c = (c.0, c.1, by (c.0 y) c.2)
       where
-        by : (b : Bool) → length (filter c.0 xs) ≡ length (cond b (y ∷ filter c.0 ys) (filter c.0 ys)) → length (filter c.0 xs) ≡ length (filter c.0 ys)
+        by : (b : Bool) → length (filter c.0 xs) ≡ length (cond b (y ∷ filter c.0 ys) (filter c.0 ys)) → length (filter c.0 xs)
+            ≡ length (filter c.0 ys)
         by true e = absurd (omega (arith, part-fewer c.0 k))
         by false e = e
 
-not-left : {X : Type 0} (y : X) (xs ys : List X) (test : X → Bool) → IsPart xs ys → (test y ≡ true → IsCounted xs (y ∷ ys) y) → test y ≡ false
+not-left : {X : Type 0} (y : X) (xs ys : List X) (test : X → Bool) → IsPart xs ys → (test y ≡ true → IsCounted xs (y ∷ ys) y) → test y
+    ≡ false
 not-left {X} y xs ys test k h = by (test y) refl
   where
     fewer : IsCounted xs (y ∷ ys) y → ⊥
-    fewer c = let e : length (filter c.0 xs) ≡ suc (length (filter c.0 ys)) = c.2 ∙ ap (λ b. length (cond b (y ∷ filter c.0 ys) (filter c.0 ys))) c.1 in omega (arith, part-fewer c.0 k)
+    fewer c = let e : length (filter c.0 xs) ≡ suc (length (filter c.0 ys)) = c.2
+                      ∙ ap (λ b. length (cond b (y ∷ filter c.0 ys) (filter c.0 ys))) c.1 in omega (arith, part-fewer c.0 k)
 
     by : (b : Bool) → test y ≡ b → b ≡ false
     by true e = absurd (fewer (h e))
@@ -75,9 +83,11 @@ not-left {X} y xs ys test k h = by (test y) refl
 
 part-keeps : {X : Type 0} (test : X → Bool) {xs ys : List X} → IsPart xs ys → AreCounted xs ys test ys → filter test xs ≡ filter test ys
 part-keeps test nothing h = refl
-part-keeps test (keep {x = x} {xs = xs} {ys = ys} k) h = ap (λ zs. cond (test x) (x ∷ zs) zs) (part-keeps test k (counted-tail x xs ys test ys h.1))
+part-keeps test (keep {x = x} {xs = xs} {ys = ys} k) h = ap (λ zs. cond (test x) (x
+    ∷ zs) zs) (part-keeps test k (counted-tail x xs ys test ys h.1))
 part-keeps test (leave {y = y} {xs = xs} {ys = ys} k) h =
-    part-keeps test k (counted-left y xs ys test ys k h.1) ∙ sym (ap (λ b. cond b (y ∷ filter test ys) (filter test ys)) (not-left y xs ys test k h.0))
+    part-keeps test k (counted-left y xs ys test ys k h.1)
+        ∙ sym (ap (λ b. cond b (y ∷ filter test ys) (filter test ys)) (not-left y xs ys test k h.0))
 
 -- ---- what a watch has still to be told of
 
@@ -89,7 +99,8 @@ dressed-above : (ms : List Mutation) → IsHistory ms → AllByRecursion (λ v. 
 dressed-above ms h = each-dressed (λ p k. 1 ≤ p.main) ms (each-map IsChange (λ m. 1 ≤ m.rev.main) above-one ms (each-change ms h))
 
 -- behind the floor a good part has all that the whole history has
-pub good-undelivered : (vs : List Version) (ms : List Mutation) (c : ℕ) (w : Watch) → IsGood vs ms c → IsHistory ms → c ≤ w.next → undelivered vs w ≡ undelivered (dress ms) w
+pub good-undelivered : (vs : List Version) (ms : List Mutation) (c : ℕ) (w : Watch) → IsGood vs ms c → IsHistory ms → c ≤ w.next
+    → undelivered vs w ≡ undelivered (dress ms) w
 good-undelivered vs ms c w g h l = part-keeps test g.part (go (dress ms) (dressed-mains ms h) (dressed-above ms h))
   where
     test : Version → Bool
@@ -101,11 +112,14 @@ good-undelivered vs ms c w g h l = part-keeps test g.part (go (dress ms) (dresse
         let from : w.next ≤ v.rev.main = grind (arith, nat_tests) in
         let r : ℕ = v.rev.main in
         let same : filter (is_told r w.watched) vs ≡ filter (is_told r w.watched) (dress ms)
-        = sym (versions-told vs c w.watched (filter (is_told r w.watched) vs)) ∙ ap (map (λ (e : WatchEvent). e.version)) (good-events vs ms c r w.watched g (record { first = one; kept = omega arith; past = most }))
+        = sym (versions-told vs c w.watched (filter (is_told r w.watched) vs))
+        ∙ ap (map (λ (e : WatchEvent). e.version)) (good-events vs ms c r w.watched g (record { first = one; kept = omega arith;
+        past = most }))
         ∙ versions-told (dress ms) c w.watched (filter (is_told r w.watched) (dress ms)) in
         (is_told r w.watched, (λ i. eq-eqb r r refl i && parts.1 i), ap length same)
 
-    go : (ds : List Version) → AllByRecursion (λ v. v.rev.main ≤ now ms) ds → AllByRecursion (λ v. 1 ≤ v.rev.main) ds → AllByRecursion (λ v. test v ≡ true → IsCounted vs (dress ms) v) ds
+    go : (ds : List Version) → AllByRecursion (λ v. v.rev.main ≤ now ms) ds → AllByRecursion (λ v. 1 ≤ v.rev.main) ds
+        → AllByRecursion (λ v. test v ≡ true → IsCounted vs (dress ms) v) ds
     go [] a b = tt
     go (v ∷ ds) a b = (counted v a.0 b.0, go ds a.1 b.1)
 
@@ -117,7 +131,8 @@ tracks-length vs n [] (w ∷ ws) h = absurd h
 tracks-length vs n (t ∷ ts) [] h = absurd h
 tracks-length vs n (t ∷ ts) (w ∷ ws) h = ap suc (tracks-length vs n ts ws h.1)
 
-tracks-push : (vs : List Version) (n : ℕ) (ts : List Tracked) (ws : List Watch) (t : Tracked) (w : Watch) → TracksAll vs n ts ws → Tracks vs n t w → TracksAll vs n (ts ++ t ∷ []) (ws ++ w ∷ [])
+tracks-push : (vs : List Version) (n : ℕ) (ts : List Tracked) (ws : List Watch) (t : Tracked) (w : Watch) → TracksAll vs n ts ws
+    → Tracks vs n t w → TracksAll vs n (ts ++ t ∷ []) (ws ++ w ∷ [])
 tracks-push vs n [] [] t w h k = (k, tt)
 tracks-push vs n [] (x ∷ ws) t w h k = absurd h
 tracks-push vs n (u ∷ ts) [] t w h k = absurd h
@@ -125,7 +140,8 @@ tracks-push vs n (u ∷ ts) (x ∷ ws) t w h k = (h.0, tracks-push vs n ts ws t 
 
 -- the store goes on standing for the world with the watch
 pub watch_stands : (s : Store) (w : World) → StandsFor s w → (watched : Watched) (start id : ℤ)
-    → StandsFor (with_watch s (tracked_made s watched start id)) (record w { watches = w.watches ++ watch_made s watched start id ∷ []; made = s.made + 1 })
+    → StandsFor (with_watch s (tracked_made s watched start id)) (record w { watches = w.watches ++ watch_made s watched start id ∷ [];
+    made = s.made + 1 })
 watch_stands s w h watched start id = record {
   sound = record { history = h.sound.history; floor = h.sound.floor };
   good = h.good;
@@ -134,14 +150,18 @@ watch_stands s w h watched start id = record {
   leases = h.leases;
   clock = h.clock;
   made = refl;
-  watches = tracks-push (versions w) (revision w) s.watches w.watches (tracked_made s watched start id) (watch_made s watched start id) h.watches (record { number = refl; id = refl; watched = refl; late = refl; next = by (nat_lt (start_of s.revision start) s.compacted) refl });
+  watches = tracks-push (versions w) (revision w) s.watches w.watches (tracked_made s watched start id) (watch_made s watched start id)
+      h.watches (record { number = refl; id = refl; watched = refl; late = refl;
+      next = by (nat_lt (start_of s.revision start) s.compacted) refl });
 }
   where
-    by : (b : Bool) → nat_lt (start_of s.revision start) s.compacted ≡ b → MatchBool b ⊤ (TracksNext (versions w) (revision w) (tracked_made s watched start id) (watch_made s watched start id))
+    by : (b : Bool) → nat_lt (start_of s.revision start) s.compacted ≡ b
+        → MatchBool b ⊤ (TracksNext (versions w) (revision w) (tracked_made s watched start id) (watch_made s watched start id))
     by true e = tt
     by false e =
         let from : s.compacted ≤ start_of s.revision start = ltb-false (start_of s.revision start) s.compacted e in
         record {
-          first = ap first_main_of (good-undelivered s.versions w.mutations w.compacted (watch_made s watched start id) h.good h.sound.history (omega (arith, h.compacted)));
+          first = ap first_main_of (good-undelivered s.versions w.mutations w.compacted (watch_made s watched start id) h.good
+              h.sound.history (omega (arith, h.compacted)));
           ahead = ap (λ r. ahead_of r (start_of s.revision start)) h.revision_is;
         }

@@ -1,5 +1,7 @@
 -- What a trimming step leaves is good, and steps come to an end where nothing is left to take out.
-use Rattle.std.proofs.Common.{append_assoc, ◌≡◌, ◌≤◌, ◌<◌, ℕ, ◌-◌, List, [], ◌∷◌, ◌++◌, map, filter, Bool, true, false, ◌&&◌, ◌||◌, cond, None, refl, sym, ◌∙◌, ap, subst, arith}
+use Rattle.std.proofs.Common.{
+  append_assoc, ◌≡◌, ◌≤◌, ◌<◌, ℕ, ◌-◌, List, [], ◌∷◌, ◌++◌, map, filter, Bool, true, false, ◌&&◌, ◌||◌, cond, None, refl, sym, ◌∙◌, ap,
+  subst, arith}
 use Rattle.std.specs.Prelude.{nat_lt, nat_le, ◌==◌}
 use Rattle.std.proofs.lemmas.Bool.{ltb-true, eqb-true}
 use Rattle.std.proofs.lemmas.List.{append-nil}
@@ -34,11 +36,13 @@ part-without (x ∷ xs) v ys = keep (part-without xs v ys)
 -- ---- the events of a revision
 
 -- lists that hold the same from the compaction on tell of a version alike
-pub same_event : (us vs : List Version) (c : ℕ) (w : Watched) → ((r : ℕ) (k : List ℕ) → c ≤ r → value_at us (end_of r) k ≡ value_at vs (end_of r) k) → (u : Version) → event_of us c w u ≡ event_of vs c w u
+pub same_event : (us vs : List Version) (c : ℕ) (w : Watched) → ((r : ℕ) (k : List ℕ) → c ≤ r → value_at us (end_of r) k
+    ≡ value_at vs (end_of r) k) → (u : Version) → event_of us c w u ≡ event_of vs c w u
 same_event us vs c w same u = by (nat_lt c u.rev.main) refl
   where
     by : (b : Bool) → nat_lt c u.rev.main ≡ b
-        → ◌≡◌ {A = WatchEvent} (record { version = u; before = cond (b && w.prev_kv) (value_at us (end_of (u.rev.main - 1)) u.key) None }) (record { version = u; before = cond (b && w.prev_kv) (value_at vs (end_of (u.rev.main - 1)) u.key) None })
+        → ◌≡◌ {A = WatchEvent} (record { version = u; before = cond (b && w.prev_kv) (value_at us (end_of (u.rev.main - 1)) u.key) None })
+        (record { version = u; before = cond (b && w.prev_kv) (value_at vs (end_of (u.rev.main - 1)) u.key) None })
     by true e = let above : c < u.rev.main = ltb-true c u.rev.main e in
         λ i. record { version = u; before = cond w.prev_kv (same (u.rev.main - 1) u.key (omega arith) i) None }
     by false e = refl
@@ -56,10 +60,12 @@ not_told : (xs : List Version) (v : Version) (ys : List Version) (r : ℕ) (w : 
 not_told xs v ys r w l =
     let test : Version → Bool = λ u. u.rev.main == r && matches w u in
     let other : (v.rev.main == r) ≡ false = differs v.rev.main r l in
-    filter-append test xs (v ∷ ys) ∙ ap (λ b. filter test xs ++ cond (b && matches w v) (v ∷ filter test ys) (filter test ys)) other ∙ sym (filter-append test xs ys)
+    filter-append test xs (v ∷ ys) ∙ ap (λ b. filter test xs ++ cond (b && matches w v) (v ∷ filter test ys) (filter test ys)) other
+        ∙ sym (filter-append test xs ys)
 
 pub events-out : (xs : List Version) (v : Version) (ys : List Version) (c r : ℕ) (w : Watched) → v.rev.main < r
-    → ((r : ℕ) (k : List ℕ) → c ≤ r → value_at (xs ++ ys) (end_of r) k ≡ value_at (xs ++ v ∷ ys) (end_of r) k) → events_of (xs ++ ys) c r w ≡ events_of (xs ++ v ∷ ys) c r w
+    → ((r : ℕ) (k : List ℕ) → c ≤ r → value_at (xs ++ ys) (end_of r) k ≡ value_at (xs ++ v ∷ ys) (end_of r) k) → events_of (xs ++ ys) c r w
+    ≡ events_of (xs ++ v ∷ ys) c r w
 events-out xs v ys c r w l same =
     let alike : event_of (xs ++ ys) c w ≡ event_of (xs ++ v ∷ ys) c w = λ i u. same_event (xs ++ ys) (xs ++ v ∷ ys) c w same u i in
     ap (λ g. map g (filter (λ u. u.rev.main == r && matches w u) (xs ++ ys))) alike
@@ -67,7 +73,8 @@ events-out xs v ys c r w l same =
 
 -- ---- one step
 
-pub step-good : (ms : List Mutation) (c : ℕ) (xs : List Version) (v : Version) (ys : List Version) → IsHistory ms → IsGood (xs ++ v ∷ ys) ms c → AreLeft (xs ++ v ∷ ys) c xs
+pub step-good : (ms : List Mutation) (c : ℕ) (xs : List Version) (v : Version) (ys : List Version) → IsHistory ms
+    → IsGood (xs ++ v ∷ ys) ms c → AreLeft (xs ++ v ∷ ys) c xs
     → is_trimmed (xs ++ v ∷ ys) c v ≡ true → IsGood (xs ++ ys) ms c
 step-good ms c xs v ys h g left e = record { part = part-trans (part-without xs v ys) g.part; answers = answers }
   where
@@ -82,20 +89,24 @@ step-good ms c xs v ys h g left e = record { part = part-trans (part-without xs 
 
     answers : (q : Question) → IsQuestion c (now ms) q → answered (xs ++ ys) c (now ms) q ≡ answered (dress ms) c (now ms) q
     answers (Question.range q) a =
-        ap Answered.range (same_ranges (xs ++ ys) (xs ++ v ∷ ys) c (now ms) a.revision (end_of (now ms)) q a.kept.first a.is (λ k. same a.revision k a.kept.kept)) ∙ g.answers (Question.range q) a
+        ap Answered.range (same_ranges (xs ++ ys) (xs ++ v ∷ ys) c (now ms) a.revision (end_of (now ms)) q a.kept.first a.is
+            (λ k. same a.revision k a.kept.kept)) ∙ g.answers (Question.range q) a
     answers (Question.watch w r) a =
-        ap Answered.watch (events-out xs v ys c r w (let b : v.rev.main < c = goes.below in let d : c ≤ r = a.kept in omega arith) same) ∙ g.answers (Question.watch w r) a
+        ap Answered.watch (events-out xs v ys c r w (let b : v.rev.main < c = goes.below in let d : c ≤ r = a.kept in omega arith) same)
+                                                                                                    ∙ g.answers (Question.watch w r) a
 
 -- ---- steps to the end
 
 -- what is left stays left where less is kept
-pub fewer : (xs : List Version) (v : Version) (ys : List Version) (c : ℕ) (u : Version) → (nat_le u.rev.main c && is_trimmed (xs ++ v ∷ ys) c u) ≡ false → (nat_le u.rev.main c && is_trimmed (xs ++ ys) c u) ≡ false
+pub fewer : (xs : List Version) (v : Version) (ys : List Version) (c : ℕ) (u : Version)
+    → (nat_le u.rev.main c && is_trimmed (xs ++ v ∷ ys) c u) ≡ false → (nat_le u.rev.main c && is_trimmed (xs ++ ys) c u) ≡ false
 unfolding is_superseded
 fewer xs v ys c u e =
     let test : Version → Bool = replaces c u in
     let gone : Bool = is_tombstone u.body && nat_lt u.rev.main c in
     ap (λ b. nat_le u.rev.main c && (b || gone)) (list_any-append test xs ys)
-    ∙ by (nat_le u.rev.main c) (list_any test xs) (test v) (list_any test ys) gone (sym (ap (λ b. nat_le u.rev.main c && (b || gone)) (list_any-append test xs (v ∷ ys))) ∙ e)
+    ∙ by (nat_le u.rev.main c) (list_any test xs) (test v) (list_any test ys) gone (sym (ap (λ b. nat_le u.rev.main c
+    && (b || gone)) (list_any-append test xs (v ∷ ys))) ∙ e)
   where
     by : (l a b d t : Bool) → (l && ((a || (b || d)) || t)) ≡ false → (l && ((a || d) || t)) ≡ false
     by false a b d t e = refl
@@ -113,24 +124,30 @@ pub record Settles (ms : List Mutation) (c : ℕ) (whole : List Version) : Type 
 wider : (ms : List Mutation) (c : ℕ) (us vs : List Version) → IsPart us vs → Settles ms c us → Settles ms c vs
 wider ms c us vs p s = record { settled = s.settled; part = part-trans s.part p; good = s.good; is_settled = s.is_settled }
 
-settle : (ms : List Mutation) (c : ℕ) → IsHistory ms → (xs ys : List Version) → IsGood (xs ++ ys) ms c → AreLeft (xs ++ ys) c xs → Settles ms c (xs ++ ys)
+settle : (ms : List Mutation) (c : ℕ) → IsHistory ms → (xs ys : List Version) → IsGood (xs ++ ys) ms c → AreLeft (xs ++ ys) c xs
+    → Settles ms c (xs ++ ys)
 settle ms c h xs [] g left =
     let same : xs ++ [] ≡ xs = append-nil xs in
     record { settled = xs ++ []; part = part-self (xs ++ []); good = g; is_settled = subst (λ us. AreLeft (xs ++ []) c us) (sym same) left }
-settle ms c h xs (v ∷ ys) g left = by (nat_le v.rev.main c) refl (is_trimmed (xs ++ v ∷ ys) c v) refl (settle ms c h xs ys) (settle ms c h (xs ++ v ∷ []) ys)
+settle ms c h xs (v ∷ ys) g left = by (nat_le v.rev.main c) refl (is_trimmed (xs ++ v ∷ ys) c v) refl (settle ms c h xs ys)
+    (settle ms c h (xs ++ v ∷ []) ys)
   where
     kept : (xs ++ v ∷ []) ++ ys ≡ xs ++ v ∷ ys
     kept = append_assoc xs (v ∷ []) ys
 
-    on : (nat_le v.rev.main c && is_trimmed (xs ++ v ∷ ys) c v) ≡ false → (IsGood ((xs ++ v ∷ []) ++ ys) ms c → AreLeft ((xs ++ v ∷ []) ++ ys) c (xs ++ v ∷ []) → Settles ms c ((xs ++ v ∷ []) ++ ys)) → Settles ms c (xs ++ v ∷ ys)
+    on : (nat_le v.rev.main c && is_trimmed (xs ++ v ∷ ys) c v) ≡ false → (IsGood ((xs ++ v ∷ []) ++ ys) ms c → AreLeft ((xs ++ v ∷ [])
+        ++ ys) c (xs ++ v ∷ []) → Settles ms c ((xs ++ v ∷ []) ++ ys)) → Settles ms c (xs ++ v ∷ ys)
     on e rest = subst (Settles ms c) kept (rest (subst (λ us. IsGood us ms c) (sym kept) g)
-        (subst (λ us. AreLeft us c (xs ++ v ∷ [])) (sym kept) (each-append (λ u. (nat_le u.rev.main c && is_trimmed (xs ++ v ∷ ys) c u) ≡ false) xs (v ∷ []) left (e, tt))))
+        (subst (λ us. AreLeft us c (xs ++ v ∷ [])) (sym kept) (each-append (λ u. (nat_le u.rev.main c && is_trimmed (xs ++ v ∷ ys) c u)
+            ≡ false) xs (v ∷ []) left (e, tt))))
 
     by : (a : Bool) → nat_le v.rev.main c ≡ a → (b : Bool) → is_trimmed (xs ++ v ∷ ys) c v ≡ b
         → (IsGood (xs ++ ys) ms c → AreLeft (xs ++ ys) c xs → Settles ms c (xs ++ ys))
-        → (IsGood ((xs ++ v ∷ []) ++ ys) ms c → AreLeft ((xs ++ v ∷ []) ++ ys) c (xs ++ v ∷ []) → Settles ms c ((xs ++ v ∷ []) ++ ys)) → Settles ms c (xs ++ v ∷ ys)
+        → (IsGood ((xs ++ v ∷ []) ++ ys) ms c → AreLeft ((xs ++ v ∷ []) ++ ys) c (xs ++ v ∷ []) → Settles ms c ((xs ++ v ∷ []) ++ ys))
+        → Settles ms c (xs ++ v ∷ ys)
     by true d true e out rest = wider ms c (xs ++ ys) (xs ++ v ∷ ys) (part-without xs v ys) (out (step-good ms c xs v ys h g left e)
-        (each-map (λ u. (nat_le u.rev.main c && is_trimmed (xs ++ v ∷ ys) c u) ≡ false) (λ u. (nat_le u.rev.main c && is_trimmed (xs ++ ys) c u) ≡ false) (fewer xs v ys c) xs left))
+        (each-map (λ u. (nat_le u.rev.main c && is_trimmed (xs ++ v ∷ ys) c u) ≡ false) (λ u. (nat_le u.rev.main c
+            && is_trimmed (xs ++ ys) c u) ≡ false) (fewer xs v ys c) xs left))
     by true d false e out rest = on (λ i. d i && e i) rest
     by false d b e out rest = on (λ i. d i && e i) rest
 

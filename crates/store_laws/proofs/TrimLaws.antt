@@ -1,5 +1,7 @@
 -- What a trimming step takes out changes no answer.
-use Rattle.std.proofs.Common.{◌≡◌, ◌≤◌, ◌<◌, ◌≢◌, ◌⊎◌, ℕ, ◌^◌, List, [], ◌∷◌, ◌++◌, Bool, true, false, ◌&&◌, ◌||◌, cond, Option, None, Some, is_some, refl, sym, ◌∙◌, ap, inl, inr, arith}
+use Rattle.std.proofs.Common.{
+  ◌≡◌, ◌≤◌, ◌<◌, ◌≢◌, ◌⊎◌, ℕ, ◌^◌, List, [], ◌∷◌, ◌++◌, Bool, true, false, ◌&&◌, ◌||◌, cond, Option, None, Some, is_some, refl, sym, ◌∙◌,
+  ap, inl, inr, arith}
 use Rattle.std.specs.Prelude.{⊤, nat_lt, nat_le}
 use Rattle.std.proofs.lemmas.Bool.{leb-true, le-leb, ltb-true}
 use Rattle.std.proofs.lemmas.List.Folds.{list_any-append}
@@ -20,7 +22,8 @@ use Rattle.kv_model.specs.History.{Mutation, IsChange, IsHistory, now, dress, dr
 use Rattle.kv_model.specs.Trimming.{is_superseded, is_tombstone, is_trimmed}
 use Rattle.store_laws.proofs.HistoryLaws.{same_key-eq, AllByRecursion-split}
 use Rattle.store_laws.proofs.Compacting.{superseded-out, tombstone-out}
-use Rattle.store_laws.proofs.PlaceLaws.{each-map, each-part, each-dressed, each-change, mains-by, last_that-none, rev_le-end, rev_le-after, rev_lt-main}
+use Rattle.store_laws.proofs.PlaceLaws.{
+  each-map, each-part, each-dressed, each-change, mains-by, last_that-none, rev_le-end, rev_le-after, rev_lt-main}
 
 -- ---- small steps
 
@@ -54,7 +57,8 @@ below-cases p q h = by (nat_cmp p.main q.main) (ranks p.main q.main) (nat_cmp p.
     by Equal a Greater b e = cc
     by Greater a t b e = cc
 
-turned : (p q : Rev) → (p.main < q.main) ⊎ ((p.main ≡ q.main) × (p.sub < q.sub)) → (q.main < p.main) ⊎ ((q.main ≡ p.main) × (q.sub < p.sub)) → ⊥
+turned : (p q : Rev) → (p.main < q.main) ⊎ ((p.main ≡ q.main) × (p.sub < q.sub)) → (q.main < p.main) ⊎ ((q.main ≡ p.main) × (q.sub < p.sub))
+    → ⊥
 turned p q (inl a) (inl b) = omega arith
 turned p q (inl a) (inr b) = omega arith
 turned p q (inr a) (inl b) = omega arith
@@ -83,14 +87,16 @@ abbrev pub AreRising : List Version → Type 0
 AreRising [] = ⊤
 AreRising (v ∷ vs) = AllByRecursion (Precedes v) vs × AreRising vs
 
-each-after : (P : Rev → List ℕ → Type 0) (before ms : List Mutation) → AllByRecursion (λ m. P m.rev m.key) ms → AllByRecursion (λ v. P v.rev v.key) (dress_after before ms)
+each-after : (P : Rev → List ℕ → Type 0) (before ms : List Mutation) → AllByRecursion (λ m. P m.rev m.key) ms
+    → AllByRecursion (λ v. P v.rev v.key) (dress_after before ms)
 each-after P before [] h = tt
 each-after P before (m ∷ ms) h = (h.0, each-after P (before ++ m ∷ []) ms h.1)
 
 rising-after : (before ms : List Mutation) → IsHistory ms → AreRising (dress_after before ms)
 rising-after before [] h = tt
 rising-after before (m ∷ ms) h =
-    (each-after (λ p k. (rev_lt m.rev p ≡ true) × (m.rev.main ≡ p.main → m.key ≢ k)) (before ++ m ∷ []) ms h.1, rising-after (before ++ m ∷ []) ms h.2)
+    (each-after (λ p k. (rev_lt m.rev p ≡ true) × (m.rev.main ≡ p.main → m.key ≢ k)) (before ++ m ∷ []) ms h.1, rising-after (before ++ m
+        ∷ []) ms h.2)
 
 pub rising-dress : (ms : List Mutation) → IsHistory ms → AreRising (dress ms)
 unfolding dress
@@ -102,7 +108,8 @@ rising-part (keep {x = x} p) h = (each-part (Precedes x) p h.0, rising-part p h.
 rising-part (leave p) h = rising-part p h.1
 
 -- those before a version and those after it
-pub rising-mid : (xs : List Version) (v : Version) (ys : List Version) → AreRising (xs ++ v ∷ ys) → AllByRecursion (λ u. Precedes u v) xs × AllByRecursion (Precedes v) ys
+pub rising-mid : (xs : List Version) (v : Version) (ys : List Version) → AreRising (xs ++ v ∷ ys) → AllByRecursion (λ u. Precedes u v) xs
+    × AllByRecursion (Precedes v) ys
 rising-mid [] v ys h = (tt, h.0)
 rising-mid (x ∷ xs) v ys h = let r = rising-mid xs v ys h.1 in (((AllByRecursion-split (Precedes x) xs (v ∷ ys) h.0).1.0, r.0), r.1)
 
@@ -116,12 +123,14 @@ pub record Sits (n : ℕ) (p : Rev) (k : List ℕ) : Type 0 where
 abbrev pub AllSit : ℕ → List Version → Type 0
 AllSit n vs = AllByRecursion (λ v. Sits n v.rev v.key) vs
 
-all-sit : (n : ℕ) (ms : List Mutation) → AllByRecursion IsChange ms → AllByRecursion (λ m. m.rev.main ≤ n) ms → AllByRecursion (λ m. Sits n m.rev m.key) ms
+all-sit : (n : ℕ) (ms : List Mutation) → AllByRecursion IsChange ms → AllByRecursion (λ m. m.rev.main ≤ n) ms
+    → AllByRecursion (λ m. Sits n m.rev m.key) ms
 all-sit n [] h g = tt
 all-sit n (m ∷ ms) h g = (record { above = h.0.behind; number = h.0.number; by = g.0; has_key = h.0.has_key }, all-sit n ms h.1 g.1)
 
 pub sit-part : (vs : List Version) (ms : List Mutation) → IsPart vs (dress ms) → IsHistory ms → AllSit (now ms) vs
-sit-part vs ms p h = each-part (λ v. Sits (now ms) v.rev v.key) p (each-dressed (Sits (now ms)) ms (all-sit (now ms) ms (each-change ms h) (mains-by ms h)))
+sit-part vs ms p h = each-part (λ v. Sits (now ms) v.rev v.key) p (each-dressed (Sits (now ms)) ms (all-sit (now ms) ms (each-change ms h)
+    (mains-by ms h)))
 
 -- ---- a version that another replaces
 
@@ -137,7 +146,8 @@ pub record Replaces (r : ℕ) (v u : Version) : Type 0 where
 pub replaces-of : (r : ℕ) (v u : Version) → replaces r v u ≡ true → Replaces r v u
 replaces-of r v u e = by (same_key u.key v.key) refl (rev_lt v.rev u.rev) refl (nat_le u.rev.main r) refl e
   where
-    by : (a : Bool) → same_key u.key v.key ≡ a → (b : Bool) → rev_lt v.rev u.rev ≡ b → (c : Bool) → nat_le u.rev.main r ≡ c → (a && b && c) ≡ true → Replaces r v u
+    by : (a : Bool) → same_key u.key v.key ≡ a → (b : Bool) → rev_lt v.rev u.rev ≡ b → (c : Bool) → nat_le u.rev.main r ≡ c → (a && b && c)
+        ≡ true → Replaces r v u
     by true d true f true g e = record { key = same_key-eq u.key v.key d; later = f; by = leb-true u.rev.main r g }
     by true d true f false g e = cc
     by true d false f c g e = cc
@@ -156,34 +166,41 @@ replaces-not r v u h = by (replaces r v u) refl
 -- none before it does, nor it itself
 none-before : (r : ℕ) (v : Version) (xs : List Version) → AllByRecursion (λ u. Precedes u v) xs → list_any (replaces r v) xs ≡ false
 none-before r v [] h = refl
-none-before r v (x ∷ xs) h = λ i. replaces-not r v x (λ p. let e : true ≡ false = sym p.later ∙ rev_lt-turn x.rev v.rev h.0.0 in cc) i || none-before r v xs h.1 i
+none-before r v (x ∷ xs) h = λ i. replaces-not r v x (λ p. let e : true ≡ false = sym p.later ∙ rev_lt-turn x.rev v.rev h.0.0 in cc) i
+                                                                   || none-before r v xs h.1 i
 
-pub superseded-mid : (xs : List Version) (v : Version) (ys : List Version) (r : ℕ) → AreRising (xs ++ v ∷ ys) → is_superseded (xs ++ v ∷ ys) r v ≡ list_any (replaces r v) ys
+pub superseded-mid : (xs : List Version) (v : Version) (ys : List Version) (r : ℕ) → AreRising (xs ++ v ∷ ys) → is_superseded (xs ++ v
+    ∷ ys) r v ≡ list_any (replaces r v) ys
 unfolding is_superseded
 superseded-mid xs v ys r h = list_any-append (replaces r v) xs (v ∷ ys)
-    ∙ λ i. none-before r v xs (rising-mid xs v ys h).0 i || (replaces-not r v v (λ p. let e : true ≡ false = sym p.later ∙ rev_lt-self v.rev in cc) i || list_any (replaces r v) ys)
+    ∙ λ i. none-before r v xs (rising-mid xs v ys h).0 i || (replaces-not r v v (λ p. let e : true ≡ false = sym p.later ∙ rev_lt-self v.rev
+                                                                                              in cc) i || list_any (replaces r v) ys)
 
 -- what is replaced is below
 pub low : (r : ℕ) (v : Version) (ys : List Version) → AllByRecursion (Precedes v) ys → list_any (replaces r v) ys ≡ true → v.rev.main < r
 low r v [] h e = cc
 low r v (u ∷ ys) h e = by (replaces r v u) refl (low r v ys h.1) e
   where
-    main : Replaces r v u → (o : Ordering) → MatchOrdering o (v.rev.main < u.rev.main) (v.rev.main ≡ u.rev.main) (u.rev.main < v.rev.main) → v.rev.main < r
+    main : Replaces r v u → (o : Ordering) → MatchOrdering o (v.rev.main < u.rev.main) (v.rev.main ≡ u.rev.main) (u.rev.main < v.rev.main)
+        → v.rev.main < r
     main p Less a = let g : u.rev.main ≤ r = p.by in omega arith
     main p Equal a = absurd (h.0.1 a (sym p.key))
     main p Greater a = let g : v.rev.main ≤ u.rev.main = rev_lt-main v.rev u.rev p.later in absurd (omega arith)
 
-    by : (b : Bool) → replaces r v u ≡ b → (list_any (replaces r v) ys ≡ true → v.rev.main < r) → (b || list_any (replaces r v) ys) ≡ true → v.rev.main < r
+    by : (b : Bool) → replaces r v u ≡ b → (list_any (replaces r v) ys ≡ true → v.rev.main < r) → (b || list_any (replaces r v) ys) ≡ true
+        → v.rev.main < r
     by true f rest e = main (replaces-of r v u f) (nat_cmp v.rev.main u.rev.main) (ranks v.rev.main u.rev.main)
     by false f rest e = rest e
 
 -- what replaces it is seen at the end of any later revision
-pub seen : (n c r : ℕ) (v : Version) (k : List ℕ) (ys : List Version) → c ≤ r → v.key ≡ k → AllSit n ys → list_any (replaces c v) ys ≡ true → is_some (latest ys (end_of r) k) ≡ true
+pub seen : (n c r : ℕ) (v : Version) (k : List ℕ) (ys : List Version) → c ≤ r → v.key ≡ k → AllSit n ys → list_any (replaces c v) ys ≡ true
+    → is_some (latest ys (end_of r) k) ≡ true
 seen n c r v k [] l d s e = cc
 seen n c r v k (u ∷ ys) l d s e = by (replaces c v u) refl (seen n c r v k ys l d s.1) e
   where
     test : Replaces c v u → (same_key u.key k && rev_le u.rev (end_of r)) ≡ true
-    test p = λ i. (ap (λ j. same_key j k) (p.key ∙ d) ∙ same-refl k) i && rev_le-end u.rev r (let f : u.rev.main ≤ c = p.by in omega arith) s.0.number i
+    test p = λ i. (ap (λ j. same_key j k) (p.key ∙ d) ∙ same-refl k) i && rev_le-end u.rev r (let f : u.rev.main ≤ c = p.by
+                                                                                                      in omega arith) s.0.number i
 
     here : (o : Option Version) → is_some (option_or o (Some u)) ≡ true
     here None = refl
@@ -193,26 +210,33 @@ seen n c r v k (u ∷ ys) l d s e = by (replaces c v u) refl (seen n c r v k ys 
     there None b f = cc
     there (Some w) b f = refl
 
-    by : (b : Bool) → replaces c v u ≡ b → (list_any (replaces c v) ys ≡ true → is_some (latest ys (end_of r) k) ≡ true) → (b || list_any (replaces c v) ys) ≡ true → is_some (latest (u ∷ ys) (end_of r) k) ≡ true
-    by true f rest e = ap (λ b. is_some (option_or (latest ys (end_of r) k) (cond b (Some u) None))) (test (replaces-of c v u f)) ∙ here (latest ys (end_of r) k)
+    by : (b : Bool) → replaces c v u ≡ b → (list_any (replaces c v) ys ≡ true → is_some (latest ys (end_of r) k) ≡ true)
+        → (b || list_any (replaces c v) ys) ≡ true → is_some (latest (u ∷ ys) (end_of r) k) ≡ true
+    by true f rest e = ap (λ b. is_some (option_or (latest ys (end_of r) k) (cond b (Some u) None))) (test (replaces-of c v u f))
+        ∙ here (latest ys (end_of r) k)
     by false f rest e = there (latest ys (end_of r) k) (same_key u.key k && rev_le u.rev (end_of r)) (rest e)
 
 -- and what is not replaced is the last that is seen
-pub last_seen : (r : ℕ) (v : Version) (ys : List Version) → AllByRecursion (Precedes v) ys → list_any (replaces r v) ys ≡ false → latest ys (end_of r) v.key ≡ None
+pub last_seen : (r : ℕ) (v : Version) (ys : List Version) → AllByRecursion (Precedes v) ys → list_any (replaces r v) ys ≡ false
+    → latest ys (end_of r) v.key ≡ None
 last_seen r v [] h e = refl
 last_seen r v (u ∷ ys) h e = by (replaces r v u) refl (last_seen r v ys h.1) e
   where
     hidden : (a b : Bool) → same_key u.key v.key ≡ a → rev_le u.rev (end_of r) ≡ b → replaces r v u ≡ false → (a && b) ≡ false
-    hidden true true d f g = absurd (let e : true ≡ false = sym (replaces-as r v u (record { key = same_key-eq u.key v.key d; later = h.0.0; by = within })) ∙ g in cc)
+    hidden true true d f g = absurd (let e : true ≡ false = sym (replaces-as r v u (record { key = same_key-eq u.key v.key d; later = h.0.0;
+                                             by = within })) ∙ g in cc)
       where
         within : u.rev.main ≤ r
-        within = elim (ranked u.rev.main r) [ inl a ↦ a | inr b ↦ absurd (let x : true ≡ false = sym f ∙ rev_le-after u.rev (end_of r) b in cc) ]
+        within = elim (ranked u.rev.main r) [ inl a ↦ a | inr b ↦ absurd (let x : true ≡ false = sym f ∙ rev_le-after u.rev (end_of r) b
+                                                                                  in cc) ]
     hidden true false d f g = refl
     hidden false b d f g = refl
 
-    by : (b : Bool) → replaces r v u ≡ b → (list_any (replaces r v) ys ≡ false → latest ys (end_of r) v.key ≡ None) → (b || list_any (replaces r v) ys) ≡ false → latest (u ∷ ys) (end_of r) v.key ≡ None
+    by : (b : Bool) → replaces r v u ≡ b → (list_any (replaces r v) ys ≡ false → latest ys (end_of r) v.key ≡ None)
+        → (b || list_any (replaces r v) ys) ≡ false → latest (u ∷ ys) (end_of r) v.key ≡ None
     by true f rest e = cc
-    by false f rest e = λ i. option_or (rest e i) (cond (hidden (same_key u.key v.key) (rev_le u.rev (end_of r)) refl refl f i) (Some u) None)
+    by false f rest e = λ i. option_or (rest e i) (cond (hidden (same_key u.key v.key) (rev_le u.rev (end_of r)) refl refl f i) (Some u)
+        None)
 
 -- ---- what goes
 
@@ -229,15 +253,19 @@ gone-body : (b : Body) → is_tombstone b ≡ true → b ≡ Gone
 gone-body (Put create version lease value) e = cc
 gone-body Gone e = refl
 
-pub goes-of : (xs : List Version) (v : Version) (ys : List Version) (c : ℕ) → AreRising (xs ++ v ∷ ys) → is_trimmed (xs ++ v ∷ ys) c v ≡ true → Goes (xs ++ v ∷ ys) c v
+pub goes-of : (xs : List Version) (v : Version) (ys : List Version) (c : ℕ) → AreRising (xs ++ v ∷ ys) → is_trimmed (xs ++ v ∷ ys) c v
+    ≡ true → Goes (xs ++ v ∷ ys) c v
 goes-of xs v ys c h e = by (is_superseded (xs ++ v ∷ ys) c v) refl e
   where
-    by : (b : Bool) → is_superseded (xs ++ v ∷ ys) c v ≡ b → (b || (is_tombstone v.body && nat_lt v.rev.main c)) ≡ true → Goes (xs ++ v ∷ ys) c v
+    by : (b : Bool) → is_superseded (xs ++ v ∷ ys) c v ≡ b → (b || (is_tombstone v.body && nat_lt v.rev.main c)) ≡ true
+        → Goes (xs ++ v ∷ ys) c v
     by true f e = record { below = low c v ys (rising-mid xs v ys h).1 (sym (superseded-mid xs v ys c h) ∙ f); why = inl f }
-    by false f e = let both = both-true (is_tombstone v.body) (nat_lt v.rev.main c) e in record { below = ltb-true v.rev.main c both.1; why = inr (gone-body v.body both.0) }
+    by false f e = let both = both-true (is_tombstone v.body) (nat_lt v.rev.main c) e in record { below = ltb-true v.rev.main c both.1;
+                           why = inr (gone-body v.body both.0) }
 
 -- where nothing before a tombstone goes, no version before it has its key
-no-earlier : (vs : List Version) (c : ℕ) (v : Version) (us : List Version) → v.rev.main ≤ c → ((u : Version) → replaces c u v ≡ true → is_superseded vs c u ≡ true)
+no-earlier : (vs : List Version) (c : ℕ) (v : Version) (us : List Version) → v.rev.main ≤ c → ((u : Version) → replaces c u v ≡ true
+    → is_superseded vs c u ≡ true)
     → AreLeft vs c us → AllByRecursion (λ u. Precedes u v) us → AllByRecursion (λ u. same_key u.key v.key ≡ false) us
 no-earlier vs c v [] l f h g = tt
 no-earlier vs c v (u ∷ us) l f h g = (by (same_key u.key v.key) refl, no-earlier vs c v us l f h.1 g.1)
@@ -246,11 +274,13 @@ no-earlier vs c v (u ∷ us) l f h g = (by (same_key u.key v.key) refl, no-earli
     by true e =
         let p : Replaces c u v = record { key = sym (same_key-eq u.key v.key e); later = g.0.0; by = l } in
         let m : u.rev.main ≤ v.rev.main = rev_lt-main u.rev v.rev g.0.0 in
-        let x : true ≡ false = (λ i. sym (le-leb u.rev.main c (omega arith)) i && (sym (f u (replaces-as c u v p)) i || (is_tombstone u.body && nat_lt u.rev.main c))) ∙ h.0 in cc
+        let x : true ≡ false = (λ i. sym (le-leb u.rev.main c (omega arith)) i && (sym (f u (replaces-as c u v p)) i
+                || (is_tombstone u.body && nat_lt u.rev.main c))) ∙ h.0 in cc
     by false e = refl
 
 -- what goes is not missed at the end of a revision from the compaction on
-pub out-values : (n c r : ℕ) (xs : List Version) (v : Version) (ys : List Version) (k : List ℕ) → c ≤ r → AreRising (xs ++ v ∷ ys) → AllSit n (xs ++ v ∷ ys)
+pub out-values : (n c r : ℕ) (xs : List Version) (v : Version) (ys : List Version) (k : List ℕ) → c ≤ r → AreRising (xs ++ v ∷ ys)
+    → AllSit n (xs ++ v ∷ ys)
     → AreLeft (xs ++ v ∷ ys) c xs → Goes (xs ++ v ∷ ys) c v → value_at (xs ++ v ∷ ys) (end_of r) k ≡ value_at (xs ++ ys) (end_of r) k
 unfolding is_superseded
 out-values n c r xs v ys k l h s left goes = by goes.why
@@ -263,7 +293,8 @@ out-values n c r xs v ys k l h s left goes = by goes.why
     keyed false b d e = cc
 
     has : (u : Version) → replaces c u v ≡ true → list_any (replaces c u) (xs ++ v ∷ ys) ≡ true
-    has u e = list_any-append (replaces c u) xs (v ∷ ys) ∙ ap (λ b. list_any (replaces c u) xs || (b || list_any (replaces c u) ys)) e ∙ or-true (list_any (replaces c u) xs)
+    has u e = list_any-append (replaces c u) xs (v ∷ ys) ∙ ap (λ b. list_any (replaces c u) xs || (b || list_any (replaces c u) ys)) e
+        ∙ or-true (list_any (replaces c u) xs)
       where
         or-true : (b : Bool) → (b || true) ≡ true
         or-true true = refl
@@ -274,8 +305,11 @@ out-values n c r xs v ys k l h s left goes = by goes.why
 
     absent : v.key ≡ k → latest xs (end_of r) k ≡ None
     absent d = last_that-none (λ u. same_key u.key k && rev_le u.rev (end_of r)) xs
-        (each-map (λ u. same_key u.key v.key ≡ false) (λ u. (same_key u.key k && rev_le u.rev (end_of r)) ≡ false) (λ u e. ap (λ b. b && rev_le u.rev (end_of r)) (ap (same_key u.key) (sym d) ∙ e)) xs earlier)
+        (each-map (λ u. same_key u.key v.key ≡ false) (λ u. (same_key u.key k && rev_le u.rev (end_of r)) ≡ false) (λ u e. ap (λ b. b
+            && rev_le u.rev (end_of r)) (ap (same_key u.key) (sym d) ∙ e)) xs earlier)
 
-    by : (is_superseded (xs ++ v ∷ ys) c v ≡ true) ⊎ (v.body ≡ Gone) → value_at (xs ++ v ∷ ys) (end_of r) k ≡ value_at (xs ++ ys) (end_of r) k
-    by (inl f) = superseded-out xs v ys (end_of r) k (λ e. seen n c r v k ys l (keyed (same_key v.key k) (rev_le v.rev (end_of r)) refl e) sits (sym (superseded-mid xs v ys c h) ∙ f))
+    by : (is_superseded (xs ++ v ∷ ys) c v ≡ true) ⊎ (v.body ≡ Gone) → value_at (xs ++ v ∷ ys) (end_of r) k
+        ≡ value_at (xs ++ ys) (end_of r) k
+    by (inl f) = superseded-out xs v ys (end_of r) k (λ e. seen n c r v k ys l (keyed (same_key v.key k) (rev_le v.rev (end_of r)) refl e)
+        sits (sym (superseded-mid xs v ys c h) ∙ f))
     by (inr f) = tombstone-out xs v ys (end_of r) k f (λ e. absent (keyed (same_key v.key k) (rev_le v.rev (end_of r)) refl e))

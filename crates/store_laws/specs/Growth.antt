@@ -1,5 +1,6 @@
 -- Laws of a history that grows by one command at a time, and of a store that stands for a world while it does.
-use Rattle.std.specs.Prelude.{◌≡◌, ◌≢◌, ◌⊎◌, ℕ, ◌+◌, ◌^◌, ◌≤◌, List, [], ◌++◌, length, Bool, false, None, Some, is_some, Ok, Err}
+use Rattle.std.specs.Prelude.{
+  ◌≡◌, ◌≢◌, ◌⊎◌, ℕ, ◌+◌, ◌^◌, ◌≤◌, List, [], ◌++◌, length, Bool, false, None, Some, is_some, Ok, Err}
 use Rattle.std.specs.List.{AllByRecursion}
 use Rattle.kv_model.specs.declared.version.Rev.{Rev}
 use Rattle.kv_model.specs.declared.version.Version.{Version}
@@ -17,7 +18,9 @@ use Rattle.kv_model.specs.Step.{refused_or, commit_at, made_in, perform, expire}
 use Rattle.kv_model.specs.Wire.{raised}
 use Rattle.kv_model.specs.Questions.{IsKept, IsGood}
 use Rattle.store_laws.specs.Stands.{Store, StandsFor, grown_noted}
-use Rattle.store_laws.specs.Stores.{refusal_of_range, reply_of_range, refusal_of_put, reply_of_put, changes_of_put, refusal_of_delete, reply_of_delete, changes_of_delete}
+use Rattle.store_laws.specs.Stores.{
+  refusal_of_range, reply_of_range, refusal_of_put, reply_of_put, changes_of_put, refusal_of_delete, reply_of_delete,
+  changes_of_delete}
 
 -- ---- histories
 
@@ -71,7 +74,8 @@ GoodAnswersTheSame = (vs : List Version) (ms : List Mutation) (c : ℕ) (q : Ran
 
 -- a good part stays good as it and the history grow by one command
 abbrev pub GoodGoesOn : Type 0
-GoodGoesOn = (vs : List Version) (ms us : List Mutation) (c : ℕ) → IsGood vs ms c → IsHistory ms → c ≤ now ms → IsBatch (now ms + 1) us
+GoodGoesOn = (vs : List Version) (ms us : List Mutation) (c : ℕ) → IsGood vs ms c → IsHistory ms → c ≤ now ms
+    → IsBatch (now ms + 1) us
     → IsGood (extend_all vs us) (ms ++ us) c
 
 -- both grow by the same versions

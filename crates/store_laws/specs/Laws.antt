@@ -46,7 +46,9 @@ NothingAfterDelete = (ms : List Mutation) (p q : Rev) (k : List ℕ) → IsBy p 
 -- the put after a tombstone starts again at version 1
 abbrev pub FirstAfterDelete : Type 0
 FirstAfterDelete = (ms : List Mutation) (p q : Rev) (k value : List ℕ) (lease : ℤ)
-    → (version_of ((ms ++ (record { rev = p; key = k; action = Action.delete }) ∷ []) ++ (record { rev = q; key = k; action = Action.put value lease }) ∷ []) (record { rev = q; key = k; action = Action.put value lease })).body
+    → (version_of ((ms ++ (record { rev = p; key = k; action = Action.delete }) ∷ [])
+    ++ (record { rev = q; key = k; action = Action.put value lease }) ∷ []) (record { rev = q; key = k;
+    action = Action.put value lease })).body
     ≡ Put q.main 1 lease value
 
 -- a range that has no key shows none
@@ -59,7 +61,8 @@ abbrev pub mutation : ℕ → List ℕ → Action → Mutation
 mutation main k a = record { rev = record { main = main; sub = 0 }; key = k; action = a }
 
 abbrev pub put_delete_put : List Mutation
-put_delete_put = mutation 2 (codes "a") (Action.put (codes "1") (pos 0)) ∷ mutation 3 (codes "a") Action.delete ∷ mutation 4 (codes "b") (Action.put (codes "1") (pos 0)) ∷ []
+put_delete_put = mutation 2 (codes "a") (Action.put (codes "1") (pos 0)) ∷ mutation 3 (codes "a") Action.delete
+    ∷ mutation 4 (codes "b") (Action.put (codes "1") (pos 0)) ∷ []
 
 abbrev pub last_put : List Version
 last_put = (record { rev = record { main = 4; sub = 0 }; key = codes "b"; body = Put 4 1 (pos 0) (codes "1") }) ∷ []

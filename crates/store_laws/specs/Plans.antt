@@ -31,16 +31,20 @@ unfoldable pub planned : List Version → ℕ → List Mutation → Path → Lis
 planned vs main us Path.end = us
 planned vs main us (Path.range q rest) = planned vs main us rest
 planned vs main us (Path.put p rest) = planned vs main (us ++ put_change vs main (length us) p ∷ []) rest
-planned vs main us (Path.delete d rest) = planned vs main (us ++ deletes_of main (length us) (still_live vs us d.range)) rest
+planned vs main us (Path.delete d rest) = planned vs main (us ++ deletes_of main (length us) (still_live vs us d.range))
+    rest
 planned vs main us (Path.txn b inner rest) = planned vs main (planned vs main us inner) rest
 
 -- the first refusal of the operations that run, in order
 unfoldable pub planned_refusal : (ℤ → Bool) → ℕ → ℕ → List Version → Path → Option Refusal
 planned_refusal granted c now vs Path.end = None
-planned_refusal granted c now vs (Path.range q rest) = option_or (revision_refusal c now q.revision) (planned_refusal granted c now vs rest)
-planned_refusal granted c now vs (Path.put p rest) = option_or (put_refusal granted vs p) (planned_refusal granted c now vs rest)
+planned_refusal granted c now vs (Path.range q rest) = option_or (revision_refusal c now q.revision)
+    (planned_refusal granted c now vs rest)
+planned_refusal granted c now vs (Path.put p rest) = option_or (put_refusal granted vs p) (planned_refusal granted c now
+    vs rest)
 planned_refusal granted c now vs (Path.delete d rest) = planned_refusal granted c now vs rest
-planned_refusal granted c now vs (Path.txn b inner rest) = option_or (planned_refusal granted c now vs inner) (planned_refusal granted c now vs rest)
+planned_refusal granted c now vs (Path.txn b inner rest) = option_or (planned_refusal granted c now vs inner)
+    (planned_refusal granted c now vs rest)
 
 -- each Range of the path reads a revision that is kept, or none of its own
 abbrev pub ReadsKept : ℕ → ℕ → Path → Type 0

@@ -1,17 +1,22 @@
 -- What commands are answered, and what they change, told over a store that stands for a world.
-use Rattle.std.specs.Prelude.{ℕ, ◌+◌, ◌^◌, ℤ, pos, negsuc, min, max, List, [], ◌∷◌, ◌++◌, ◌||◌, length, map, Bool, not, nat_lt, nat_le, Option, None, Some}
+use Rattle.std.specs.Prelude.{
+  ℕ, ◌+◌, ◌^◌, ℤ, pos, negsuc, min, max, List, [], ◌∷◌, ◌++◌, ◌||◌, length, map, Bool, not, nat_lt, nat_le, Option,
+  None, Some}
 use Rattle.std.specs.Option.{option_or}
 use Rattle.kv_model.specs.declared.call.RangeQuery.{RangeQuery}
 use Rattle.kv_model.specs.declared.call.PutRequest.{PutRequest}
 use Rattle.kv_model.specs.declared.call.DeleteRequest.{DeleteRequest}
 use Rattle.kv_model.specs.declared.call.Watched.{Watched}
 use Rattle.kv_model.specs.declared.refusal.Refusal.{Refusal}
-use Rattle.kv_model.specs.declared.refusal.Refusal.TheVariants.{NoKey, TtlTooLarge, LeaseExists, TooManyLeases, LeaseMissing, TooManyWatches}
+use Rattle.kv_model.specs.declared.refusal.Refusal.TheVariants.{
+  NoKey, TtlTooLarge, LeaseExists, TooManyLeases, LeaseMissing, TooManyWatches}
 use Rattle.kv_model.specs.Lists.{is_empty}
 use Rattle.kv_model.specs.History.{Mutation, value_at, end_of}
 use Rattle.kv_model.specs.Ranges.{range_refusal, range_reply, live, keys_of, refuse_if}
-use Rattle.kv_model.specs.Txns.{Path, path_of, put_fault, put_refusal, put_change, deletes_of, extend_all, replies_of, previous_value, if_asked}
-use Rattle.kv_model.specs.Leases.{Lease, is_granted, id_asked, ttl_asked, deadline_of, longest_ttl, most_leases, keys_of_lease, renewed, seconds_left}
+use Rattle.kv_model.specs.Txns.{
+  Path, path_of, put_fault, put_refusal, put_change, deletes_of, extend_all, replies_of, previous_value, if_asked}
+use Rattle.kv_model.specs.Leases.{
+  Lease, is_granted, id_asked, ttl_asked, deadline_of, longest_ttl, most_leases, keys_of_lease, renewed, seconds_left}
 use Rattle.kv_model.specs.Calls.{Ops}
 use Rattle.store_laws.specs.Plans.{planned, planned_refusal}
 use Rattle.kv_model.specs.Told.{Reply}
@@ -66,7 +71,8 @@ changes_of_path s q = planned s.versions (s.revision + 1) [] q
 
 -- read in the versions that the store has with the changes
 abbrev pub reply_of_path : Store → Path → Reply
-reply_of_path s q = Reply.txn (succeeded q) (replies_of (extend_all s.versions (changes_of_path s q)) s.compacted s.revision 0 (inner_path q))
+reply_of_path s q = Reply.txn (succeeded q) (replies_of (extend_all s.versions (changes_of_path s q)) s.compacted
+    s.revision 0 (inner_path q))
 
 -- ---- Compact
 
@@ -85,7 +91,8 @@ refusal_of_grant s ttl id = option_or (refuse_if (nat_lt longest_ttl (ttl_asked 
 
 -- the lease that is granted
 abbrev pub granted_lease : Store → ℤ → ℤ → Lease
-granted_lease s ttl id = record { id = id_asked s.leases id; ttl = ttl_asked ttl; deadline = deadline_of s.clock (ttl_asked ttl) }
+granted_lease s ttl id = record { id = id_asked s.leases id; ttl = ttl_asked ttl;
+    deadline = deadline_of s.clock (ttl_asked ttl) }
 
 abbrev pub refusal_of_revoke : Store → ℤ → Option Refusal
 refusal_of_revoke s id = refuse_if (not (is_granted s.leases id)) LeaseMissing
@@ -100,7 +107,8 @@ renewed_leases s id = map (renewed s.clock id) s.leases
 -- the reply to a time to live, by the lease where it is granted
 abbrev pub reply_of_time_to_live : Store → ℤ → Bool → Option Lease → Reply
 reply_of_time_to_live s id asked None = Reply.time_to_live id (negsuc 0) 0 []
-reply_of_time_to_live s id asked (Some l) = Reply.time_to_live id (pos (seconds_left s.clock l)) l.ttl (if_asked asked (keys_of_lease s.versions s.revision id))
+reply_of_time_to_live s id asked (Some l) = Reply.time_to_live id (pos (seconds_left s.clock l)) l.ttl
+    (if_asked asked (keys_of_lease s.versions s.revision id))
 
 abbrev pub reply_of_leases : Store → Reply
 reply_of_leases s = Reply.leases (map (λ l. l.id) s.leases)
@@ -127,7 +135,8 @@ watch_made s watched start id = record {
 abbrev pub tracked_made : Store → Watched → ℤ → ℤ → Tracked
 tracked_made s watched start id =
     let w : Watch = watch_made s watched start id in
-    record { number = w.number; id = w.id; watched = w.watched; late = w.late; first = first_main_of (undelivered s.versions w); ahead = ahead_of s.revision w.next }
+    record { number = w.number; id = w.id; watched = w.watched; late = w.late;
+        first = first_main_of (undelivered s.versions w); ahead = ahead_of s.revision w.next }
 
 abbrev pub with_watch : Store → Tracked → Store
 with_watch s t = record s { watches = s.watches ++ t ∷ []; made = s.made + 1 }

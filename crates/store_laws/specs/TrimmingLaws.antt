@@ -1,5 +1,6 @@
 -- Laws of trimming: its rule takes out what no least list needs, and ends at the one least.
-use Rattle.std.specs.Prelude.{◌≡◌, ℕ, ◌≤◌, ◌<◌, ◌^◌, List, ◌++◌, filter, Bool, not, ◌&&◌, nat_le, Option, None, MatchOption, ⊤}
+use Rattle.std.specs.Prelude.{
+  ◌≡◌, ℕ, ◌≤◌, ◌<◌, ◌^◌, List, ◌++◌, filter, Bool, not, ◌&&◌, nat_le, Option, None, MatchOption, ⊤}
 use Rattle.std.specs.List.{AllByRecursion}
 use Rattle.kv_model.specs.declared.version.Rev.{Rev}
 use Rattle.kv_model.specs.declared.version.Version.{Version}
@@ -31,7 +32,8 @@ pub record IsLeastOfItself (has_before : ℕ → ℕ → Bool) (d : Dump) (claim
   pub needs : AreNeedsBy has_before d.floor d.revision d.versions d.versions claims
   pub least : IsLeastBy has_before d.versions d.floor d.revision d.versions
 
--- a certificate that passes its check says so by any test of previous values, where numbers within a revision fit 64 bits
+-- a certificate that passes its check says so by any test of previous values, where numbers within a revision fit 64
+-- bits
 abbrev pub PassingIsLeast : Type 0
 PassingIsLeast = (has_before : ℕ → ℕ → Bool) (d : Dump) (claims : List Claim)
     → AllByRecursion (λ v. v.rev.sub < 2 ^ 64) d.versions → first_fault d claims ≡ None → IsLeastOfItself has_before d claims
@@ -53,19 +55,23 @@ abbrev pub IsOwn : World → List Version → Option (List Claim) → Type 0
 IsOwn w vs certificate = MatchOption certificate ⊤ (λ claims. claims ≡ claims_of (dump_of w vs))
 
 -- a step keeps what answers, leaves nothing behind it, and is one that a run may make
-pub record StepsWell (w : World) (vs : List Version) (p : Rev) (certificate : Option (List Claim)) (t : TrimStep) : Type 0 where
+pub record StepsWell (w : World) (vs : List Version) (p : Rev) (certificate : Option (List Claim)) (t : TrimStep) : Type
+    0 where
   pub good : IsGood t.versions w.mutations w.compacted
   pub up_to : IsTrimmedTo t.versions t.place w.compacted
-  pub trims : Trims w (keeping vs p w.compacted) (keeping vs p w.compacted).ahead (trim_told t.told certificate) (keeping t.versions t.place w.compacted)
+  pub trims : Trims w (keeping vs p w.compacted) (keeping vs p w.compacted).ahead (trim_told t.told certificate)
+      (keeping t.versions t.place w.compacted)
 
 -- so does each step by the rule
 abbrev pub TrimmedStepsWell : Type 0
-TrimmedStepsWell = (w : World) (vs : List Version) (p : Rev) (certificate : Option (List Claim)) → IsSound w → w.compacted < 2 ^ 63
+TrimmedStepsWell = (w : World) (vs : List Version) (p : Rev) (certificate : Option (List Claim)) → IsSound w
+    → w.compacted < 2 ^ 63
     → IsGood vs w.mutations w.compacted → IsTrimmedTo vs p w.compacted → IsOwn w vs certificate → StepsWell w vs p certificate (trimmed vs p w.compacted)
 
 -- where a step by the rule says that it is done, a least list is kept and nothing is left to visit
 abbrev pub DoneIsTrimmed : Type 0
-DoneIsTrimmed = (w : World) (vs : List Version) (p : Rev) (n : ℕ) → IsSound w → w.compacted < 2 ^ 63 → IsGood vs w.mutations w.compacted → IsTrimmedTo vs p w.compacted
+DoneIsTrimmed = (w : World) (vs : List Version) (p : Rev) (n : ℕ) → IsSound w → w.compacted < 2 ^ 63
+    → IsGood vs w.mutations w.compacted → IsTrimmedTo vs p w.compacted
     → (trimmed vs p w.compacted).told ≡ Trimmed.done n → IsTrimmed w (keeping vs p w.compacted)
 
 -- ---- what comes between steps
@@ -78,7 +84,8 @@ pub record StartsOver (vs : List Version) (c : ℕ) : Type 0 where
 abbrev pub TrimmingStartsOver : Type 0
 TrimmingStartsOver = (vs : List Version) (c : ℕ) → StartsOver vs c
 
--- later versions, which stand above the compaction, change nothing of what is behind the place and of what is to be visited
+-- later versions, which stand above the compaction, change nothing of what is behind the place and of what is to be
+-- visited
 pub record GoesOn (vs us : List Version) (p : Rev) (c : ℕ) : Type 0 where
   pub up_to : IsTrimmedTo (vs ++ us) p c
   pub ahead : (keeping (vs ++ us) p c).ahead ≡ (keeping vs p c).ahead
