@@ -1,5 +1,5 @@
 -- What clap makes of a command whose one subcommand is `replay`, which is required.
-use Rattle.std.proofs.Common.{◌≡◌, List, [], ◌∷◌, length, Bool, true, false, not, ◌&&◌, Option, None, Some, cond, subst, codes, refl, sym, ap, ◌∙◌, arith, is_some, true≢false}
+use Rattle.std.proofs.Common.{◌≡◌, List, [], ◌∷◌, length, map, get_or, Bool, true, false, not, ◌&&◌, Option, None, Some, cond, subst, codes, refl, sym, ap, ◌∙◌, arith, is_some, true≢false}
 use Rattle.std.specs.List.{list_any}
 use Rattle.std.specs.Str.{bytes_eq}
 use Rattle.std.proofs.lemmas.Slice.Eq.{bytes_eq-Decides}
@@ -141,3 +141,10 @@ is_replay [] two none = absurd (omega (arith, two))
 is_replay (name ∷ []) two none = absurd (omega (arith, two))
 is_replay (name ∷ w ∷ []) two none = (name, ap (λ t. name ∷ t ∷ []) (sym (one_word name w _ _ refl refl none)))
 is_replay (name ∷ w ∷ x ∷ more) two none = absurd (omega (arith, two))
+
+-- two words, of which the second is `replay`
+pub are_replay : {A : Type 0} (text : A → Text) (words : List A) (other : A) → length words ≡ 2 → text (get_or words 1 other) ≡ codes "replay" → IsReplay (map text words)
+are_replay text [] other two same = absurd (omega (arith, two))
+are_replay text (x ∷ []) other two same = absurd (omega (arith, two))
+are_replay text (x ∷ y ∷ []) other two same = (text x, ap (λ t. text x ∷ t ∷ []) same)
+are_replay text (x ∷ y ∷ z ∷ more) other two same = absurd (omega (arith, two))

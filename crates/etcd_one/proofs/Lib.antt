@@ -1,4 +1,5 @@
 pub mod CommandLine
+pub mod Fronts
 pub mod Lines
 pub mod Numbers
 pub mod Reading

@@ -1,12 +1,16 @@
 -- The replies of all lines, by the events among them.
-use Rattle.std.proofs.Common.{◌≡◌, ℕ, List, [], ◌∷◌, ◌++◌, map, Option, None, Some, IfSome, Result, Ok, Err, OnOk, codes, refl, ap, subst}
+use Rattle.std.proofs.Common.{◌≡◌, ℕ, List, [], ◌∷◌, ◌++◌, map, Option, None, Some, IfSome, Result, Ok, Err, OnOk, IfErr, Bool, true, false, codes, refl, ap, subst}
 use Rattle.std.specs.Io.KnownBytes.{Appends}
+use Rattle.kv_model.specs.declared.refusal.Refusal.{Refusal}
+use Rattle.kv_model.specs.declared.refusal.Refusal.TheVariants.{Memory}
 use Rattle.kv_model.specs.Wire.{Follows, WireEvent, WireOutcome}
 use Rattle.json_gateway.specs.Runs.{event_view}
+use Rattle.txn_core.specs.Planning.{is_memory}
 use Rattle.etcd_one.specs.declared.script.Lines.{Lines}
-use Rattle.etcd_one.specs.Lines.{AreLines, are_events, replies_by}
+use Rattle.etcd_one.specs.Lines.{AreLines, are_events, line_by, replies_by}
 use Rattle.etcd_one.specs.Script.{line_events}
 use Rattle.etcd_one.specs.Replies.{IsAnswered, events_among, ids, outcome_line, reply_lines}
+use Rattle.etcd_one.specs.Writes.{AppendsFront, Writes}
 
 none_left : (ls : List (Option WireEvent)) (es : List WireEvent) → replies_by (are_events ls) es [] ≡ reply_lines ls []
 none_left [] es = refl
@@ -21,17 +25,42 @@ replies_are (None ∷ ls) os = ap (λ t. codes "bad line\n" ++ t) (replies_are l
 replies_are (Some e ∷ ls) [] = none_left ls (e ∷ events_among ls)
 replies_are (Some e ∷ ls) (o ∷ os) = ap (λ t. outcome_line e o ++ t) (replies_are ls os)
 
+-- the reply to the first line stands at the front
+pub first_reply : (flag : Bool) (flags : List Bool) (es : List WireEvent) (os : List WireOutcome) → (rest : List ℕ) × (replies_by (flag ∷ flags) es os ≡ line_by flag es os ++ rest)
+first_reply false flags es os = (replies_by flags es os, refl)
+first_reply true flags [] os = (replies_by flags [] os, refl)
+first_reply true flags (e ∷ es) [] = (replies_by flags (e ∷ es) [], refl)
+first_reply true flags (e ∷ es) (o ∷ os) = (replies_by flags es os, refl)
+
 by_lines : (text : List ℕ) (lines : Lines) (os : List WireOutcome) → AreLines lines (line_events text)
     → replies_by lines.are_events.items (map event_view lines.events.items) os ≡ reply_lines (line_events text) os
 by_lines text lines os are = rw (are.flags, are.events) (replies_are (line_events text) os)
 
--- what was written is what answers the script that was read
+-- what holds of the replies to the lines of the script that was read holds of what answers it
+answered_by : (known : Option (List ℕ)) (text : List ℕ) (lines : Lines) (os : List WireOutcome) (P : List ℕ → Type 0)
+    → IfSome known (λ t. text ≡ t) → AreLines lines (line_events text) → Follows ids (events_among (line_events text)) os
+    → P (replies_by lines.are_events.items (map event_view lines.events.items) os)
+    → IfSome known (λ script. (x : List ℕ) × IsAnswered script x × P x)
+answered_by None text lines os P same are follows p = tt
+answered_by (Some t) text lines os P same are follows p =
+    subst (λ t. (x : List ℕ) × IsAnswered t x × P x) same (reply_lines (line_events text) os, (os, follows, refl), subst P (by_lines text lines os are) p)
+
+-- what was written whole is what answers the script that was read
 pub answered : {A E : Type 0} (r : Result A E) (known before after : Option (List ℕ)) (text : List ℕ) (lines : Lines) (os : List WireOutcome)
     → IfSome known (λ t. text ≡ t) → AreLines lines (line_events text) → Follows ids (events_among (line_events text)) os
-    → OnOk r (Appends before after (replies_by lines.are_events.items (map event_view lines.events.items) os))
+    → Writes r before after (replies_by lines.are_events.items (map event_view lines.events.items) os)
     → OnOk r (IfSome known (λ script. (x : List ℕ) × IsAnswered script x × Appends before after x))
 answered (Err e) known before after text lines os same are follows p = tt
-answered (Ok a) None before after text lines os same are follows p = tt
-answered (Ok a) (Some t) before after text lines os same are follows p =
-    subst (λ t. (x : List ℕ) × IsAnswered t x × Appends before after x) same
-    (reply_lines (line_events text) os, (os, follows, refl), subst (Appends before after) (by_lines text lines os are) p)
+answered (Ok a) known before after text lines os same are follows p = answered_by known text lines os (Appends before after) same are follows p
+
+-- and what was written up to a failure is a front of that
+pub answered_front : {A E : Type 0} (r : Result A E) (P : E → Type 0) (known before after : Option (List ℕ)) (text : List ℕ) (lines : Lines) (os : List WireOutcome)
+    → IfSome known (λ t. text ≡ t) → AreLines lines (line_events text) → Follows ids (events_among (line_events text)) os
+    → Writes r before after (replies_by lines.are_events.items (map event_view lines.events.items) os)
+    → IfErr r (λ e. P e → IfSome known (λ script. (x : List ℕ) × IsAnswered script x × AppendsFront before after x))
+answered_front (Ok a) P known before after text lines os same are follows p = tt
+answered_front (Err e) P known before after text lines os same are follows p = λ _. answered_by known text lines os (AppendsFront before after) same are follows p
+
+pub not_memory : (e : Refusal) → (e ≡ Memory → ⊥) → is_memory e ≡ false
+not_memory Memory n = absurd (n refl)
+not_memory _ n = refl

@@ -10,6 +10,11 @@ is_read fault.Endless = true
 is_read fault.Memory = true
 is_read _ = false
 
+-- it comes of a script without an end
+abbrev pub is_endless : Fault → Bool
+is_endless fault.Endless = true
+is_endless _ = false
+
 -- it comes of writing the replies, and of nothing else
 abbrev pub is_write : Fault → Bool
 is_write (fault.Write error) = true

@@ -3,3 +3,4 @@ pub mod Faults
 pub mod Script
 pub mod Replies
 pub mod Lines
+pub mod Writes

@@ -12,6 +12,13 @@ are_events [] = []
 are_events (None ∷ ls) = false ∷ are_events ls
 are_events (Some e ∷ ls) = true ∷ are_events ls
 
+-- the reply to one line, by that and the events and outcomes from it on
+abbrev pub line_by : Bool → List WireEvent → List WireOutcome → List ℕ
+line_by false es os = codes "bad line\n"
+line_by true [] os = []
+line_by true (e ∷ es) [] = []
+line_by true (e ∷ es) (o ∷ os) = outcome_line e o
+
 -- the replies, by those and the events among the lines
 abbrev pub replies_by : List Bool → List WireEvent → List WireOutcome → List ℕ
 replies_by [] es os = []

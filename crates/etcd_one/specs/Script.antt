@@ -6,6 +6,10 @@ use Rattle.std.specs.Str.Lines.{lines}
 use Rattle.kv_model.specs.Requests.{digits_value}
 use Rattle.kv_model.specs.Wire.{WireEvent}
 
+-- the most reads that a script may take
+abbrev pub most_reads : ℕ
+most_reads = 2 ^ 30
+
 -- the most bytes of a line, without its end, that can be an event
 abbrev pub longest_line : ℕ
 longest_line = 1700000

@@ -1,5 +1,5 @@
 //! The program's arguments.
-ghost use Rattle.std.specs.Prelude.{◌≡◌, ◌≢◌, IsOk, IfOk, IfErr, map, string_bytes};
+ghost use Rattle.std.specs.Prelude.{◌≡◌, IsOk, IfOk, IfErr, map, string_bytes};
 ghost use Rattle.clap.specs.Words.{app_of, kind_of};
 ghost use Rattle.etcd_one.specs.Arguments.{IsReplay, program};
 
@@ -17,21 +17,34 @@ pub enum Args {
 
 /// Reads the words of a command line, the program's name first. The one command is `replay`, with nothing after it.
 ///
-/// Fails with `Fault::Arguments` for any other words, and with `Fault::Memory`.
+/// Fails with `Fault::Arguments` for any other words, whether or not there is memory, and with `Fault::Memory` where these
+/// are the words and memory is wanting.
 pub fn arguments(alloc: Global, words: &[String]) -> Result<Args, Fault>
     ensures ok { IsOk result → IsReplay (map string_bytes words.now) }
-    ensures err { IfErr result (λ e. IsReplay (map string_bytes words.now) → e ≡ Fault.Memory) }
+    ensures replay { IfErr result (λ fault. IsReplay (map string_bytes words.now) → fault ≡ Fault.Memory) }
+    ensures other { IfErr result (λ fault. (IsReplay (map string_bytes words.now) → ⊥) → fault ≡ Fault.Arguments) }
 {
     // clap would pass over a last `--`.
     if words.len() != 2 {
         return Err(Fault::Arguments);
     }
     let Ok(command) = program(alloc) else {
-        return Err(Fault::Memory);
+        return Err(without_memory(words));
     };
     match command.try_get_matches_from(words) {
         Ok(_) => Ok(Args::Replay),
-        Err(error) => Err(fault_of(&error)),
+        Err(error) => Err(fault_of(&error, words)),
+    }
+}
+
+/// Which fault it is that clap found no memory to read the words: other words than `replay` are bad with memory too.
+fn without_memory(words: &[String]) -> Fault
+    ensures replay { IsReplay (map string_bytes words.now) → result ≡ Fault.Memory }
+    ensures other { (IsReplay (map string_bytes words.now) → ⊥) → result ≡ Fault.Arguments }
+{
+    match words {
+        [_, word] if word.as_str() == "replay" => Fault::Memory,
+        _ => Fault::Arguments,
     }
 }
 
@@ -45,12 +58,13 @@ fn program<'a>(alloc: Global) -> Result<Command<'a>, AllocError>
         .subcommand(replay)
 }
 
-fn fault_of(error: &Error) -> Fault
-    ensures memory { kind_of error.now ≡ ErrorKind.OutOfMemory → result ≡ Fault.Memory }
-    ensures other { kind_of error.now ≢ ErrorKind.OutOfMemory → result ≡ Fault.Arguments }
+/// Which fault it is that clap took the words for an error.
+fn fault_of(error: &Error, words: &[String]) -> Fault
+    ensures replay { kind_of error.now ≡ ErrorKind.OutOfMemory → IsReplay (map string_bytes words.now) → result ≡ Fault.Memory }
+    ensures other { (IsReplay (map string_bytes words.now) → ⊥) → result ≡ Fault.Arguments }
 {
     match error.kind() {
-        ErrorKind::OutOfMemory => Fault::Memory,
+        ErrorKind::OutOfMemory => without_memory(words),
         _ => Fault::Arguments,
     }
 }

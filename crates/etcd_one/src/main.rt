@@ -6,15 +6,19 @@
 #![tactic(auto)]
 
 mod command_line;
+mod counted;
 mod fault;
-mod replay;
+mod pieces;
+mod replaying;
+mod replies;
 mod script;
 #[cfg(test)]
 mod tests;
 
-use command_line::{Args, arguments};
-use fault::{Fault, fault_of_words};
-use replay::replay;
+pub use command_line::{Args, arguments};
+pub use fault::Fault;
+use fault::fault_of_words;
+pub use replaying::replay;
 use std::io::BufWriter;
 use std::process::ExitCode;
 use std::{env, io};

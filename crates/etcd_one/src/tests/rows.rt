@@ -1,5 +1,5 @@
 //! Scripts and their replies, byte for byte.
-use crate::replay::replay;
+use crate::replay;
 use std::alloc::Global;
 
 const PUT_FOO: &str = "POST /v3/kv/put {\"key\":\"Zm9v\",\"value\":\"YmFy\"}\n";

@@ -1,7 +1,5 @@
 //! Bad arguments, and readers and writers that fail.
-use crate::command_line::{Args, arguments};
-use crate::fault::Fault;
-use crate::replay::{read_script, replay};
+use crate::{Args, Fault, arguments, replay};
 use std::alloc::Global;
 use std::io;
 use std::io::{ErrorKind, Read, Write};
@@ -115,37 +113,6 @@ fn reads(rt: HostRuntime) {
         assert!(rt; is_left_unread(rt.alloc(), good), "{good}");
     }
     assert!(rt; is_read(rt.alloc()));
-}
-
-/// A reader that never ends.
-#[derive(Drop)]
-struct Endless;
-
-impl Read for Endless {
-    fn read(&mut self, _buf: &mut [u8]) -> io::Result<usize> {
-        Err(io::Error::from(ErrorKind::Interrupted))
-    }
-}
-
-/// A script that has not ended after so many reads is a fault; an interrupted read counts as one.
-#[test]
-fn reads_end(rt: HostRuntime) {
-    assert!(rt;
-        matches!(
-            read_script(rt.alloc(), &mut Endless, 1000),
-            Err(Fault::Endless)
-        )
-    );
-    let most = 2 * SCRIPT.len() as u32 + 2;
-    let mut reader = slow_reader(usize::MAX);
-    assert!(rt; read_script(rt.alloc(), &mut reader, most).is_ok());
-    let mut reader = slow_reader(usize::MAX);
-    assert!(rt;
-        matches!(
-            read_script(rt.alloc(), &mut reader, most - 1),
-            Err(Fault::Endless)
-        )
-    );
 }
 
 /// Whether a script ends where a write fails, or takes nothing, after these bytes, and nothing more is written.

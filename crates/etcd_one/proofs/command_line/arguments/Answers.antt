@@ -15,6 +15,6 @@ returns-in-Ok-try_get_matches_from-clause-ok c =
     ∙ c.in-Ok-try_get_matches_from.ensures.kinds (ap is_simple_and_free c.in-Ok.ensures ∙ is_plain) in
     λ _. is_replay words two none
 
-pub returns-clause-err : goal.returns-clause-err
-returns-clause-err c = λ r. c.fault_of.ensures.memory
-    (c.in-Err.ensures.passes (ap (λ (a : App). takes a (map string_bytes c.args.words.now)) c.in-Ok.ensures ∙ is_taken _ r))
+pub returns-clause-replay : goal.returns-clause-replay
+returns-clause-replay c = λ r. c.fault_of.ensures.replay
+    (c.in-Err.ensures.passes (ap (λ (a : App). takes a (map string_bytes c.args.words.now)) c.in-Ok.ensures ∙ is_taken _ r)) r
