@@ -1,5 +1,5 @@
 -- An index agrees with its versions as both change.
-use Rattle.std.proofs.Common.{◌≡◌, ℕ, List, [], ◌∷◌, ◌++◌, drop, map, filter, Bool, true, false, ◌||◌, ◌==◌, cond, refl, sym, ◌∙◌, ap, subst}
+use Rattle.std.proofs.Common.{◌≡◌, ℕ, ◌≤◌, List, [], ◌∷◌, ◌++◌, drop, map, filter, Bool, true, false, ◌||◌, ◌==◌, cond, refl, sym, ◌∙◌, ap, subst, arith}
 use Rattle.std.proofs.lemmas.List.{append-nil}
 use Rattle.std.specs.List.{AllByRecursion}
 use Rattle.kv_model.specs.declared.version.Rev.{Rev}
@@ -7,11 +7,13 @@ use Rattle.kv_model.specs.declared.version.Version.{Version}
 use Rattle.kv_model.specs.Keys.{same_key}
 use Rattle.kv_model.specs.History.{rev_lt}
 use Rattle.key_index.specs.declared.revisions.Mark.{Mark}
-use Rattle.key_index.specs.Marks.{IsBehind, undone, without}
-use Rattle.key_index.specs.Index.{Index, marks, with_mark, without_front, without_mark, retracted}
+use Rattle.key_index.specs.Marks.{AreUpTo, IsBehind, undone, without}
+use Rattle.key_index.specs.Index.{Index, IsBound, marks, with_mark, without_front, without_mark, is_up_to, retracted}
 use Rattle.key_index.specs.Agrees.{mark_of, marks_of, Agrees}
 use Rattle.key_index.proofs.Marks.{IsAbove, undone-append, without-middle}
 use Rattle.key_index.proofs.Keys.{same-eq}
+use Rattle.key_index.proofs.Bounds.{bound-up_to}
+use Rattle.key_index.proofs.Walks.{AreTheirs, theirs}
 use Rattle.key_index.proofs.Entries.{index-with_mark, index-with_marks, index-retracted, marks-with_mark, marks-without_front, marks-without_mark, marks-retracted, changes_key}
 
 -- ---- the revisions of a list of versions
@@ -144,3 +146,19 @@ retract-agrees i vs us ts main a h g = record {
     by : (k : List ℕ) (b : Bool) → changes_key k (us ++ ts) ≡ b → cond b (undone main (marks_of k vs ++ marks_of k us)) (marks_of k vs ++ marks_of k us) ≡ marks_of k vs
     by k true e = undone-append main (marks_of k vs) (marks_of k us) (all-of main false k vs h) (all-of main true k us g)
     by k false e = ap (λ ms. marks_of k vs ++ ms) (untouched k us ts e) ∙ append-nil (marks_of k vs)
+
+up_to-marks_of : (main : ℕ) (k : List ℕ) (vs : List Version) → AllByRecursion (λ v. v.rev.main ≤ main) vs → AreUpTo main (marks_of k vs)
+up_to-marks_of main k [] h = tt
+up_to-marks_of main k (v ∷ vs) h = subst (AreUpTo main) (sym (marks_of-cons k v vs)) (by (same_key v.key k) (up_to-marks_of main k vs h.1))
+  where
+    by : (b : Bool) → AreUpTo main (marks_of k vs) → AreUpTo main (cond b (mark_of v ∷ marks_of k vs) (marks_of k vs))
+    by true rest = (h.0, rest)
+    by false rest = rest
+
+-- where no version is of a later main revision, none of the index is
+pub up_to-agrees : (main : ℕ) (i : Index) (vs : List Version) → Agrees i vs → AllByRecursion (λ v. v.rev.main ≤ main) vs → is_up_to main i ≡ true
+up_to-agrees main i vs a h = bound-up_to main main i (omega arith) (go i (theirs i a.sound))
+  where
+    go : (es : Index) → AreTheirs i es → IsBound main es
+    go [] t = tt
+    go (e ∷ es) t = (subst (AreUpTo main) (sym (a.each e.0) ∙ t.0) (up_to-marks_of main e.0 vs h), go es t.1)

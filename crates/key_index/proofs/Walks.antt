@@ -113,7 +113,7 @@ keys_in-agree i vs r a = go i ∙ ap (filter (in_range r)) (keys-agree i vs a)
 
 -- ---- a walk
 
-abbrev AreTheirs : Index → Index → Type 0
+abbrev pub AreTheirs : Index → Index → Type 0
 AreTheirs i es = AllByRecursion (λ (e : List ℕ × List Mark). marks e.0 i ≡ e.1) es
 
 -- the entry before does not hide the others
@@ -121,7 +121,7 @@ not-first : (e : List ℕ × List Mark) (i es : Index) → IsBelow e.0 es → Ar
 not-first e i [] h t = tt
 not-first e i (f ∷ es) h t = (ap (λ b. unwrap_or (cond b (Some e.1) (found f.0 i)) []) (ap is_eq (nat_list_cmp_total.antisymm f.0 e.0 ∙ ap ordering_reverse h.0)) ∙ t.0, not-first e i es h.1 t.1)
 
-theirs : (i : Index) → IsIndex i → AreTheirs i i
+pub theirs : (i : Index) → IsIndex i → AreTheirs i i
 theirs [] h = tt
 theirs (e ∷ es) h = (ap (λ b. unwrap_or (cond b (Some e.1) (found e.0 es)) []) (ap is_eq (cmp-refl e.0)), not-first e es es h.1 (theirs es h.2))
 

@@ -1,6 +1,6 @@
 -- An index: each key with its revisions, the keys ascending.
-use Rattle.std.specs.Prelude.{◌≡◌, ◌≢◌, ℕ, List, [], ◌∷◌, ◌++◌, drop, filter, Option, None, Some, unwrap_or, ⊤}
-use Rattle.std.specs.List.{AllByRecursion}
+use Rattle.std.specs.Prelude.{◌≡◌, ◌≢◌, ℕ, List, [], ◌∷◌, ◌++◌, drop, filter, Bool, if◌then◌else◌, Option, None, Some, unwrap_or, ⊤}
+use Rattle.std.specs.List.{AllByRecursion, list_all}
 use Rattle.std.specs.declared.cmp.Ordering.TheVariants.{Less}
 use Rattle.std.specs.Map.{lookup, set_value, remove_entry}
 use Rattle.std.specs.BTreeMap.{insert_entry, is_at as is_key}
@@ -9,7 +9,7 @@ use Rattle.kv_model.specs.declared.version.Version.{Version}
 use Rattle.kv_model.specs.Keys.{key_cmp, in_range}
 use Rattle.key_index.specs.declared.revisions.Mark.{Mark}
 use Rattle.kv_model.specs.declared.version.Rev.{Rev}
-use Rattle.key_index.specs.Marks.{undone, without}
+use Rattle.key_index.specs.Marks.{AreUpTo, ends_up_to, undone, without}
 
 abbrev pub Index : Type 0
 Index = List (List ℕ × List Mark)
@@ -18,6 +18,10 @@ Index = List (List ℕ × List Mark)
 abbrev pub IsIndex : Index → Type 0
 IsIndex [] = ⊤
 IsIndex (e ∷ es) = (e.1 ≢ []) × AllByRecursion (λ f. key_cmp e.0 f.0 ≡ Less) es × IsIndex es
+
+-- no key has a revision of a later main revision
+abbrev pub IsBound : ℕ → Index → Type 0
+IsBound main i = AllByRecursion (λ e. AreUpTo main e.1) i
 
 abbrev pub found : List ℕ → Index → Option (List Mark)
 found k i = lookup (is_key (key_cmp k)) i
@@ -55,6 +59,14 @@ undone_at main k i = with_marks k (undone main (marks k i)) i
 abbrev pub retracted : ℕ → List Version → Index → Index
 retracted main [] i = i
 retracted main (v ∷ vs) i = retracted main vs (undone_at main v.key i)
+
+-- no key's last revision is of a later main revision
+abbrev pub is_up_to : ℕ → Index → Bool
+is_up_to main i = list_all (λ e. ends_up_to main e.1) i
+
+-- a main revision taken back, where no later one is there; else nothing changes
+abbrev pub retracted_newest : ℕ → List Version → Index → Index
+retracted_newest main cs i = if is_up_to main i then retracted main cs i else i
 
 -- the keys of a range, with their revisions
 abbrev pub in_interval : KeyRange → Index → Index

@@ -1,5 +1,5 @@
 -- The revisions of one key, in order.
-use Rattle.std.specs.Prelude.{◌≡◌, ℕ, zero, suc, List, [], ◌∷◌, Bool, true, false, not, ◌&&◌, ◌==◌, Option, None, Some, option_map, filter, if◌then◌else◌, ⊤}
+use Rattle.std.specs.Prelude.{◌≡◌, ℕ, zero, suc, List, [], ◌∷◌, Bool, true, false, not, ◌&&◌, ◌==◌, ◌≤◌, nat_le, Option, None, Some, option_map, filter, if◌then◌else◌, ⊤}
 use Rattle.std.specs.List.{AllByRecursion, find, slice_get}
 use Rattle.kv_model.specs.declared.version.Rev.{Rev}
 use Rattle.kv_model.specs.Lists.{last_that, is_empty}
@@ -37,6 +37,18 @@ is_of main (Some m) = m.rev.main == main
 -- the last one is of this main revision
 abbrev pub ends_in : ℕ → List Mark → Bool
 ends_in main ms = is_of main (newest ms)
+
+-- no revision is of a later main revision
+abbrev pub AreUpTo : ℕ → List Mark → Type 0
+AreUpTo main ms = AllByRecursion (λ m. m.rev.main ≤ main) ms
+
+abbrev pub is_last_up_to : ℕ → Option Mark → Bool
+is_last_up_to main None = true
+is_last_up_to main (Some m) = nat_le m.rev.main main
+
+-- the last one is not of a later main revision
+abbrev pub ends_up_to : ℕ → List Mark → Bool
+ends_up_to main ms = is_last_up_to main (newest ms)
 
 -- the revisions without those of a main revision at the end
 abbrev pub undone : ℕ → List Mark → List Mark

@@ -1,7 +1,7 @@
 //! From each key to its revisions (etcd: the tree index of keys).
 ghost use Rattle.std.specs.Prelude.{◌≡◌, ◌↔◌, List, [], ◌∷◌, ◌++◌, map, OnOk, OnErr, IfOk, IsTrue, Some, None, true, false};
 ghost use Rattle.key_index.specs.Marks.{IsBehind, after_place, at_place, undone};
-ghost use Rattle.key_index.specs.Index.{IsIndex, in_interval, marks, retracted, undone_at, with_mark, without_front, without_mark};
+ghost use Rattle.key_index.specs.Index.{IsIndex, in_interval, is_up_to, marks, retracted, retracted_newest, undone_at, with_mark, without_front, without_mark};
 
 use crate::changes;
 use crate::interval::bounds;
@@ -17,16 +17,18 @@ use std::marker::Model;
 pub struct KeyIndex {
     alloc: Global,
     keys: BTreeMap<Bytes, Revisions>,
+    /// The newest main revision ever added. None in the index is above it.
+    newest: u64,
 }
 
 impl Model for KeyIndex {
-    ghost use Rattle.key_index.specs.Index.{Index, IsIndex};
+    ghost use Rattle.key_index.specs.Index.{Index, IsBound, IsIndex};
 
     ghost Value = { Index };
 
     ghost view = { λ x. x.keys.entries };
 
-    ghost invariant = { λ x. IsIndex x.keys.entries };
+    ghost invariant = { λ x. IsIndex x.keys.entries × IsBound x.newest x.keys.entries };
 }
 
 /// A key of the index, lent with its revisions.
@@ -46,6 +48,7 @@ impl KeyIndex {
         KeyIndex {
             alloc,
             keys: BTreeMap::new(alloc),
+            newest: 0,
         }
     }
 
@@ -88,14 +91,29 @@ impl KeyIndex {
         ensures ok { OnOk result (self.new ≡ with_mark key.now mark self.old) }
         ensures err { OnErr result (self.new ≡ self.old) }
     {
-        changes::add(self.alloc, &mut self.keys, key, mark)
+        changes::add(self.alloc, &mut self.keys, key, mark)?;
+        self.newest = self.newest.max(mark.rev.main);
+        Ok(())
     }
 
-    /// Takes a main revision back: for each of the changes, drops what its key has of that revision at the end. With
-    /// the changes of the newest main revision nothing of it is left. Takes no memory.
+    /// Takes a main revision back, where no later one is there, and else changes nothing: for each of the changes, drops
+    /// what its key has of that revision at the end. With the changes of the newest main revision nothing of it is left;
+    /// a main revision that is not there leaves all as it is. Takes no memory.
     ///
-    /// The time is logarithmic in the number of keys for each change.
+    /// The time is logarithmic in the number of keys for each change. Where a later revision was ever added, which need
+    /// not be there any more, it is linear in the number of keys too: they are walked until one has a later revision.
+    /// The store makes no such call, for it takes back just what it added last.
     pub fn retract(&mut self, main: u64, changes: &[Version])
+        ensures { self.new ≡ retracted_newest main changes.now self.old }
+    {
+        if main < self.newest && !is_up_to(&self.keys, main) {
+            return;
+        }
+        self.take_back(main, changes);
+    }
+
+    /// Drops what the keys of the changes have of a main revision at the end.
+    fn take_back(&mut self, main: u64, changes: &[Version])
         ensures { self.new ≡ retracted main changes.now self.old }
     {
         for change in changes {
@@ -165,4 +183,11 @@ impl KeyIndex {
             .map(|(key, revisions)| Indexed { key, revisions })
             .collect(self.alloc)
     }
+}
+
+/// Whether no key has a revision of a later main revision. Walks over the keys, until one has.
+fn is_up_to(keys: &BTreeMap<Bytes, Revisions>, main: u64) -> bool
+    ensures { result ≡ is_up_to main keys.now.entries }
+{
+    keys.values().all(|revisions| revisions.ends_up_to(main))
 }

@@ -3,7 +3,7 @@ ghost use Rattle.std.specs.Prelude.{◌≡◌, ◌↔◌, List, [], ◌∷◌, �
 ghost use Rattle.std.specs.List.{slice_get};
 ghost use Rattle.kv_model.specs.Lists.{is_empty};
 ghost use Rattle.kv_model.specs.History.{rev_lt, rev_le};
-ghost use Rattle.key_index.specs.Marks.{IsBehind, IsRising, after_place, at_place, count_up_to, ends_in, is_oldest, is_rev, newest, rev_of, undone, without};
+ghost use Rattle.key_index.specs.Marks.{IsBehind, IsRising, after_place, at_place, count_up_to, ends_in, ends_up_to, is_oldest, is_rev, newest, rev_of, undone, without};
 
 use kv_model::version::Rev;
 use std::alloc::{AllocError, Global};
@@ -113,6 +113,17 @@ impl Revisions {
             Held::Nothing => true,
             Held::One(mark) => is_before(mark.rev, rev),
             Held::Many(marks) => takes(marks, rev),
+        }
+    }
+
+    /// Whether the newest revision is not of a later main revision.
+    pub(crate) fn ends_up_to(&self, main: u64) -> bool
+        ensures { result ≡ ends_up_to main self.now }
+    {
+        match &self.held {
+            Held::Nothing => true,
+            Held::One(mark) => mark.rev.main <= main,
+            Held::Many(marks) => ends_up_to(marks, main),
         }
     }
 
@@ -287,6 +298,16 @@ fn ends_in(marks: &VecDeque<Mark>, main: u64) -> bool
     match newest(marks) {
         Some(newest) => newest.rev.main == main,
         None => false,
+    }
+}
+
+/// Whether the last revision is not of a later main revision.
+fn ends_up_to(marks: &VecDeque<Mark>, main: u64) -> bool
+    ensures { result ≡ ends_up_to main marks.now.items }
+{
+    match newest(marks) {
+        Some(newest) => newest.rev.main <= main,
+        None => true,
     }
 }
 
