@@ -1,5 +1,6 @@
 -- Lists of leases that ascend, and what a question or a change does at the two sides of a lease.
-use Rattle.std.proofs.Common.{◌≡◌, ℕ, suc, ℤ, ◌<ℤ◌, ◌≤ℤ◌, Bool, true, false, cond, not, ◌||◌, List, [], ◌∷◌, ◌++◌, length, map, refl, sym, ap, ◌∙◌, append_assoc, Option, None, Some, is_some, arith}
+use Rattle.std.proofs.Common.{◌≡◌, ℕ, suc, ℤ, ◌<ℤ◌, ◌≤ℤ◌, Bool, true, false, cond, not, ◌||◌, List, [], ◌∷◌, ◌++◌}
+use Rattle.std.proofs.Common.{length, map, refl, sym, ap, ◌∙◌, append_assoc, Option, None, Some, is_some, arith}
 use Rattle.std.specs.Prelude.{find, int_lt, option_map}
 use Rattle.std.specs.List.{AllByRecursion, list_any}
 use Rattle.std.specs.Ordering.{int_eq}
@@ -34,10 +35,6 @@ pub each_implies : (P Q : Lease → Type 0) → ((l : Lease) → P l → Q l) �
 each_implies P Q f [] h = tt
 each_implies P Q f (l ∷ ls) h = (f l h.0, each_implies P Q f ls h.1)
 
-pub each_append : (P : Lease → Type 0) (xs ys : List Lease) → AllByRecursion P xs → AllByRecursion P ys → AllByRecursion P (xs ++ ys)
-each_append P [] ys h k = k
-each_append P (x ∷ xs) ys h k = (h.0, each_append P xs ys h.1 k)
-
 pub each_front : (P : Lease → Type 0) (xs ys : List Lease) → AllByRecursion P (xs ++ ys) → AllByRecursion P xs
 each_front P [] ys h = tt
 each_front P (x ∷ xs) ys h = (h.0, each_front P xs ys h.1)
@@ -48,46 +45,44 @@ each_back P (x ∷ xs) ys h = each_back P xs ys h.1
 
 -- ---- the two sides of a lease
 
-abbrev pub IsBelow : ℤ → List Lease → Type 0
-IsBelow id ls = AllByRecursion (λ m. m.id <ℤ id) ls
+abbrev pub AreBelow : ℤ → List Lease → Type 0
+AreBelow id ls = AllByRecursion (λ m. m.id <ℤ id) ls
 
-abbrev pub IsBehind : ℤ → List Lease → Type 0
-IsBehind id ls = AllByRecursion (λ m. id <ℤ m.id) ls
+abbrev pub AreBehind : ℤ → List Lease → Type 0
+AreBehind id ls = AllByRecursion (λ m. id <ℤ m.id) ls
 
 pub record AreSides (l : List Lease) (x : Lease) (r : List Lease) : Type 0 where
   pub left : IsAscending l
   pub right : IsAscending r
-  pub below : IsBelow x.id l
-  pub behind : IsBehind x.id r
+  pub below : AreBelow x.id l
+  pub behind : AreBehind x.id r
 
 pub sides : (l : List Lease) (x : Lease) (r : List Lease) → IsAscending (l ++ x ∷ r) → AreSides l x r
 sides [] x r h = record { left = tt; right = h.1; below = tt; behind = h.0 }
 sides (y ∷ l) x r h =
     let s = sides l x r h.1 in
-    record { left = (each_front _ l (x ∷ r) h.0, s.left); right = s.right; below = ((each_back _ l (x ∷ r) h.0).0, s.below); behind = s.behind }
+    record {
+      left = (each_front _ l (x ∷ r) h.0, s.left);
+      right = s.right;
+      below = ((each_back _ l (x ∷ r) h.0).0, s.below);
+      behind = s.behind;
+    }
 
-behind_later : (a b : ℤ) → a <ℤ b → (ls : List Lease) → IsBehind b ls → IsBehind a ls
+behind_later : (a b : ℤ) → a <ℤ b → (ls : List Lease) → AreBehind b ls → AreBehind a ls
 behind_later a b h ls k = each_implies _ _ (λ m j. omega (arith, ints)) ls k
 
-below_later : (a b : ℤ) → a <ℤ b → (ls : List Lease) → IsBelow a ls → IsBelow b ls
+below_later : (a b : ℤ) → a <ℤ b → (ls : List Lease) → AreBelow a ls → AreBelow b ls
 below_later a b h ls k = each_implies _ _ (λ m j. omega (arith, ints)) ls k
-
-pub joined : (l : List Lease) (x : Lease) (r : List Lease) → AreSides l x r → IsAscending (l ++ x ∷ r)
-joined [] x r s = (s.behind, s.right)
-joined (y ∷ l) x r s = (
-  each_append _ l (x ∷ r) s.left.0 (s.below.0, behind_later y.id x.id s.below.0 r s.behind),
-  joined l x r (record { left = s.left.1; right = s.right; below = s.below.1; behind = s.behind }),
-)
 
 -- ---- no lease has the ID
 
 abbrev pub AreOthers : ℤ → List Lease → Type 0
 AreOthers id ls = AllByRecursion (λ m. has_id id m ≡ false) ls
 
-pub others_behind : (id : ℤ) (ls : List Lease) → IsBehind id ls → AreOthers id ls
+pub others_behind : (id : ℤ) (ls : List Lease) → AreBehind id ls → AreOthers id ls
 others_behind id ls h = each_implies _ _ (λ m k. above_differs m.id id k) ls h
 
-pub others_below : (id : ℤ) (ls : List Lease) → IsBelow id ls → AreOthers id ls
+pub others_below : (id : ℤ) (ls : List Lease) → AreBelow id ls → AreOthers id ls
 others_below id ls h = each_implies _ _ (λ m k. below_differs m.id id k) ls h
 
 pub lease_at-others : (id : ℤ) (ls : List Lease) → AreOthers id ls → lease_at ls id ≡ None
@@ -112,35 +107,40 @@ or_none : {X : Type 0} (o : Option X) → option_or o None ≡ o
 or_none None = refl
 or_none (Some x) = refl
 
-pub lease_at-left : (id : ℤ) (l : List Lease) (x : Lease) (r : List Lease) → AreSides l x r → id <ℤ x.id → lease_at (l ++ x ∷ r) id ≡ lease_at l id
-lease_at-left id l x r s h =
+pub lease_at-left : (id : ℤ) {l : List Lease} {x : Lease} {r : List Lease} → AreSides l x r → id <ℤ x.id
+    → lease_at (l ++ x ∷ r) id ≡ lease_at l id
+lease_at-left id {l} {x} {r} s h =
     let none : lease_at (x ∷ r) id ≡ None = lease_at-others id (x ∷ r) (others_behind id (x ∷ r) (h, behind_later id x.id h r s.behind)) in
     find-append (has_id id) l (x ∷ r) ∙ ap (option_or (lease_at l id)) none ∙ or_none (lease_at l id)
 
-pub lease_at-right : (id : ℤ) (l : List Lease) (x : Lease) (r : List Lease) → AreSides l x r → x.id <ℤ id → lease_at (l ++ x ∷ r) id ≡ lease_at r id
-lease_at-right id l x r s h =
+pub lease_at-right : (id : ℤ) {l : List Lease} {x : Lease} {r : List Lease} → AreSides l x r → x.id <ℤ id
+    → lease_at (l ++ x ∷ r) id ≡ lease_at r id
+lease_at-right id {l} {x} {r} s h =
     let none : lease_at l id ≡ None = lease_at-others id l (others_below id l (below_later x.id id h l s.below)) in
     find-append (has_id id) l (x ∷ r) ∙ rw (none, below_differs x.id id h)
 
-pub lease_at-here : (l : List Lease) (x : Lease) (r : List Lease) → AreSides l x r → lease_at (l ++ x ∷ r) x.id ≡ Some x
-lease_at-here l x r s =
+pub lease_at-here : {l : List Lease} {x : Lease} {r : List Lease} → AreSides l x r → lease_at (l ++ x ∷ r) x.id ≡ Some x
+lease_at-here {l} {x} {r} s =
     let none : lease_at l x.id ≡ None = lease_at-others x.id l (others_below x.id l s.below) in
     find-append (has_id x.id) l (x ∷ r) ∙ rw (none, int_eq-self x.id)
 
 -- ---- a change at the sides
 
-pub without_lease-left : (id : ℤ) (l : List Lease) (x : Lease) (r : List Lease) → AreSides l x r → id <ℤ x.id → without_lease id (l ++ x ∷ r) ≡ without_lease id l ++ x ∷ r
-without_lease-left id l x r s h =
+pub without_lease-left : (id : ℤ) {l : List Lease} {x : Lease} {r : List Lease} → AreSides l x r → id <ℤ x.id
+    → without_lease id (l ++ x ∷ r) ≡ without_lease id l ++ x ∷ r
+without_lease-left id {l} {x} {r} s h =
     filter-append (λ m. not (has_id id m)) l (x ∷ r)
-    ∙ ap (λ ms. without_lease id l ++ ms) (without_lease-others id (x ∷ r) (others_behind id (x ∷ r) (h, behind_later id x.id h r s.behind)))
+    ∙ ap (λ ms. without_lease id l ++ ms)
+    (without_lease-others id (x ∷ r) (others_behind id (x ∷ r) (h, behind_later id x.id h r s.behind)))
 
-pub without_lease-right : (id : ℤ) (l : List Lease) (x : Lease) (r : List Lease) → AreSides l x r → x.id <ℤ id → without_lease id (l ++ x ∷ r) ≡ l ++ x ∷ without_lease id r
-without_lease-right id l x r s h =
+pub without_lease-right : (id : ℤ) {l : List Lease} {x : Lease} {r : List Lease} → AreSides l x r → x.id <ℤ id
+    → without_lease id (l ++ x ∷ r) ≡ l ++ x ∷ without_lease id r
+without_lease-right id {l} {x} {r} s h =
     filter-append (λ m. not (has_id id m)) l (x ∷ r)
     ∙ rw (without_lease-others id l (others_below id l (below_later x.id id h l s.below)), below_differs x.id id h)
 
-pub without_lease-here : (l : List Lease) (x : Lease) (r : List Lease) → AreSides l x r → without_lease x.id (l ++ x ∷ r) ≡ l ++ r
-without_lease-here l x r s =
+pub without_lease-here : {l : List Lease} {x : Lease} {r : List Lease} → AreSides l x r → without_lease x.id (l ++ x ∷ r) ≡ l ++ r
+without_lease-here {l} {x} {r} s =
     filter-append (λ m. not (has_id x.id m)) l (x ∷ r)
     ∙ rw (without_lease-others x.id l (others_below x.id l s.below), int_eq-self x.id)
     (ap (λ ms. l ++ ms) (without_lease-others x.id r (others_behind x.id r s.behind)))
@@ -149,31 +149,38 @@ map_append : {X Y : Type 0} (f : X → Y) (xs ys : List X) → map f (xs ++ ys) 
 map_append f [] ys = refl
 map_append f (x ∷ xs) ys = ap (λ zs. f x ∷ zs) (map_append f xs ys)
 
-pub renewed-left : (clock : ℕ) (id : ℤ) (l : List Lease) (x : Lease) (r : List Lease) → AreSides l x r → id <ℤ x.id → map (renewed clock id) (l ++ x ∷ r) ≡ map (renewed clock id) l ++ x ∷ r
-renewed-left clock id l x r s h =
+pub renewed-left : (clock : ℕ) (id : ℤ) {l : List Lease} {x : Lease} {r : List Lease} → AreSides l x r → id <ℤ x.id
+    → map (renewed clock id) (l ++ x ∷ r) ≡ map (renewed clock id) l ++ x ∷ r
+renewed-left clock id {l} {x} {r} s h =
     map_append (renewed clock id) l (x ∷ r)
-    ∙ ap (λ ms. map (renewed clock id) l ++ ms) (renewed-others clock id (x ∷ r) (others_behind id (x ∷ r) (h, behind_later id x.id h r s.behind)))
+    ∙ ap (λ ms. map (renewed clock id) l ++ ms)
+    (renewed-others clock id (x ∷ r) (others_behind id (x ∷ r) (h, behind_later id x.id h r s.behind)))
 
-pub renewed-right : (clock : ℕ) (id : ℤ) (l : List Lease) (x : Lease) (r : List Lease) → AreSides l x r → x.id <ℤ id → map (renewed clock id) (l ++ x ∷ r) ≡ l ++ x ∷ map (renewed clock id) r
-renewed-right clock id l x r s h =
+pub renewed-right : (clock : ℕ) (id : ℤ) {l : List Lease} {x : Lease} {r : List Lease} → AreSides l x r → x.id <ℤ id
+    → map (renewed clock id) (l ++ x ∷ r) ≡ l ++ x ∷ map (renewed clock id) r
+renewed-right clock id {l} {x} {r} s h =
     map_append (renewed clock id) l (x ∷ r)
     ∙ rw (renewed-others clock id l (others_below id l (below_later x.id id h l s.below)), below_differs x.id id h)
 
-pub renewed-here : (clock : ℕ) (l : List Lease) (x : Lease) (r : List Lease) → AreSides l x r → map (renewed clock x.id) (l ++ x ∷ r) ≡ l ++ renewed clock x.id x ∷ r
-renewed-here clock l x r s =
+pub renewed-here : (clock : ℕ) {l : List Lease} {x : Lease} {r : List Lease} → AreSides l x r
+    → map (renewed clock x.id) (l ++ x ∷ r) ≡ l ++ renewed clock x.id x ∷ r
+renewed-here clock {l} {x} {r} s =
     map_append (renewed clock x.id) l (x ∷ r)
     ∙ rw (renewed-others clock x.id l (others_below x.id l s.below))
     (ap (λ ms. l ++ renewed clock x.id x ∷ ms) (renewed-others clock x.id r (others_behind x.id r s.behind)))
 
-pub insert_lease-left : (y : Lease) (l : List Lease) (x : Lease) (r : List Lease) → y.id <ℤ x.id → insert_lease y (l ++ x ∷ r) ≡ insert_lease y l ++ x ∷ r
+pub insert_lease-left : (y : Lease) (l : List Lease) (x : Lease) (r : List Lease) → y.id <ℤ x.id
+    → insert_lease y (l ++ x ∷ r) ≡ insert_lease y l ++ x ∷ r
 insert_lease-left y [] x r h = rw (int_lt-true y.id x.id h)
 insert_lease-left y (m ∷ l) x r h = insert_into y m l (x ∷ r) (int_lt y.id m.id) (insert_lease-left y l x r h)
   where
-    insert_into : (y m : Lease) (l r : List Lease) (b : Bool) → insert_lease y (l ++ r) ≡ insert_lease y l ++ r → cond b (y ∷ m ∷ (l ++ r)) (m ∷ insert_lease y (l ++ r)) ≡ cond b (y ∷ m ∷ l) (m ∷ insert_lease y l) ++ r
+    insert_into : (y m : Lease) (l r : List Lease) (b : Bool) → insert_lease y (l ++ r) ≡ insert_lease y l ++ r
+        → cond b (y ∷ m ∷ (l ++ r)) (m ∷ insert_lease y (l ++ r)) ≡ cond b (y ∷ m ∷ l) (m ∷ insert_lease y l) ++ r
     insert_into y m l r true e = refl
     insert_into y m l r false e = ap (λ ms. m ∷ ms) e
 
-pub insert_lease-right : (y : Lease) (l : List Lease) (x : Lease) (r : List Lease) → IsBelow x.id l → x.id ≤ℤ y.id → insert_lease y (l ++ x ∷ r) ≡ l ++ x ∷ insert_lease y r
+pub insert_lease-right : (y : Lease) (l : List Lease) (x : Lease) (r : List Lease) → AreBelow x.id l → x.id ≤ℤ y.id
+    → insert_lease y (l ++ x ∷ r) ≡ l ++ x ∷ insert_lease y r
 insert_lease-right y [] x r b h = rw (int_lt-false y.id x.id h)
 insert_lease-right y (m ∷ l) x r b h =
     let below : m.id ≤ℤ y.id = let k = b.0 in omega (arith, ints) in
@@ -183,17 +190,18 @@ insert_lease-right y (m ∷ l) x r b h =
 
 pub each_inserted : (P : Lease → Type 0) (y : Lease) (ls : List Lease) → P y → AllByRecursion P ls → AllByRecursion P (insert_lease y ls)
 each_inserted P y [] p h = (p, tt)
-each_inserted P y (m ∷ ls) p h = each_put P y m ls (int_lt y.id m.id) p h (each_inserted P y ls p h.1)
+each_inserted P y (m ∷ ls) p h = each_put (int_lt y.id m.id) (each_inserted P y ls p h.1)
   where
-    each_put : (P : Lease → Type 0) (y m : Lease) (ls : List Lease) (b : Bool) → P y → AllByRecursion P (m ∷ ls) → AllByRecursion P (insert_lease y ls) → AllByRecursion P (cond b (y ∷ m ∷ ls) (m ∷ insert_lease y ls))
-    each_put P y m ls true p h k = (p, h)
-    each_put P y m ls false p h k = (h.0, k)
+    each_put : (b : Bool) → AllByRecursion P (insert_lease y ls) → AllByRecursion P (cond b (y ∷ m ∷ ls) (m ∷ insert_lease y ls))
+    each_put true k = (p, h)
+    each_put false k = (h.0, k)
 
 pub length-insert_lease : (y : Lease) (ls : List Lease) → length (insert_lease y ls) ≡ suc (length ls)
 length-insert_lease y [] = refl
 length-insert_lease y (m ∷ ls) = counted (int_lt y.id m.id) (length-insert_lease y ls)
   where
-    counted : (b : Bool) → length (insert_lease y ls) ≡ suc (length ls) → length (cond b (y ∷ m ∷ ls) (m ∷ insert_lease y ls)) ≡ suc (suc (length ls))
+    counted : (b : Bool) → length (insert_lease y ls) ≡ suc (length ls)
+        → length (cond b (y ∷ m ∷ ls) (m ∷ insert_lease y ls)) ≡ suc (suc (length ls))
     counted true e = refl
     counted false e = ap suc e
 
@@ -207,13 +215,15 @@ ascending_back (x ∷ xs) ys h = ascending_back xs ys h.1
 
 -- ---- a side that is itself a lease between two sides
 
--- in l ++ x ∷ (b ++ m ∷ c)
-pub inner_left : (l : List Lease) (x : Lease) (b : List Lease) (m : Lease) (c : List Lease) → IsAscending (l ++ x ∷ (b ++ m ∷ c)) → IsAscending (l ++ x ∷ b)
-inner_left l x b m c h = ascending_front (l ++ x ∷ b) (m ∷ c) (rw (append_assoc l (x ∷ b) (m ∷ c)) h)
+-- the right side r has the sides b and c
+pub near_left : (l : List Lease) (x : Lease) {r : List Lease} (b : List Lease) (m : Lease) (c : List Lease) → r ≡ b ++ m ∷ c
+    → IsAscending (l ++ x ∷ r) → IsAscending (l ++ x ∷ b)
+near_left l x {r} b m c is h = ascending_front (l ++ x ∷ b) (m ∷ c) (rw (append_assoc l (x ∷ b) (m ∷ c)) (rw is at h))
 
--- in (b ++ m ∷ c) ++ x ∷ r
-pub inner_right : (b : List Lease) (m : Lease) (c : List Lease) (x : Lease) (r : List Lease) → IsAscending ((b ++ m ∷ c) ++ x ∷ r) → IsAscending (c ++ x ∷ r)
-inner_right b m c x r h = (ascending_back b (m ∷ (c ++ x ∷ r)) (rw (← (append_assoc b (m ∷ c) (x ∷ r))) h)).1
+-- the left side l has the sides b and c
+pub near_right : {l : List Lease} (b : List Lease) (m : Lease) (c : List Lease) (x : Lease) (r : List Lease) → l ≡ b ++ m ∷ c
+    → IsAscending (l ++ x ∷ r) → IsAscending (c ++ x ∷ r)
+near_right {l} b m c x r is h = (ascending_back b (m ∷ (c ++ x ∷ r)) (rw (← (append_assoc b (m ∷ c) (x ∷ r))) (rw is at h))).1
 
 -- ---- whether an ID is granted
 
@@ -232,11 +242,13 @@ is_some_mapped f (Some x) = refl
 pub is_some-lease_at : (ls : List Lease) (id : ℤ) → is_some (lease_at ls id) ≡ is_granted ls id
 is_some-lease_at ls id = is_some-find (has_id id) ls
 
-pub is_granted-left : (id : ℤ) (l : List Lease) (x : Lease) (r : List Lease) → AreSides l x r → id <ℤ x.id → is_granted (l ++ x ∷ r) id ≡ is_granted l id
-is_granted-left id l x r s h = sym (is_some-lease_at (l ++ x ∷ r) id) ∙ ap is_some (lease_at-left id l x r s h) ∙ is_some-lease_at l id
+pub is_granted-left : (id : ℤ) {l : List Lease} {x : Lease} {r : List Lease} → AreSides l x r → id <ℤ x.id
+    → is_granted (l ++ x ∷ r) id ≡ is_granted l id
+is_granted-left id {l} {x} {r} s h = sym (is_some-lease_at (l ++ x ∷ r) id) ∙ ap is_some (lease_at-left id s h) ∙ is_some-lease_at l id
 
-pub is_granted-right : (id : ℤ) (l : List Lease) (x : Lease) (r : List Lease) → AreSides l x r → x.id <ℤ id → is_granted (l ++ x ∷ r) id ≡ is_granted r id
-is_granted-right id l x r s h = sym (is_some-lease_at (l ++ x ∷ r) id) ∙ ap is_some (lease_at-right id l x r s h) ∙ is_some-lease_at r id
+pub is_granted-right : (id : ℤ) {l : List Lease} {x : Lease} {r : List Lease} → AreSides l x r → x.id <ℤ id
+    → is_granted (l ++ x ∷ r) id ≡ is_granted r id
+is_granted-right id {l} {x} {r} s h = sym (is_some-lease_at (l ++ x ∷ r) id) ∙ ap is_some (lease_at-right id s h) ∙ is_some-lease_at r id
 
-pub is_granted-here : (l : List Lease) (x : Lease) (r : List Lease) → AreSides l x r → is_granted (l ++ x ∷ r) x.id ≡ true
-is_granted-here l x r s = sym (is_some-lease_at (l ++ x ∷ r) x.id) ∙ ap is_some (lease_at-here l x r s)
+pub is_granted-here : {l : List Lease} {x : Lease} {r : List Lease} → AreSides l x r → is_granted (l ++ x ∷ r) x.id ≡ true
+is_granted-here {l} {x} {r} s = sym (is_some-lease_at (l ++ x ∷ r) x.id) ∙ ap is_some (lease_at-here s)

@@ -1,10 +1,10 @@
 -- Counts, and the earliest lease, of two lists together.
-use Rattle.std.proofs.Common.{◌≡◌, ◌⊎◌, inl, inr, ℕ, ◌+◌, ◌<◌, ◌≤◌, ℤ, pos, ◌<ℤ◌, ◌≤ℤ◌, Bool, true, false, cond, ◌||◌, ◌&&◌, eqb, ltb, List, [], ◌∷◌, ◌++◌, length, refl, sym, ap, ◌∙◌, Option, None, Some, arith, length-append, eq-eqb}
+use Rattle.std.proofs.Common.{◌≡◌, ◌⊎◌, inl, inr, ℕ, ◌+◌, ◌<◌, ◌≤◌, ℤ, pos, ◌<ℤ◌, ◌≤ℤ◌, Bool, true, false, true≢false, cond, ◌||◌, ◌&&◌}
+use Rattle.std.proofs.Common.{eqb, ltb, List, [], ◌∷◌, ◌++◌, length, refl, sym, ap, ◌∙◌, Option, None, Some, arith, length-append, eq-eqb}
 use Rattle.std.specs.Prelude.{int_lt}
-use Rattle.std.proofs.lemmas.Int.{ints}
+use Rattle.std.proofs.lemmas.Int.{ints, by_lt_z}
 use Rattle.lease_book.proofs.Order.{int_lt-true, int_lt-false}
-use Rattle.std.proofs.lemmas.Bool.{lt-ltb, le-ltb, ne_eqb}
-use Rattle.std.proofs.lemmas.Bool.Decides.{nat_tests}
+use Rattle.std.proofs.lemmas.Bool.{cases_lt, lt-ltb, le-ltb, ne_eqb}
 use Rattle.kv_model.specs.Leases.{Lease, sooner}
 use Rattle.lease_book.specs.Entries.{positives, earliest, first_of}
 
@@ -23,50 +23,61 @@ positives_few (l ∷ ls) = counted (int_lt (pos 0) l.id) (positives_few ls)
     counted true h = omega arith
     counted false h = omega arith
 
--- ---- the order of expiry: a deadline d or e, and an ID a or b
+-- ---- the order of expiry
 
-abbrev is_sooner : ℕ → ℤ → ℕ → ℤ → Bool
-is_sooner d a e b = ltb d e || (eqb d e && int_lt a b)
+abbrev pub is_sooner : Lease → Lease → Bool
+is_sooner l m = ltb l.deadline m.deadline || (eqb l.deadline m.deadline && int_lt l.id m.id)
 
-sooner_yes : (d : ℕ) (a : ℤ) (e : ℕ) (b : ℤ) → is_sooner d a e b ≡ true → (d < e) ⊎ ((d ≡ e) × (a <ℤ b))
-sooner_yes d a e b h = yes_cases d a e b (ltb d e) (eqb d e) (int_lt a b) refl refl refl h
+abbrev IsSooner : Lease → Lease → Type 0
+IsSooner l m = (l.deadline < m.deadline) ⊎ ((l.deadline ≡ m.deadline) × (l.id <ℤ m.id))
+
+abbrev IsLater : Lease → Lease → Type 0
+IsLater l m = (m.deadline < l.deadline) ⊎ ((l.deadline ≡ m.deadline) × (m.id ≤ℤ l.id))
+
+in_order : (l m : Lease) → IsSooner l m ⊎ IsLater l m
+in_order l m = by_deadline (cases_lt l.deadline m.deadline) (cases_lt m.deadline l.deadline)
   where
-    yes_cases : (d : ℕ) (a : ℤ) (e : ℕ) (b : ℤ) (p q r : Bool) → p ≡ ltb d e → q ≡ eqb d e → r ≡ int_lt a b → p || (q && r) ≡ true → (d < e) ⊎ ((d ≡ e) × (a <ℤ b))
-    yes_cases d a e b true q r ep eq er h = inl (grind (arith, nat_tests))
-    yes_cases d a e b false true true ep eq er h = inr (grind (arith, nat_tests), omega (arith, ints, sym er))
-    yes_cases d a e b false true false ep eq er h = absurd (cc h)
-    yes_cases d a e b false false r ep eq er h = absurd (cc h)
+    by_deadline : (l.deadline < m.deadline) ⊎ (m.deadline ≤ l.deadline) → (m.deadline < l.deadline) ⊎ (l.deadline ≤ m.deadline)
+        → IsSooner l m ⊎ IsLater l m
+    by_deadline (inl h) k = inl (inl h)
+    by_deadline (inr h) (inl k) = inr (inl k)
+    by_deadline (inr h) (inr k) = by_lt_z l.id m.id (λ i. inl (inr (omega arith, i))) (λ i. inr (inr (omega arith, i)))
 
-sooner_no : (d : ℕ) (a : ℤ) (e : ℕ) (b : ℤ) → is_sooner d a e b ≡ false → (e < d) ⊎ ((d ≡ e) × (b ≤ℤ a))
-sooner_no d a e b h = no_cases d a e b (ltb d e) (eqb d e) (int_lt a b) refl refl refl h
+yes_sooner : (l m : Lease) → IsSooner l m → is_sooner l m ≡ true
+yes_sooner l m (inl h) = rw (lt-ltb l.deadline m.deadline h)
+yes_sooner l m (inr h) = rw (le-ltb l.deadline m.deadline (omega arith), eq-eqb l.deadline m.deadline h.0, int_lt-true l.id m.id h.1)
+
+no_sooner : (l m : Lease) → IsLater l m → is_sooner l m ≡ false
+no_sooner l m (inl h) = rw (le-ltb l.deadline m.deadline (omega arith), ne_eqb l.deadline m.deadline (omega arith))
+no_sooner l m (inr h) = rw (le-ltb l.deadline m.deadline (omega arith), eq-eqb l.deadline m.deadline h.0, int_lt-false l.id m.id h.1)
+
+sooner_yes : (l m : Lease) → is_sooner l m ≡ true → IsSooner l m
+sooner_yes l m h = from (in_order l m)
   where
-    no_cases : (d : ℕ) (a : ℤ) (e : ℕ) (b : ℤ) (p q r : Bool) → p ≡ ltb d e → q ≡ eqb d e → r ≡ int_lt a b → p || (q && r) ≡ false → (e < d) ⊎ ((d ≡ e) × (b ≤ℤ a))
-    no_cases d a e b true q r ep eq er h = absurd (cc h)
-    no_cases d a e b false true true ep eq er h = absurd (cc h)
-    no_cases d a e b false true false ep eq er h = inr (grind (arith, nat_tests), omega (arith, ints, sym er))
-    no_cases d a e b false false r ep eq er h = inl (grind (arith, nat_tests))
+    from : IsSooner l m ⊎ IsLater l m → IsSooner l m
+    from (inl k) = k
+    from (inr k) = absurd (true≢false (sym h ∙ no_sooner l m k))
 
-yes_sooner : (d : ℕ) (a : ℤ) (e : ℕ) (b : ℤ) → (d < e) ⊎ ((d ≡ e) × (a <ℤ b)) → is_sooner d a e b ≡ true
-yes_sooner d a e b (inl h) = rw (lt-ltb d e h)
-yes_sooner d a e b (inr h) = rw (le-ltb d e (omega arith), eq-eqb d e h.0, int_lt-true a b h.1)
-
-no_sooner : (d : ℕ) (a : ℤ) (e : ℕ) (b : ℤ) → (e < d) ⊎ ((d ≡ e) × (b ≤ℤ a)) → is_sooner d a e b ≡ false
-no_sooner d a e b (inl h) = rw (le-ltb d e (omega arith), ne_eqb d e (omega arith))
-no_sooner d a e b (inr h) = rw (le-ltb d e (omega arith), eq-eqb d e h.0, int_lt-false a b h.1)
-
-sooner_trans : (d : ℕ) (a : ℤ) (e : ℕ) (b : ℤ) (f : ℕ) (c : ℤ) → is_sooner d a e b ≡ true → is_sooner e b f c ≡ true → is_sooner d a f c ≡ true
-sooner_trans d a e b f c h k = yes_sooner d a f c (chain (sooner_yes d a e b h) (sooner_yes e b f c k))
+sooner_no : (l m : Lease) → is_sooner l m ≡ false → IsLater l m
+sooner_no l m h = from (in_order l m)
   where
-    chain : (d < e) ⊎ ((d ≡ e) × (a <ℤ b)) → (e < f) ⊎ ((e ≡ f) × (b <ℤ c)) → (d < f) ⊎ ((d ≡ f) × (a <ℤ c))
+    from : IsSooner l m ⊎ IsLater l m → IsLater l m
+    from (inl k) = absurd (true≢false (sym (yes_sooner l m k) ∙ h))
+    from (inr k) = k
+
+sooner_trans : (l m n : Lease) → is_sooner l m ≡ true → is_sooner m n ≡ true → is_sooner l n ≡ true
+sooner_trans l m n h k = yes_sooner l n (chain (sooner_yes l m h) (sooner_yes m n k))
+  where
+    chain : IsSooner l m → IsSooner m n → IsSooner l n
     chain (inl h) (inl k) = inl (omega arith)
     chain (inl h) (inr k) = inl (omega arith)
     chain (inr h) (inl k) = inl (omega arith)
     chain (inr h) (inr k) = inr (omega arith, omega (arith, ints))
 
-later_trans : (d : ℕ) (a : ℤ) (e : ℕ) (b : ℤ) (f : ℕ) (c : ℤ) → is_sooner d a e b ≡ false → is_sooner e b f c ≡ false → is_sooner d a f c ≡ false
-later_trans d a e b f c h k = no_sooner d a f c (chain (sooner_no d a e b h) (sooner_no e b f c k))
+later_trans : (l m n : Lease) → is_sooner l m ≡ false → is_sooner m n ≡ false → is_sooner l n ≡ false
+later_trans l m n h k = no_sooner l n (chain (sooner_no l m h) (sooner_no m n k))
   where
-    chain : (e < d) ⊎ ((d ≡ e) × (b ≤ℤ a)) → (f < e) ⊎ ((e ≡ f) × (c ≤ℤ b)) → (f < d) ⊎ ((d ≡ f) × (c ≤ℤ a))
+    chain : IsLater l m → IsLater m n → IsLater l n
     chain (inl h) (inl k) = inl (omega arith)
     chain (inl h) (inr k) = inl (omega arith)
     chain (inr h) (inl k) = inl (omega arith)
@@ -76,18 +87,17 @@ chosen : (l m : Lease) (b : Bool) → cond b (Some l) (Some m) ≡ first_of (con
 chosen l m true = refl
 chosen l m false = refl
 
-three : (l m n : Lease) (p q r : Bool)
-    → p ≡ is_sooner m.deadline m.id n.deadline n.id → q ≡ is_sooner l.deadline l.id m.deadline m.id → r ≡ is_sooner l.deadline l.id n.deadline n.id
-    → sooner l (cond p (Some m) (Some n)) ≡ first_of (cond q (Some l) (Some m)) (Some n)
-three l m n true true r ep eq er = rw (← eq, sooner_trans l.deadline l.id m.deadline m.id n.deadline n.id (sym eq) (sym ep))
-three l m n true false r ep eq er = rw (← eq, ← ep)
-three l m n false true r ep eq er = refl
-three l m n false false r ep eq er = rw (later_trans l.deadline l.id m.deadline m.id n.deadline n.id (sym eq) (sym ep), ← ep)
-
 sooner-first_of : (l : Lease) (o p : Option Lease) → sooner l (first_of o p) ≡ first_of (sooner l o) p
 sooner-first_of l None p = refl
-sooner-first_of l (Some m) None = chosen l m (is_sooner l.deadline l.id m.deadline m.id)
-sooner-first_of l (Some m) (Some n) = three l m n _ _ _ refl refl refl
+sooner-first_of l (Some m) None = chosen l m (is_sooner l m)
+sooner-first_of l (Some m) (Some n) = three (is_sooner m n) (is_sooner l m) refl refl
+  where
+    three : (p q : Bool) → p ≡ is_sooner m n → q ≡ is_sooner l m
+        → sooner l (cond p (Some m) (Some n)) ≡ first_of (cond q (Some l) (Some m)) (Some n)
+    three true true ep eq = rw (← eq, sooner_trans l m n (sym eq) (sym ep))
+    three true false ep eq = rw (← eq, ← ep)
+    three false true ep eq = refl
+    three false false ep eq = rw (later_trans l m n (sym eq) (sym ep), ← ep)
 
 pub earliest-append : (xs ys : List Lease) → earliest (xs ++ ys) ≡ first_of (earliest xs) (earliest ys)
 earliest-append [] ys = refl

@@ -19,4 +19,5 @@ abbrev pub refusal_of : Book → ℤ → ℤ → Option Refusal
 refusal_of b ttl id = grant_refusal (in_world b opening) ttl id
 
 abbrev pub lease_asked : Book → ℤ → ℤ → Lease
-lease_asked b ttl id = record { id = id_asked b.leases id; ttl = ttl_asked ttl; deadline = deadline_of b.clock (ttl_asked ttl) }
+lease_asked b ttl id =
+    record { id = id_asked b.leases id; ttl = ttl_asked ttl; deadline = deadline_of b.clock (ttl_asked ttl) }

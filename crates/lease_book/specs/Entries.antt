@@ -1,5 +1,6 @@
 -- A lease as the book keeps it, and facts about lists of leases.
-use Rattle.std.specs.Prelude.{◌≡◌, ℕ, suc, ◌+◌, pos, ◌<ℤ◌, int_lt, List, [], ◌∷◌, length, Option, None, Some, if◌then◌else◌}
+use Rattle.std.specs.Prelude.{◌≡◌, ℕ, suc, ◌+◌, pos, ◌<ℤ◌, int_lt, List, []}
+use Rattle.std.specs.Prelude.{◌∷◌, length, Option, None, Some, if◌then◌else◌}
 use Rattle.std.specs.List.{AllByRecursion}
 use Rattle.std.specs.Ordering.{int_eq}
 use Rattle.lease_book.specs.declared.entry.Entry.{Entry}
@@ -40,5 +41,5 @@ gap n [] = n
 gap n (l ∷ ls) = gap (if int_eq l.id (pos n) then suc n else n) ls
 
 -- each ID above 0 is above n
-abbrev pub IsAbove : ℕ → List Lease → Type 0
-IsAbove n ls = AllByRecursion (λ l. pos 0 <ℤ l.id → pos n <ℤ l.id) ls
+abbrev pub PositivesAbove : ℕ → List Lease → Type 0
+PositivesAbove n ls = AllByRecursion (λ l. pos 0 <ℤ l.id → pos n <ℤ l.id) ls

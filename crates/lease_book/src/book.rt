@@ -1,7 +1,10 @@
-//! The leases that are granted, and the clock (etcd: LeaseGrant, LeaseRevoke, LeaseKeepAlive, LeaseTimeToLive).
-ghost use Rattle.std.specs.Prelude.{◌≡◌, ◌⊎◌, ◌^◌, ◌<◌, false, [], length, map, max, min, is_ok, option_map, IfOk, IfErr, OnOk, OnErr, Some, None};
+//! The leases that are granted, and the clock (etcd: LeaseGrant, LeaseRevoke, LeaseKeepAlive,
+//! LeaseTimeToLive).
+ghost use Rattle.std.specs.Prelude.{◌≡◌, ◌⊎◌, ◌^◌, ◌<◌, false, [], length, map, max, min};
+ghost use Rattle.std.specs.Prelude.{is_ok, option_map, IfOk, IfErr, OnOk, OnErr, Some, None};
 ghost use Rattle.kv_model.specs.declared.refusal.Refusal.TheVariants.{Memory, LeaseMissing};
-ghost use Rattle.kv_model.specs.Leases.{is_granted, lease_at, insert_lease, without_lease, renewed, seconds_left, due, id_asked, ttl_asked, most_leases};
+ghost use Rattle.kv_model.specs.Leases.{is_granted, lease_at, insert_lease, without_lease, renewed};
+ghost use Rattle.kv_model.specs.Leases.{seconds_left, due, id_asked, ttl_asked, most_leases};
 ghost use Rattle.lease_book.specs.Book.{refusal_of, lease_asked};
 
 use crate::entry::Entry;
@@ -38,9 +41,10 @@ pub struct TimeLeft {
 
 /// The granted leases, ascending by ID, and a clock in milliseconds that only goes forward.
 ///
-/// The leases stand in a search tree by ID that is balanced by weight. Each node also knows of the leases below it how
-/// many there are, how many have an ID above 0, and which expires first: so one path from the root answers which ID is
-/// free, and the root itself which lease is due. A grant takes one node; nothing else takes memory.
+/// The leases stand in a search tree by ID that is balanced by weight. Each node also knows of the
+/// leases below it how many there are, how many have an ID above 0, and which expires first: so one
+/// path from the root answers which ID is free, and the root itself which lease is due. A grant
+/// takes one node; nothing else takes memory.
 #[derive(Drop)]
 pub struct LeaseBook {
     leases: Tree,
@@ -71,17 +75,22 @@ impl LeaseBook {
         }
     }
 
-    /// Hands in the present moment, in milliseconds, and answers the clock: the greatest moment so far. An earlier one
-    /// changes nothing, and one above 2^62 counts as 2^62. Takes no memory. Constant time.
+    /// Hands in the present moment, in milliseconds, and answers the clock: the greatest moment so
+    /// far. An earlier one changes nothing, and one above 2^62 counts as 2^62. Takes no memory.
+    /// Constant time.
     pub fn moment(&mut self, now: u64) -> u64
-        ensures clock { self.new ≡ record self.old { clock = max self.old.clock (min now (2 ^ 62)) } }
+        ensures clock { self.new ≡ record self.old {
+          clock = max self.old.clock
+              (min now (2 ^ 62));
+        } }
         ensures answer { result ≡ self.new.clock }
     {
         self.clock = self.clock.max(now.min(LAST_MOMENT));
         self.clock
     }
 
-    /// The clock, in milliseconds: the greatest moment so far, at first 0. Takes no memory. Constant time.
+    /// The clock, in milliseconds: the greatest moment so far, at first 0. Takes no memory.
+    /// Constant time.
     pub fn clock(&self) -> u64
         ensures { result ≡ self.now.clock }
     {
@@ -95,16 +104,23 @@ impl LeaseBook {
         self.leases.get(id).is_some()
     }
 
-    /// Grants a lease of `ttl` seconds, where less than 1 counts as 1, under `id`, where 0 asks for the least ID above 0
-    /// that is not in use. Its deadline is the clock and the time to live. Logarithmic time (etcd: LeaseGrant).
+    /// Grants a lease of `ttl` seconds, where less than 1 counts as 1, under `id`, where 0 asks for
+    /// the least ID above 0 that is not in use. Its deadline is the clock and the time to live.
+    /// Logarithmic time (etcd: LeaseGrant).
     ///
-    /// The refusals, in this order: `TtlTooLarge` above 9,000,000,000 seconds, `LeaseExists` for an ID in use,
-    /// `TooManyLeases` where 65,536 are granted, `Memory`. A refusal changes nothing.
+    /// The refusals, in this order: `TtlTooLarge` above 9,000,000,000 seconds, `LeaseExists` for an
+    /// ID in use, `TooManyLeases` where 65,536 are granted, `Memory`. A refusal changes nothing.
     pub fn grant(&mut self, ttl: i64, id: i64) -> Result<Granted, Refusal>
         ensures allowed { OnOk result (refusal_of self.old ttl id ≡ None) }
-        ensures answer { IfOk result (λ g. g ≡ record { id = id_asked self.old.leases id; ttl = ttl_asked ttl }) }
-        ensures granted { OnOk result (self.new ≡ record self.old { leases = insert_lease (lease_asked self.old ttl id) self.old.leases }) }
-        ensures refused { IfErr result (λ e. (refusal_of self.old ttl id ≡ Some e) ⊎ ((refusal_of self.old ttl id ≡ None) × (e ≡ Memory))) }
+        ensures answer { IfOk result (λ g. g
+            ≡ record { id = id_asked self.old.leases id; ttl = ttl_asked ttl }) }
+        ensures granted { OnOk result
+            (self.new ≡ record self.old {
+              leases = insert_lease
+                  (lease_asked self.old ttl id) self.old.leases;
+            }) }
+        ensures refused { IfErr result (λ e. (refusal_of self.old ttl id ≡ Some e)
+            ⊎ ((refusal_of self.old ttl id ≡ None) × (e ≡ Memory))) }
         ensures unchanged { OnErr result (self.new ≡ self.old) }
     {
         let ttl = at_least_one(ttl);
@@ -129,7 +145,8 @@ impl LeaseBook {
     fn id_for(&self, id: i64) -> i64
         requires { length self.now.leases < most_leases }
         ensures asked { result ≡ id_asked self.now.leases id }
-        ensures free { is_granted self.now.leases id ≡ false → is_granted self.now.leases result ≡ false }
+        ensures free { is_granted self.now.leases id ≡ false
+            → is_granted self.now.leases result ≡ false }
     {
         if id == 0 {
             i64::from(self.leases.least_free())
@@ -138,8 +155,8 @@ impl LeaseBook {
         }
     }
 
-    /// Takes a lease out. `LeaseMissing` comes where no lease has the ID, and then nothing has changed. Takes no memory.
-    /// Logarithmic time (etcd: LeaseRevoke).
+    /// Takes a lease out. `LeaseMissing` comes where no lease has the ID, and then nothing has
+    /// changed. Takes no memory. Logarithmic time (etcd: LeaseRevoke).
     pub fn revoke(&mut self, id: i64) -> Result<(), Refusal>
         ensures found { is_ok result ≡ is_granted self.old.leases id }
         ensures missing { IfErr result (λ e. e ≡ LeaseMissing) }
@@ -152,20 +169,26 @@ impl LeaseBook {
         }
     }
 
-    /// Sets the deadline of a lease anew, from the clock on, and answers its time to live in seconds, or `None` where no
-    /// lease has the ID. It may be past its deadline. Takes no memory. Logarithmic time (etcd: LeaseKeepAlive).
+    /// Sets the deadline of a lease anew, from the clock on, and answers its time to live in
+    /// seconds, or `None` where no lease has the ID. It may be past its deadline. Takes no memory.
+    /// Logarithmic time (etcd: LeaseKeepAlive).
     pub fn keep_alive(&mut self, id: i64) -> Option<u64>
         ensures ttl { result ≡ option_map (λ l. l.ttl) (lease_at self.old.leases id) }
-        ensures leases { self.new ≡ record self.old { leases = map (renewed self.old.clock id) self.old.leases } }
+        ensures leases { self.new ≡ record self.old {
+          leases = map
+              (renewed self.old.clock id) self.old.leases;
+        } }
     {
         let clock = self.clock;
         self.leases.renew(id, clock)
     }
 
-    /// How long a lease still has, or `None` where no lease has the ID. Takes no memory. Logarithmic time (etcd:
-    /// LeaseTimeToLive).
+    /// How long a lease still has, or `None` where no lease has the ID. Takes no memory.
+    /// Logarithmic time (etcd: LeaseTimeToLive).
     pub fn time_left(&self, id: i64) -> Option<TimeLeft>
-        ensures { result ≡ option_map (λ l. record { seconds = seconds_left self.now.clock l; granted = l.ttl }) (lease_at self.now.leases id) }
+        ensures { result ≡ option_map
+            (λ l. record { seconds = seconds_left self.now.clock l; granted = l.ttl })
+            (lease_at self.now.leases id) }
     {
         match self.leases.get(id) {
             None => None,
@@ -176,8 +199,8 @@ impl LeaseBook {
         }
     }
 
-    /// The ID of the lease that expires first, the least one among equal deadlines, where its deadline is not after the
-    /// clock. Takes no memory. Constant time.
+    /// The ID of the lease that expires first, the least one among equal deadlines, where its
+    /// deadline is not after the clock. Takes no memory. Constant time.
     pub fn due(&self) -> Option<i64>
         ensures { result ≡ option_map (λ l. l.id) (due self.now.clock self.now.leases) }
     {

@@ -1,7 +1,8 @@
 //! A lease as the book keeps it.
 ghost use Rattle.std.specs.Prelude.{◌≤◌};
 
-/// A granted lease: its ID, its time to live in seconds, and its deadline in milliseconds of the clock.
+/// A granted lease: its ID, its time to live in seconds, and its deadline in milliseconds of the
+/// clock.
 #[derive(Clone, Copy, Debug)]
 pub struct Entry {
     pub id: i64,
@@ -11,11 +12,13 @@ pub struct Entry {
 }
 
 impl Entry {
-    ghost use Rattle.std.specs.Prelude.{◌≡◌, ◌≤◌, ◌^◌, pos, int_lt, if◌then◌else◌, Some, option_map};
+    ghost use Rattle.std.specs.Prelude.{◌≡◌, ◌≤◌, ◌^◌, pos, int_lt};
+    ghost use Rattle.std.specs.Prelude.{if◌then◌else◌, Some, option_map};
     ghost use Rattle.kv_model.specs.Leases.{sooner, renewed, deadline_of};
     ghost use Rattle.lease_book.specs.Entries.{lease_of, first_of};
 
-    /// The one of two leases that expires first: the earlier deadline, and the lesser ID among equal ones.
+    /// The one of two leases that expires first: the earlier deadline, and the lesser ID among
+    /// equal ones.
     pub fn sooner(self, other: Option<Entry>) -> Entry
         ensures { Some (lease_of result) ≡ sooner (lease_of self) (option_map lease_of other) }
     {
@@ -35,7 +38,8 @@ impl Entry {
 
     /// The one of two leases that expires first, where this one stands behind the other.
     pub fn sooner_behind(self, first: Option<Entry>) -> Entry
-        ensures { Some (lease_of result) ≡ first_of (option_map lease_of first) (Some (lease_of self)) }
+        ensures { Some (lease_of result) ≡ first_of (option_map lease_of first)
+            (Some (lease_of self)) }
     {
         match first {
             None => self,
@@ -53,7 +57,8 @@ impl Entry {
     /// The lease with the deadline that a clock in milliseconds gives it.
     pub fn renewed(self, clock: u64) -> Entry
         requires { clock ≤ 2 ^ 62 }
-        ensures { lease_of result ≡ record (lease_of self) { deadline = deadline_of clock self.ttl } }
+        ensures { lease_of result ≡ record
+            (lease_of self) { deadline = deadline_of clock self.ttl } }
     {
         Entry {
             id: self.id,

@@ -1,7 +1,10 @@
 //! A search tree of leases by ID, balanced by weight, whose nodes know what is below them.
-ghost use Rattle.std.specs.Prelude.{◌≡◌, ◌+◌, ◌*◌, ◌<◌, ◌≤◌, ◌^◌, ℤ, pos, ◌<ℤ◌, true, false, [], ◌∷◌, ◌++◌, length, map, option_map, OnOk, OnErr, MatchOption};
-ghost use Rattle.kv_model.specs.Leases.{is_granted, lease_at, insert_lease, without_lease, renewed, most_leases, least_free};
-ghost use Rattle.lease_book.specs.Entries.{lease_of, IsAscending, earliest, positives, AreSums, gap, IsAbove};
+ghost use Rattle.std.specs.Prelude.{◌≡◌, ◌+◌, ◌*◌, ◌<◌, ◌≤◌, ◌^◌, ℤ, pos, ◌<ℤ◌, true, false, []};
+ghost use Rattle.std.specs.Prelude.{◌∷◌, ◌++◌, length, map, option_map, OnOk, OnErr, MatchOption};
+ghost use Rattle.kv_model.specs.Leases.{is_granted, lease_at, insert_lease};
+ghost use Rattle.kv_model.specs.Leases.{without_lease, renewed, most_leases, least_free};
+ghost use Rattle.lease_book.specs.Entries.{lease_of, IsAscending, earliest};
+ghost use Rattle.lease_book.specs.Entries.{positives, AreSums, gap, PositivesAbove};
 
 use crate::entry::Entry;
 use std::alloc::{AllocError, Global};
@@ -62,7 +65,7 @@ impl Model for Tree {
 }
 
 impl Tree {
-    ghost use Rattle.lease_book.specs.Trees.{leases_of, leases_in, IsNode, IsLink};
+    ghost use Rattle.lease_book.specs.Trees.{leases_of, leases_in, AreEven, IsNode, IsLink};
 
     /// The tree without a lease.
     pub fn new() -> Tree
@@ -87,6 +90,20 @@ impl Tree {
         Tree {
             root: Link::Held(node),
         }
+    }
+
+    /// The top of a tree that is not empty, taken apart: its box, to be written anew, and its sides
+    /// with the lease between them.
+    fn unpack(self) -> (Box<Node>, Tree, Entry, Tree)
+        requires { 0 < length self }
+        ensures leases { self ≡ result.1 ++ lease_of result.2 ∷ result.3 }
+        ensures even { AreEven (length result.1) (length result.3) }
+    {
+        let Link::Held(mut node) = self.open() else {
+            unreachable!()
+        };
+        let (left, entry, right) = node.take();
+        (node, left, entry, right)
     }
 
     /// The number of leases. Constant time.
@@ -148,9 +165,10 @@ impl Tree {
         self.next_free(0)
     }
 
-    /// The least number above `filled` that is no ID, where the IDs above 0 are above `filled`. Logarithmic time.
+    /// The least number above `filled` that is no ID, where the IDs above 0 are above `filled`.
+    /// Logarithmic time.
     fn next_free(&self, filled: u32) -> u32
-        requires above { IsAbove filled self.now }
+        requires above { PositivesAbove filled self.now }
         requires fits { filled + length self.now < 2 ^ 31 }
         ensures { result ≡ gap (filled + 1) self.now }
     {
@@ -185,7 +203,8 @@ impl Tree {
         }
     }
 
-    /// Adds a lease whose ID is not granted. The error is want of memory, and the tree is then as it was. Logarithmic time.
+    /// Adds a lease whose ID is not granted. The error is want of memory, and the tree is then as
+    /// it was. Logarithmic time.
     pub fn insert(&mut self, alloc: Global, entry: Entry) -> Result<(), AllocError>
         requires unknown { is_granted self.old entry.id ≡ false }
         requires few { length self.old < most_leases }
@@ -212,7 +231,8 @@ impl Tree {
 
     /// Takes out the first lease, and answers it. Takes no memory. Logarithmic time.
     fn pop_first(&mut self) -> Option<Entry>
-        ensures { MatchOption result (self.new ≡ [] × self.old ≡ []) (λ e. self.old ≡ lease_of e ∷ self.new) }
+        ensures { MatchOption result (self.new ≡ [] × self.old ≡ [])
+            (λ e. self.old ≡ lease_of e ∷ self.new) }
     {
         match &mut self.root {
             Link::Nothing => None,
@@ -234,7 +254,8 @@ impl Tree {
         }
     }
 
-    /// Takes out the lease of an ID, and answers whether there was one. Takes no memory. Logarithmic time.
+    /// Takes out the lease of an ID, and answers whether there was one. Takes no memory.
+    /// Logarithmic time.
     pub fn remove(&mut self, id: i64) -> bool
         ensures found { result ≡ is_granted self.old id }
         ensures leases { self.new ≡ without_lease id self.old }
@@ -264,7 +285,8 @@ impl Tree {
         }
     }
 
-    /// Sets the deadline of the lease of an ID anew, and answers its time to live. Takes no memory. Logarithmic time.
+    /// Sets the deadline of the lease of an ID anew, and answers its time to live. Takes no memory.
+    /// Logarithmic time.
     pub fn renew(&mut self, id: i64, clock: u64) -> Option<u64>
         requires { clock ≤ 2 ^ 62 }
         ensures ttl { result ≡ option_map (λ l. l.ttl) (lease_at self.old id) }
@@ -325,8 +347,8 @@ impl Node {
         }
     }
 
-    /// Balances a node after a change of one lease below it, and sums it up (Adams: weight-balanced trees, with the ratios
-    /// 3 and 2).
+    /// Balances a node after a change of one lease below it, and sums it up (Adams: weight-balanced
+    /// trees, with the ratios 3 and 2).
     fn settle(&mut self)
         requires ascending { IsAscending (leases_of self.old) }
         requires few { length self.old.left + length self.old.right < most_leases }
@@ -357,7 +379,8 @@ impl Node {
         (left, self.entry, right)
     }
 
-    /// The node where the right side's top is raised, or the top of that one's left side where it is the heavy one.
+    /// The node where the right side's top is raised, or the top of that one's left side where it
+    /// is the heavy one.
     fn raise_right(left: Tree, entry: Entry, right: Tree) -> Node
         requires ascending { IsAscending (left ++ lease_of entry ∷ right) }
         requires few { length left + length right < most_leases }
@@ -366,21 +389,15 @@ impl Node {
         ensures leases { leases_of result ≡ left ++ lease_of entry ∷ right }
         ensures sound { IsNode result }
     {
-        let Link::Held(mut top) = right.open() else {
-            unreachable!()
-        };
-        let (near, middle, far) = top.take();
+        let (mut top, near, middle, far) = right.unpack();
         if near.len() + 1 < 2 * (far.len() + 1) {
             *top = Node::new(left, entry, near);
             return Node::new(Tree::hold(top), middle, far);
         }
-        let Link::Held(mut inner) = near.open() else {
-            unreachable!()
-        };
-        let (low, first, high) = inner.take();
+        let (mut inner, low, pivot, high) = near.unpack();
         *inner = Node::new(left, entry, low);
         *top = Node::new(high, middle, far);
-        Node::new(Tree::hold(inner), first, Tree::hold(top))
+        Node::new(Tree::hold(inner), pivot, Tree::hold(top))
     }
 
     /// The same from the left.
@@ -392,20 +409,14 @@ impl Node {
         ensures leases { leases_of result ≡ left ++ lease_of entry ∷ right }
         ensures sound { IsNode result }
     {
-        let Link::Held(mut top) = left.open() else {
-            unreachable!()
-        };
-        let (far, middle, near) = top.take();
+        let (mut top, far, middle, near) = left.unpack();
         if near.len() + 1 < 2 * (far.len() + 1) {
             *top = Node::new(near, entry, right);
             return Node::new(far, middle, Tree::hold(top));
         }
-        let Link::Held(mut inner) = near.open() else {
-            unreachable!()
-        };
-        let (low, first, high) = inner.take();
+        let (mut inner, low, pivot, high) = near.unpack();
         *inner = Node::new(high, entry, right);
         *top = Node::new(far, middle, low);
-        Node::new(Tree::hold(top), first, Tree::hold(inner))
+        Node::new(Tree::hold(top), pivot, Tree::hold(inner))
     }
 }

@@ -21,17 +21,20 @@ any-filter s t (v ∷ vs) e = let n = neither (s v) (list_any s vs) e in by (t v
     by true h rest = ap (λ b. b || list_any s (filter t vs)) h ∙ rest
     by false h rest = rest
 
-fewer-superseded : (vs : List Version) (t : Version → Bool) (c : ℕ) (v : Version) → is_superseded vs c v ≡ false → is_superseded (filter t vs) c v ≡ false
+fewer-superseded : (vs : List Version) (t : Version → Bool) (c : ℕ) (v : Version) → is_superseded vs c v ≡ false
+    → is_superseded (filter t vs) c v ≡ false
 unfolding is_superseded
 fewer-superseded vs t c v e = any-filter (λ u. same_key u.key v.key && rev_lt v.rev u.rev && nat_le u.rev.main c) t vs e
 
-fewer-goes : (vs : List Version) (t : Version → Bool) (c : ℕ) (v : Version) → is_trimmed vs c v ≡ false → is_trimmed (filter t vs) c v ≡ false
+fewer-goes : (vs : List Version) (t : Version → Bool) (c : ℕ) (v : Version) → is_trimmed vs c v ≡ false
+    → is_trimmed (filter t vs) c v ≡ false
 fewer-goes vs t c v e =
     let n = neither (is_superseded vs c v) (is_tombstone v.body && nat_lt v.rev.main c) e in
     ap (λ b. b || (is_tombstone v.body && nat_lt v.rev.main c)) (fewer-superseded vs t c v n.0) ∙ n.1
 
 module _ (vs : List Version) (t : Version → Bool) (p : Rev) (c : ℕ) where
-  one : (v : Version) → (rev_lt v.rev p && (nat_le v.rev.main c && is_trimmed vs c v)) ≡ false → (rev_lt v.rev p && (nat_le v.rev.main c && is_trimmed (filter t vs) c v)) ≡ false
+  one : (v : Version) → (rev_lt v.rev p && (nat_le v.rev.main c && is_trimmed vs c v)) ≡ false
+      → (rev_lt v.rev p && (nat_le v.rev.main c && is_trimmed (filter t vs) c v)) ≡ false
   one v e = by (rev_lt v.rev p) (nat_le v.rev.main c) e
     where
       by : (a b : Bool) → (a && (b && is_trimmed vs c v)) ≡ false → (a && (b && is_trimmed (filter t vs) c v)) ≡ false
@@ -44,8 +47,10 @@ module _ (vs : List Version) (t : Version → Bool) (p : Rev) (c : ℕ) where
   each [] h = tt
   each (u ∷ us) h = by (t u) (each us h.1)
     where
-      by : (b : Bool) → AllByRecursion (λ v. (rev_lt v.rev p && (nat_le v.rev.main c && is_trimmed (filter t vs) c v)) ≡ false) (filter t us)
-          → AllByRecursion (λ v. (rev_lt v.rev p && (nat_le v.rev.main c && is_trimmed (filter t vs) c v)) ≡ false) (cond b (u ∷ filter t us) (filter t us))
+      by : (b : Bool) → AllByRecursion (λ v. (rev_lt v.rev p && (nat_le v.rev.main c && is_trimmed (filter t vs) c v)) ≡ false)
+          (filter t us)
+          → AllByRecursion (λ v. (rev_lt v.rev p && (nat_le v.rev.main c && is_trimmed (filter t vs) c v)) ≡ false)
+          (cond b (u ∷ filter t us) (filter t us))
       by true rest = (one u h.0, rest)
       by false rest = rest
 

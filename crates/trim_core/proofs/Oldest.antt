@@ -1,5 +1,6 @@
 -- The version that a step visits is the oldest of its key, where nothing that goes was left behind.
-use Rattle.std.proofs.Common.{◌≡◌, ◌≤◌, ℕ, List, [], ◌∷◌, ◌++◌, Bool, true, false, not, ◌&&◌, ◌||◌, cond, find, Option, None, Some, refl, sym, ◌∙◌, ap, subst, arith}
+use Rattle.std.proofs.Common.{◌≡◌, ◌≤◌, ℕ, List, [], ◌∷◌, ◌++◌, Bool, true, false, not, ◌&&◌, ◌||◌}
+use Rattle.std.proofs.Common.{cond, find, Option, None, Some, refl, sym, ◌∙◌, ap, subst, arith}
 use Rattle.std.specs.Prelude.{nat_le, nat_lt}
 use Rattle.std.proofs.lemmas.Bool.Decides.{nat_tests}
 use Rattle.std.specs.List.{AllByRecursion, list_any}
@@ -43,7 +44,8 @@ any-middle t [] v ys h = ap (λ b. b || list_any t ys) h
 any-middle t (x ∷ xs) v ys h = ap (λ b. t x || b) (any-middle t xs v ys h) ∙ or-true (t x)
 
 -- a version of the same key replaces those before it
-replaced : (xs : List Version) (v : Version) (ys : List Version) (c : ℕ) (u : Version) → same_key u.key v.key ≡ true → rev_lt u.rev v.rev ≡ true → nat_le v.rev.main c ≡ true
+replaced : (xs : List Version) (v : Version) (ys : List Version) (c : ℕ) (u : Version) → same_key u.key v.key ≡ true
+    → rev_lt u.rev v.rev ≡ true → nat_le v.rev.main c ≡ true
     → is_superseded (xs ++ v ∷ ys) c u ≡ true
 unfolding is_superseded
 replaced xs v ys c u s l n =
@@ -77,6 +79,7 @@ visited-oldest i vs p c v r a t e =
     (subst (λ us. AllByRecursion (λ u. (rev_lt u.rev p && (nat_le u.rev.main c && is_trimmed vs c u)) ≡ false) us) f.is t) in
     let none : marks_of v.key f.before ≡ [] = none-earlier vs p c v n goes f.before f.all_before left.0 m.0 in
     ap (is_oldest v.rev) (
-    a.each v.key ∙ ap (marks_of v.key) f.is ∙ marks_of-append v.key f.before (v ∷ f.after) ∙ ap (λ ms. ms ++ marks_of v.key (v ∷ f.after)) none
+    a.each v.key ∙ ap (marks_of v.key) f.is ∙ marks_of-append v.key f.before (v ∷ f.after)
+    ∙ ap (λ ms. ms ++ marks_of v.key (v ∷ f.after)) none
     ∙ marks_of-cons v.key v f.after ∙ ap (λ b. cond b (mark_of v ∷ marks_of v.key f.after) (marks_of v.key f.after)) (same-refl v.key))
     ∙ rev-alike v.rev

@@ -1,5 +1,6 @@
 -- A trimming step over versions that rise, and their index.
-use Rattle.std.proofs.Common.{◌≡◌, ℕ, List, [], ◌∷◌, ◌++◌, length, Bool, true, false, not, ◌&&◌, ◌||◌, cond, filter, find, Option, None, Some, option_map, refl, sym, ◌∙◌, ap, subst, arith}
+use Rattle.std.proofs.Common.{◌≡◌, ℕ, List, [], ◌∷◌, ◌++◌, length, Bool, true, false, not, ◌&&◌, ◌||◌, cond}
+use Rattle.std.proofs.Common.{filter, find, Option, None, Some, option_map, refl, sym, ◌∙◌, ap, subst, arith}
 use Rattle.std.specs.Prelude.{nat_le, ◌≤◌}
 use Rattle.std.proofs.lemmas.Bool.Decides.{nat_tests}
 use Rattle.std.specs.List.{AllByRecursion, list_any}
@@ -8,7 +9,8 @@ use Rattle.kv_model.specs.declared.version.Version.{Version}
 use Rattle.kv_model.specs.Keys.{same_key}
 use Rattle.kv_model.specs.History.{rev_lt}
 use Rattle.kv_model.specs.Told.{Trimmed}
-use Rattle.kv_model.specs.Trimming.{TrimStep, is_at, without_rev, is_superseded, is_trimmed, place_after, visited, finished, trimmed, trimmed_next}
+use Rattle.kv_model.specs.Trimming.{TrimStep, is_at, without_rev, is_superseded, is_trimmed}
+use Rattle.kv_model.specs.Trimming.{place_after, visited, finished, trimmed, trimmed_next}
 use Rattle.store_laws.proofs.PlaceSteps.{First, first-from}
 use Rattle.version_table.specs.Rising.{IsRising}
 use Rattle.version_table.proofs.RevOrder.{is_at-before, main_le}
@@ -38,17 +40,20 @@ find-first : (t : Version → Bool) (vs : List Version) (v : Version) → IsRisi
 find-first t [] v r e = cc
 find-first t (u ∷ us) v r e = by (t u) e (λ f. find-first t us v r.1 f)
   where
-    by : (b : Bool) → cond b (Some u) (find t us) ≡ Some v → (find t us ≡ Some v → find (is_at v.rev) us ≡ Some v) → cond (is_at v.rev u) (Some u) (find (is_at v.rev) us) ≡ Some v
+    by : (b : Bool) → cond b (Some u) (find t us) ≡ Some v → (find t us ≡ Some v → find (is_at v.rev) us ≡ Some v)
+        → cond (is_at v.rev u) (Some u) (find (is_at v.rev) us) ≡ Some v
     by true f rest =
         let same : u ≡ v = cc in
         ap (λ b. cond b (Some u) (find (is_at v.rev) us)) (ap (is_at v.rev) same ∙ rev-alike v.rev) ∙ ap Some same
     by false f rest = ap (λ b. cond b (Some u) (find (is_at v.rev) us)) (is_at-before v.rev u (above-find u.rev t us v r.0 f)) ∙ rest f
 
-pub found : (vs : List Version) (p : Rev) (c : ℕ) (q : Rev) → IsRising vs → Some q ≡ option_map (λ (v : Version). v.rev) (find (λ v. not (rev_lt v.rev p)) vs) → nat_le q.main c ≡ true
+pub found : (vs : List Version) (p : Rev) (c : ℕ) (q : Rev) → IsRising vs
+    → Some q ≡ option_map (λ (v : Version). v.rev) (find (λ v. not (rev_lt v.rev p)) vs) → nat_le q.main c ≡ true
     → find (is_at q) vs ≡ next_version vs p c
 found vs p c q r e h = by (find (λ v. not (rev_lt v.rev p)) vs) refl e
   where
-    by : (o : Option Version) → find (λ v. not (rev_lt v.rev p)) vs ≡ o → Some q ≡ option_map (λ (v : Version). v.rev) o → find (is_at q) vs ≡ if_by c o
+    by : (o : Option Version) → find (λ v. not (rev_lt v.rev p)) vs ≡ o → Some q ≡ option_map (λ (v : Version). v.rev) o
+        → find (is_at q) vs ≡ if_by c o
     by None f g = cc
     by (Some v) f g =
         let same : q ≡ v.rev = cc in
@@ -56,7 +61,8 @@ found vs p c q r e h = by (find (λ v. not (rev_lt v.rev p)) vs) refl e
         ∙ find-first (λ u. not (rev_lt u.rev p)) vs v r f
         ∙ sym (ap (λ b. cond b (Some v) None) (ap (λ (s : Rev). nat_le s.main c) (sym same) ∙ h))
 
-pub first-of : (vs : List Version) (p : Rev) (c : ℕ) (v : Version) → next_version vs p c ≡ Some v → find (λ u. not (rev_lt u.rev p)) vs ≡ Some v
+pub first-of : (vs : List Version) (p : Rev) (c : ℕ) (v : Version) → next_version vs p c ≡ Some v
+    → find (λ u. not (rev_lt u.rev p)) vs ≡ Some v
 first-of vs p c v e = by (find (λ u. not (rev_lt u.rev p)) vs) e
   where
     by : (o : Option Version) → if_by c o ≡ Some v → o ≡ Some v
@@ -94,7 +100,8 @@ ends vs p c e = by (find (λ u. not (rev_lt u.rev p)) vs) e
         at false g = refl
 
 abbrev either : List Version → Version → Bool → TrimStep
-either vs v b = cond {A = TrimStep} b (record { told = Trimmed.removed v.rev; versions = without_rev (Some v.rev) vs; place = place_after v.rev })
+either vs v b =
+    cond {A = TrimStep} b (record { told = Trimmed.removed v.rev; versions = without_rev (Some v.rev) vs; place = place_after v.rev })
     (record { told = Trimmed.kept v.rev; versions = vs; place = place_after v.rev })
 
 pub removes : (vs : List Version) (p : Rev) (c : ℕ) (v : Version) → next_version vs p c ≡ Some v → is_trimmed vs c v ≡ true
@@ -106,7 +113,8 @@ pub stays : (vs : List Version) (p : Rev) (c : ℕ) (v : Version) → next_versi
 stays vs p c v e h = sym (visits vs p c v e ∙ ap (either vs v) h)
 
 -- what holds of the versions and of each choice of them holds of those that a step leaves
-pub trimmed-keeps : (P : List Version → Type 0) (vs : List Version) (p : Rev) (c : ℕ) → P vs → ((t : Version → Bool) → P (filter t vs)) → P (trimmed vs p c).versions
+pub trimmed-keeps : (P : List Version → Type 0) (vs : List Version) (p : Rev) (c : ℕ) → P vs → ((t : Version → Bool) → P (filter t vs))
+    → P (trimmed vs p c).versions
 unfolding trimmed
 trimmed-keeps P vs p c h f = by (find (λ u. not (rev_lt u.rev p)) vs)
   where
@@ -161,23 +169,29 @@ module _ (k : List ℕ) (p : Rev) (c : ℕ) where
       here true f = sym f
       here false f = none-later v.rev vs r.0 f ∙ sym f
 
-      by : (a b : Bool) → rev_lt p v.rev ≡ b → (d : Bool) → nat_le v.rev.main c ≡ d → list_any later vs ≡ is_by c (after_place p (marks_of k vs))
+      by : (a b : Bool) → rev_lt p v.rev ≡ b → (d : Bool) → nat_le v.rev.main c ≡ d
+          → list_any later vs ≡ is_by c (after_place p (marks_of k vs))
           → ((a && b && d) || list_any later vs) ≡ is_by c (after_place p (cond a (mark_of v ∷ marks_of k vs) (marks_of k vs)))
-      by true true e d f rest = here d f ∙ sym (ap (λ b. is_by c (option_map rev_of (cond b (Some (mark_of v)) (find (λ m. rev_lt p m.rev) (marks_of k vs))))) e)
-      by true false e d f rest = rest ∙ sym (ap (λ b. is_by c (option_map rev_of (cond b (Some (mark_of v)) (find (λ m. rev_lt p m.rev) (marks_of k vs))))) e)
+      by true true e d f rest =
+          here d f ∙ sym (ap (λ b. is_by c (option_map rev_of (cond b (Some (mark_of v)) (find (λ m. rev_lt p m.rev) (marks_of k vs))))) e)
+      by true false e d f rest =
+          rest ∙ sym (ap (λ b. is_by c (option_map rev_of (cond b (Some (mark_of v)) (find (λ m. rev_lt p m.rev) (marks_of k vs))))) e)
       by false b e d f rest = rest
 
-pub superseded-some : (i : Index) (vs : List Version) (v : Version) (c : ℕ) (q : Rev) → IsRising vs → Agrees i vs → Some q ≡ after_place v.rev (marks v.key i) → nat_le q.main c ≡ is_superseded vs c v
+pub superseded-some : (i : Index) (vs : List Version) (v : Version) (c : ℕ) (q : Rev) → IsRising vs → Agrees i vs
+    → Some q ≡ after_place v.rev (marks v.key i) → nat_le q.main c ≡ is_superseded vs c v
 unfolding is_superseded
 superseded-some i vs v c q r a e = ap (is_by c) (e ∙ ap (after_place v.rev) (a.each v.key)) ∙ sym (superseded v.key v.rev c vs r)
 
-pub superseded-none : (i : Index) (vs : List Version) (v : Version) (c : ℕ) → IsRising vs → Agrees i vs → None ≡ after_place v.rev (marks v.key i) → false ≡ is_superseded vs c v
+pub superseded-none : (i : Index) (vs : List Version) (v : Version) (c : ℕ) → IsRising vs → Agrees i vs
+    → None ≡ after_place v.rev (marks v.key i) → false ≡ is_superseded vs c v
 unfolding is_superseded
 superseded-none i vs v c r a e = ap (is_by c) (e ∙ ap (after_place v.rev) (a.each v.key)) ∙ sym (superseded v.key v.rev c vs r)
 
 -- ---- the index of what is left
 
-pub parts : (xs : List Version) (v : Version) (ys : List Version) → IsRising (xs ++ v ∷ ys) → AllByRecursion (λ u. rev_lt u.rev v.rev ≡ true) xs × IsAbove v.rev ys
+pub parts : (xs : List Version) (v : Version) (ys : List Version) → IsRising (xs ++ v ∷ ys)
+    → AllByRecursion (λ u. rev_lt u.rev v.rev ≡ true) xs × IsAbove v.rev ys
 parts [] v ys r = (tt, r.0)
 parts (x ∷ xs) v ys r = let m = parts xs v ys r.1 in ((at x.rev xs r.0, m.0), m.1)
   where
@@ -191,6 +205,7 @@ out-agrees i vs p c v a r e =
     let f : First p v vs = first-from p v vs (first-of vs p c v e) in
     let rising : IsRising (f.before ++ v ∷ f.after) = subst IsRising f.is r in
     let m = parts f.before v f.after rising in
-    let left : Agrees (without_mark v.key v.rev i) (f.before ++ f.after) = remove-agrees i f.before v f.after (subst (Agrees i) f.is a) m.0 m.1 in
+    let left : Agrees (without_mark v.key v.rev i) (f.before ++ f.after) =
+    remove-agrees i f.before v f.after (subst (Agrees i) f.is a) m.0 m.1 in
     subst (λ (us : List Version). Agrees (without_mark v.key v.rev i) (without_rev (Some v.rev) us)) (sym f.is)
     (subst (Agrees (without_mark v.key v.rev i)) (sym (without_rev-middle f.before v f.after rising)) left)

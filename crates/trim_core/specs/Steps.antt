@@ -30,11 +30,14 @@ if_by c (Some v) = if nat_le v.rev.main c then Some v else None
 abbrev pub next_version : List Version → Rev → ℕ → Option Version
 next_version vs p c = if_by c (find (λ v. not (rev_lt v.rev p)) vs)
 
--- where nothing that goes was left behind the place, the version to visit is the oldest of its key: the index has it first
+-- where nothing that goes was left behind the place, the version to visit is the oldest of its key: the index has it
+-- first
 abbrev pub VisitedIsOldest : Type 0
-VisitedIsOldest = (i : Index) (vs : List Version) (p : Rev) (c : ℕ) (v : Version) → IsRising vs → Agrees i vs → IsTrimmedTo vs p c → next_version vs p c ≡ Some v
+VisitedIsOldest = (i : Index) (vs : List Version) (p : Rev) (c : ℕ) (v : Version) → IsRising vs → Agrees i vs
+    → IsTrimmedTo vs p c → next_version vs p c ≡ Some v
     → is_oldest v.rev (marks v.key i) ≡ true
 
 -- where versions are dropped, as those of a revision that is taken back, still nothing that goes is behind the place
 abbrev pub FewerStayTrimmed : Type 0
-FewerStayTrimmed = (vs : List Version) (t : Version → Bool) (p : Rev) (c : ℕ) → IsTrimmedTo vs p c → IsTrimmedTo (filter t vs) p c
+FewerStayTrimmed = (vs : List Version) (t : Version → Bool) (p : Rev) (c : ℕ) → IsTrimmedTo vs p c
+    → IsTrimmedTo (filter t vs) p c

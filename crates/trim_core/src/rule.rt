@@ -10,7 +10,8 @@ use key_index::KeyIndex;
 use kv_model::version::{Body, Rev, Version};
 use version_table::VersionTable;
 
-/// The first place behind another one. Behind the greatest of 64-bit numbers there is none: it is its own.
+/// The first place behind another one. Behind the greatest of 64-bit numbers there is none: it is
+/// its own.
 pub(crate) fn place_after(rev: Rev) -> Rev
     ensures { result ≡ place_after rev }
 {
@@ -42,7 +43,8 @@ pub(crate) fn next_version(table: &VersionTable, place: Rev, compacted: u64) -> 
 
 /// Whether a later version of the key stands at or below a revision: the next one of the key does.
 fn is_superseded(index: &KeyIndex, version: &Version, revision: u64) -> bool
-    ensures { (vs : List Version) → IsRising vs → Agrees index.now vs → result ≡ is_superseded vs revision version.now }
+    ensures { (vs : List Version) → IsRising vs → Agrees index.now vs
+        → result ≡ is_superseded vs revision version.now }
 {
     match index.after(&version.key, version.rev) {
         Some(next) => next.main <= revision,
@@ -60,10 +62,12 @@ fn is_tombstone(version: &Version) -> bool
     }
 }
 
-/// Whether a version at or below the compaction goes: a later one of its key is there, or it is a tombstone below the
-/// compaction. The time is logarithmic in the number of keys and in that of the key's revisions.
+/// Whether a version at or below the compaction goes: a later one of its key is there, or it is a
+/// tombstone below the compaction. The time is logarithmic in the number of keys and in that of the
+/// key's revisions.
 pub(crate) fn is_trimmed(index: &KeyIndex, version: &Version, compacted: u64) -> bool
-    ensures { (vs : List Version) → IsRising vs → Agrees index.now vs → result ≡ is_trimmed vs compacted version.now }
+    ensures { (vs : List Version) → IsRising vs → Agrees index.now vs
+        → result ≡ is_trimmed vs compacted version.now }
 {
     is_superseded(index, version, compacted)
         || (is_tombstone(version) && version.rev.main < compacted)

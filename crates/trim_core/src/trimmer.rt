@@ -21,7 +21,8 @@ pub enum Trim {
     Done(u64),
 }
 
-/// How far trimming has come since the last compaction: the first place in the history that it has not looked at.
+/// How far trimming has come since the last compaction: the first place in the history that it has
+/// not looked at.
 #[derive(Debug, Drop)]
 pub struct Trimmer {
     place: Rev,
@@ -59,15 +60,17 @@ impl Trimmer {
         self.place = Rev { main: 0, sub: 0 };
     }
 
-    /// Visits the next version at or below `compacted`, the revision of the last compaction, the oldest first. It is taken
-    /// out of the table and of the index where a later version of its key is at or below the compaction, or where it is
-    /// a tombstone below it; else it stays. Where none is left to visit, nothing changes and the answer is `Done`.
+    /// Visits the next version at or below `compacted`, the revision of the last compaction, the
+    /// oldest first. It is taken out of the table and of the index where a later version of its key
+    /// is at or below the compaction, or where it is a tombstone below it; else it stays. Where
+    /// none is left to visit, nothing changes and the answer is `Done`.
     ///
     /// The index is that of the versions in the table, and is so again. Takes no memory.
     ///
-    /// The time is logarithmic in the number of versions and of keys, but for two things: the versions behind the one that
-    /// goes move one place, and where it is not the oldest of its key, the revisions of that key are walked. It is the
-    /// oldest where trimming began again at each compaction, and versions above it came since (`laws::visited_is_oldest`).
+    /// The time is logarithmic in the number of versions and of keys, but for two things: the
+    /// versions behind the one that goes move one place, and where it is not the oldest of its key,
+    /// the revisions of that key are walked. It is the oldest where trimming began again at each
+    /// compaction, and versions above it came since (`laws::visited_is_oldest`).
     pub fn step(&mut self, table: &mut VersionTable, index: &mut KeyIndex, compacted: u64) -> Trim
         requires { Agrees index.old table.old }
         ensures exact { step_of result table.new self.new ≡ trimmed table.old self.old compacted }

@@ -1,5 +1,6 @@
 -- What the changes of a rising list undo, and that a version is found by its revision.
-use Rattle.std.proofs.Common.{◌≡◌, ℕ, List, [], ◌∷◌, ◌++◌, Bool, true, false, not, ◌&&◌, ◌==◌, cond, Option, None, Some, filter, refl, ◌∙◌, ap, subst}
+use Rattle.std.proofs.Common.{◌≡◌, ℕ, List, [], ◌∷◌, ◌++◌, Bool, true, false, not, ◌&&◌}
+use Rattle.std.proofs.Common.{◌==◌, cond, Option, None, Some, filter, refl, ◌∙◌, ap, subst}
 use Rattle.std.proofs.lemmas.Bool.Decides.{Decides-eqb}
 use Rattle.std.proofs.lemmas.List.{append-nil}
 use Rattle.std.specs.Option.{option_or}
@@ -25,17 +26,20 @@ above-latest : (q p : Rev) (k : List ℕ) (vs : List Version) (v : Version) → 
 above-latest q p k [] v a e = cc
 above-latest q p k (w ∷ ws) v a e = by (latest ws p k) refl (same_key w.key k && rev_le w.rev p) e (λ h. above-latest q p k ws v a.1 h)
   where
-    by : (o : Option Version) → latest ws p k ≡ o → (b : Bool) → option_or o (cond b (Some w) None) ≡ Some v → (latest ws p k ≡ Some v → rev_lt q v.rev ≡ true) → rev_lt q v.rev ≡ true
+    by : (o : Option Version) → latest ws p k ≡ o → (b : Bool) → option_or o (cond b (Some w) None) ≡ Some v
+        → (latest ws p k ≡ Some v → rev_lt q v.rev ≡ true) → rev_lt q v.rev ≡ true
     by (Some u) f b g rest = rest (f ∙ g)
     by None f true g rest = let same : w ≡ v = cc in subst (λ u. rev_lt q u.rev ≡ true) same a.0
     by None f false g rest = cc
 
 -- the last version of a key at a place is the one that stands at its revision
-pub find-latest : (vs : List Version) → IsRising vs → (p : Rev) (k : List ℕ) (v : Version) → latest vs p k ≡ Some v → find (is_at v.rev) vs ≡ Some v
+pub find-latest : (vs : List Version) → IsRising vs → (p : Rev) (k : List ℕ) (v : Version) → latest vs p k ≡ Some v
+    → find (is_at v.rev) vs ≡ Some v
 find-latest [] r p k v e = cc
 find-latest (w ∷ ws) r p k v e = by (latest ws p k) refl (same_key w.key k && rev_le w.rev p) e (λ h. find-latest ws r.1 p k v h)
   where
-    by : (o : Option Version) → latest ws p k ≡ o → (b : Bool) → option_or o (cond b (Some w) None) ≡ Some v → (latest ws p k ≡ Some v → find (is_at v.rev) ws ≡ Some v)
+    by : (o : Option Version) → latest ws p k ≡ o → (b : Bool) → option_or o (cond b (Some w) None) ≡ Some v
+        → (latest ws p k ≡ Some v → find (is_at v.rev) ws ≡ Some v)
         → cond (is_at v.rev w) (Some w) (find (is_at v.rev) ws) ≡ Some v
     by (Some u) f b g more =
         let rest : latest ws p k ≡ Some v = f ∙ g in
@@ -47,12 +51,14 @@ find-latest (w ∷ ws) r p k v e = by (latest ws p k) refl (same_key w.key k && 
 
 -- ---- a version taken out by its revision
 
-pub without_rev-middle : (xs : List Version) (v : Version) (ys : List Version) → IsRising (xs ++ v ∷ ys) → without_rev (Some v.rev) (xs ++ v ∷ ys) ≡ xs ++ ys
+pub without_rev-middle : (xs : List Version) (v : Version) (ys : List Version) → IsRising (xs ++ v ∷ ys)
+    → without_rev (Some v.rev) (xs ++ v ∷ ys) ≡ xs ++ ys
 without_rev-middle [] v ys r =
     ap (λ b. cond (not b) (v ∷ filter (λ w. not (is_at v.rev w)) ys) (filter (λ w. not (is_at v.rev w)) ys)) (is_at-itself v)
     ∙ all-above v.rev ys r.0
 without_rev-middle (x ∷ xs) v ys r =
-    ap (λ b. cond (not b) (x ∷ filter (λ w. not (is_at v.rev w)) (xs ++ v ∷ ys)) (filter (λ w. not (is_at v.rev w)) (xs ++ v ∷ ys))) (is_at-before v.rev x (middle x.rev xs r.0))
+    ap (λ b. cond (not b) (x ∷ filter (λ w. not (is_at v.rev w)) (xs ++ v ∷ ys)) (filter (λ w. not (is_at v.rev w)) (xs ++ v ∷ ys)))
+    (is_at-before v.rev x (middle x.rev xs r.0))
     ∙ ap (λ ws. x ∷ ws) (without_rev-middle xs v ys r.1)
   where
     middle : (q : Rev) (zs : List Version) → IsAbove q (zs ++ v ∷ ys) → rev_lt q v.rev ≡ true
@@ -61,13 +67,15 @@ without_rev-middle (x ∷ xs) v ys r =
 
 -- ---- a main revision taken back
 
-kept-others : (main : ℕ) (vs : List Version) → AllByRecursion (λ v. (v.rev.main == main) ≡ false) vs → filter (λ v. not (v.rev.main == main)) vs ≡ vs
+kept-others : (main : ℕ) (vs : List Version) → AllByRecursion (λ v. (v.rev.main == main) ≡ false) vs
+    → filter (λ v. not (v.rev.main == main)) vs ≡ vs
 kept-others main [] h = refl
 kept-others main (v ∷ vs) h =
     ap (λ b. cond (not b) (v ∷ filter (λ w. not (w.rev.main == main)) vs) (filter (λ w. not (w.rev.main == main)) vs)) h.0
     ∙ ap (λ ws. v ∷ ws) (kept-others main vs h.1)
 
-kept-append : (main : ℕ) (vs us : List Version) → AllByRecursion (λ v. (v.rev.main == main) ≡ false) vs → AllByRecursion (λ u. (u.rev.main == main) ≡ true) us
+kept-append : (main : ℕ) (vs us : List Version) → AllByRecursion (λ v. (v.rev.main == main) ≡ false) vs
+    → AllByRecursion (λ u. (u.rev.main == main) ≡ true) us
     → filter (λ v. not (v.rev.main == main)) (vs ++ us) ≡ vs
 kept-append main [] [] h g = refl
 kept-append main [] (u ∷ us) h g =
@@ -78,7 +86,8 @@ kept-append main (v ∷ vs) us h g =
     ∙ ap (λ ws. v ∷ ws) (kept-append main vs us h.1 g)
 
 -- the last of some changes is one of them
-newest-of : (main : ℕ) (vs : List Version) (u : Version) (us : List Version) → AllByRecursion (λ w. (w.rev.main == main) ≡ true) (u ∷ us) → is_newest main (vs ++ u ∷ us) ≡ true
+newest-of : (main : ℕ) (vs : List Version) (u : Version) (us : List Version) → AllByRecursion (λ w. (w.rev.main == main) ≡ true) (u ∷ us)
+    → is_newest main (vs ++ u ∷ us) ≡ true
 newest-of main [] u [] g = g.0
 newest-of main [] u (w ∷ us) g = by (last us) (newest-of main [] w us g.1)
   where
@@ -92,7 +101,8 @@ newest-of main (v ∷ vs) u us g = by (last (vs ++ u ∷ us)) (newest-of main vs
     by (Some x) e = e
 
 -- the changes of the newest main revision go, and what was before them stays
-pub retracted-append : (main : ℕ) (vs us : List Version) → AllByRecursion (λ v. (v.rev.main == main) ≡ false) vs → AllByRecursion (λ u. (u.rev.main == main) ≡ true) us
+pub retracted-append : (main : ℕ) (vs us : List Version) → AllByRecursion (λ v. (v.rev.main == main) ≡ false) vs
+    → AllByRecursion (λ u. (u.rev.main == main) ≡ true) us
     → retracted main (vs ++ us) ≡ vs
 retracted-append main vs [] h g = ap (retracted main) (append-nil vs) ∙ by (is_newest main vs)
   where

@@ -31,14 +31,16 @@ from_parts : (p q : Rev) → (p.main < q.main) ⊎ ((p.main ≡ q.main) × (p.su
 from_parts p q (inl h) = before_main p.main q.main p.sub q.sub h
 from_parts p q (inr h) = before_sub p.main q.main p.sub q.sub h.0 h.1
 
-joined : (p q r : Rev) → (p.main < q.main) ⊎ ((p.main ≡ q.main) × (p.sub < q.sub)) → (q.main < r.main) ⊎ ((q.main ≡ r.main) × (q.sub < r.sub))
+joined : (p q r : Rev) → (p.main < q.main) ⊎ ((p.main ≡ q.main) × (p.sub < q.sub))
+    → (q.main < r.main) ⊎ ((q.main ≡ r.main) × (q.sub < r.sub))
     → (p.main < r.main) ⊎ ((p.main ≡ r.main) × (p.sub < r.sub))
 joined p q r (inl h) (inl g) = inl (omega arith)
 joined p q r (inl h) (inr g) = inl (omega arith)
 joined p q r (inr h) (inl g) = inl (omega arith)
 joined p q r (inr h) (inr g) = inr (omega arith, omega arith)
 
-joined_not : (p q r : Rev) → (p.main < q.main) ⊎ ((q.main ≡ p.main) × (p.sub ≤ q.sub)) → (q.main < r.main) ⊎ ((q.main ≡ r.main) × (q.sub < r.sub))
+joined_not : (p q r : Rev) → (p.main < q.main) ⊎ ((q.main ≡ p.main) × (p.sub ≤ q.sub))
+    → (q.main < r.main) ⊎ ((q.main ≡ r.main) × (q.sub < r.sub))
     → (p.main < r.main) ⊎ ((p.main ≡ r.main) × (p.sub < r.sub))
 joined_not p q r (inl h) (inl g) = inl (omega arith)
 joined_not p q r (inl h) (inr g) = inl (omega arith)
@@ -50,7 +52,8 @@ rev_lt-trans p q r h g = from_parts p r (joined p q r (before_true p.main q.main
 
 -- what is above one that is not before p is above p
 pub rev_lt-not : (p q r : Rev) → rev_lt q p ≡ false → rev_lt q r ≡ true → rev_lt p r ≡ true
-rev_lt-not p q r h g = from_parts p r (joined_not p q r (before_false q.main p.main q.sub p.sub h) (before_true q.main r.main q.sub r.sub g))
+rev_lt-not p q r h g =
+    from_parts p r (joined_not p q r (before_false q.main p.main q.sub p.sub h) (before_true q.main r.main q.sub r.sub g))
 
 -- a version before a place or behind it is not at it
 pub is_at-before : (p : Rev) (v : Version) → rev_lt v.rev p ≡ true → is_at p v ≡ false

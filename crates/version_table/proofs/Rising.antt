@@ -1,5 +1,6 @@
 -- Rising lists of versions: what is behind the last, what stands at a place, and how the list changes.
-use Rattle.std.proofs.Common.{◌≡◌, ℕ, zero, suc, ◌<◌, ◌≤◌, ◌-◌, ◌⊎◌, inl, inr, List, [], ◌∷◌, ◌++◌, length, take, get_or, Bool, true, false, not, ◌==◌, cond, Option, None, Some, filter, refl, sym, ◌∙◌, ap, subst, arith}
+use Rattle.std.proofs.Common.{◌≡◌, ℕ, zero, suc, ◌<◌, ◌≤◌, ◌-◌, ◌⊎◌, inl, inr, List, [], ◌∷◌, ◌++◌, length, take, get_or, Bool}
+use Rattle.std.proofs.Common.{true, false, not, ◌==◌, cond, Option, None, Some, filter, refl, sym, ◌∙◌, ap, subst, arith}
 use Rattle.std.proofs.lemmas.Bool.Decides.{nat_tests}
 use Rattle.std.specs.List.Sorted.{IsPartitionedBy, IsPartitionPoint}
 use Rattle.std.specs.Option.{option_or}
@@ -8,8 +9,9 @@ use Rattle.kv_model.specs.declared.version.Rev.{Rev}
 use Rattle.kv_model.specs.declared.version.Version.{Version}
 use Rattle.kv_model.specs.History.{rev_lt}
 use Rattle.kv_model.specs.Kept.{is_at}
-use Rattle.version_table.specs.Rising.{IsBehind, IsRising, place, last, is_of, is_newest, retracted}
-use Rattle.version_table.proofs.RevOrder.{before-at, rev_lt-trans, rev_lt-not, is_at-before, is_at-behind, before_false, before_first, main_le}
+use Rattle.version_table.specs.Rising.{IsBehind, IsRising, count_before, last, is_of, is_newest, retracted}
+use Rattle.version_table.proofs.RevOrder.{before-at, rev_lt-trans, rev_lt-not, is_at-before}
+use Rattle.version_table.proofs.RevOrder.{is_at-behind, before_false, before_first, main_le}
 
 abbrev pub IsAbove : Rev → List Version → Type 0
 IsAbove p vs = AllByRecursion (λ w. rev_lt p w.rev ≡ true) vs
@@ -87,12 +89,12 @@ abbrev pub left : Rev → List Version → ℕ → Option Version → List Versi
 left p vs n None = vs
 left p vs n (Some v) = cond (is_at p v) (remove vs n) vs
 
-pub find-place : (p : Rev) (vs : List Version) → IsRising vs → find (is_at p) vs ≡ held p (slice_get vs (place p vs))
-find-place p [] r = refl
-find-place p (v ∷ vs) r = by (rev_lt v.rev p) refl (find-place p vs r.1)
+pub find-count_before : (p : Rev) (vs : List Version) → IsRising vs → find (is_at p) vs ≡ held p (slice_get vs (count_before p vs))
+find-count_before p [] r = refl
+find-count_before p (v ∷ vs) r = by (rev_lt v.rev p) refl (find-count_before p vs r.1)
   where
-    by : (b : Bool) → rev_lt v.rev p ≡ b → find (is_at p) vs ≡ held p (slice_get vs (place p vs))
-        → cond (is_at p v) (Some v) (find (is_at p) vs) ≡ held p (slice_get (v ∷ vs) (cond b (suc (place p vs)) zero))
+    by : (b : Bool) → rev_lt v.rev p ≡ b → find (is_at p) vs ≡ held p (slice_get vs (count_before p vs))
+        → cond (is_at p v) (Some v) (find (is_at p) vs) ≡ held p (slice_get (v ∷ vs) (cond b (suc (count_before p vs)) zero))
     by true e rest = ap (λ b. cond b (Some v) (find (is_at p) vs)) (is_at-before p v e) ∙ rest
     by false e rest = ap (λ o. cond (is_at p v) (Some v) o) (none-above p vs (above-not p v vs e r.0))
 
@@ -102,18 +104,21 @@ above-get p (w ∷ ws) zero v a e = let same : w ≡ v = cc in subst (λ u. rev_
 above-get p (w ∷ ws) (suc i) v a e = above-get p ws i v a.1 e
 
 -- a version at the revision is the one that is found, since no other is
-pub find-at : (p : Rev) (vs : List Version) (i : ℕ) (v : Version) → IsRising vs → slice_get vs i ≡ Some v → is_at p v ≡ true → find (is_at p) vs ≡ Some v
+pub find-at : (p : Rev) (vs : List Version) (i : ℕ) (v : Version) → IsRising vs → slice_get vs i ≡ Some v → is_at p v ≡ true
+    → find (is_at p) vs ≡ Some v
 find-at p [] i v r e h = cc
-find-at p (w ∷ ws) zero v r e h = let same : w ≡ v = cc in ap (λ b. cond b (Some w) (find (is_at p) ws)) (ap (is_at p) same ∙ h) ∙ ap Some same
+find-at p (w ∷ ws) zero v r e h = let same : w ≡ v = cc in ap (λ b. cond b (Some w) (find (is_at p) ws)) (ap (is_at p) same ∙ h)
+    ∙ ap Some same
 find-at p (w ∷ ws) (suc i) v r e h =
-    ap (λ b. cond b (Some w) (find (is_at p) ws)) (is_at-before p w (before-at p w.rev v h (above-get w.rev ws i v r.0 e))) ∙ find-at p ws i v r.1 e h
+    ap (λ b. cond b (Some w) (find (is_at p) ws)) (is_at-before p w (before-at p w.rev v h (above-get w.rev ws i v r.0 e)))
+    ∙ find-at p ws i v r.1 e h
 
-pub next-place : (p : Rev) (vs : List Version) → find (λ v. not (rev_lt v.rev p)) vs ≡ slice_get vs (place p vs)
-next-place p [] = refl
-next-place p (v ∷ vs) = by (rev_lt v.rev p) (next-place p vs)
+pub next-count_before : (p : Rev) (vs : List Version) → find (λ v. not (rev_lt v.rev p)) vs ≡ slice_get vs (count_before p vs)
+next-count_before p [] = refl
+next-count_before p (v ∷ vs) = by (rev_lt v.rev p) (next-count_before p vs)
   where
-    by : (b : Bool) → find (λ w. not (rev_lt w.rev p)) vs ≡ slice_get vs (place p vs)
-        → cond (not b) (Some v) (find (λ w. not (rev_lt w.rev p)) vs) ≡ slice_get (v ∷ vs) (cond b (suc (place p vs)) zero)
+    by : (b : Bool) → find (λ w. not (rev_lt w.rev p)) vs ≡ slice_get vs (count_before p vs)
+        → cond (not b) (Some v) (find (λ w. not (rev_lt w.rev p)) vs) ≡ slice_get (v ∷ vs) (cond b (suc (count_before p vs)) zero)
     by true rest = rest
     by false rest = refl
 
@@ -125,9 +130,10 @@ left-cons p v vs n (Some u) = by (is_at p u)
     by true = refl
     by false = refl
 
-pub without-place : (p : Rev) (vs : List Version) → IsRising vs → filter (λ v. not (is_at p v)) vs ≡ left p vs (place p vs) (slice_get vs (place p vs))
-without-place p [] r = refl
-without-place p (v ∷ vs) r = by (rev_lt v.rev p) refl (without-place p vs r.1)
+pub without-count_before : (p : Rev) (vs : List Version) → IsRising vs
+    → filter (λ v. not (is_at p v)) vs ≡ left p vs (count_before p vs) (slice_get vs (count_before p vs))
+without-count_before p [] r = refl
+without-count_before p (v ∷ vs) r = by (rev_lt v.rev p) refl (without-count_before p vs r.1)
   where
     rest_of : List Version
     rest_of = filter (λ w. not (is_at p w)) vs
@@ -136,19 +142,21 @@ without-place p (v ∷ vs) r = by (rev_lt v.rev p) refl (without-place p vs r.1)
     first true = refl
     first false = refl
 
-    by : (b : Bool) → rev_lt v.rev p ≡ b → rest_of ≡ left p vs (place p vs) (slice_get vs (place p vs))
-        → cond (not (is_at p v)) (v ∷ rest_of) rest_of ≡ left p (v ∷ vs) (cond b (suc (place p vs)) zero) (slice_get (v ∷ vs) (cond b (suc (place p vs)) zero))
-    by true e rest = ap (λ b. cond (not b) (v ∷ rest_of) rest_of) (is_at-before p v e) ∙ ap (λ ws. v ∷ ws) rest ∙ left-cons p v vs (place p vs) (slice_get vs (place p vs))
+    by : (b : Bool) → rev_lt v.rev p ≡ b → rest_of ≡ left p vs (count_before p vs) (slice_get vs (count_before p vs))
+        → cond (not (is_at p v)) (v ∷ rest_of) rest_of ≡ left p (v ∷ vs) (cond b (suc (count_before p vs)) zero)
+        (slice_get (v ∷ vs) (cond b (suc (count_before p vs)) zero))
+    by true e rest = ap (λ b. cond (not b) (v ∷ rest_of) rest_of) (is_at-before p v e) ∙ ap (λ ws. v ∷ ws) rest
+        ∙ left-cons p v vs (count_before p vs) (slice_get vs (count_before p vs))
     by false e rest = ap (λ ws. cond (not (is_at p v)) (v ∷ ws) ws) (all-above p vs (above-not p v vs e r.0)) ∙ first (is_at p v)
 
-module _ (p : Rev) (vs : List Version) (n : ℕ) (r : IsRising vs) (at : n ≡ place p vs) where
+module _ (p : Rev) (vs : List Version) (n : ℕ) (r : IsRising vs) (at : n ≡ count_before p vs) where
   abbrev without : List Version
   without = filter (λ v. not (is_at p v)) vs
 
   held_is : (o : Option Version) → slice_get vs n ≡ o → (find (is_at p) vs ≡ held p o) × (without ≡ left p vs n o)
   held_is o e = (
-    find-place p vs r ∙ ap (λ k. held p (slice_get vs k)) (sym at) ∙ ap (held p) e,
-    without-place p vs r ∙ ap (λ k. left p vs k (slice_get vs k)) (sym at) ∙ ap (left p vs n) e,
+    find-count_before p vs r ∙ ap (λ k. held p (slice_get vs k)) (sym at) ∙ ap (held p) e,
+    without-count_before p vs r ∙ ap (λ k. left p vs k (slice_get vs k)) (sym at) ∙ ap (left p vs n) e,
   )
 
   -- the version before which no other stands is at the place
@@ -200,12 +208,14 @@ up_to-last main (v ∷ w ∷ ws) l r e h =
 same_main : (a b : ℕ) → a ≤ b → b ≤ a → (a == b) ≡ true
 same_main a b h g = grind (arith, nat_tests)
 
-gone-above : (main : ℕ) (v : Version) (vs : List Version) → main ≤ v.rev.main → IsAbove v.rev vs → AllUpTo main vs → filter (λ w. not (w.rev.main == main)) vs ≡ []
+gone-above : (main : ℕ) (v : Version) (vs : List Version) → main ≤ v.rev.main → IsAbove v.rev vs → AllUpTo main vs
+    → filter (λ w. not (w.rev.main == main)) vs ≡ []
 gone-above main v [] h a u = refl
 gone-above main v (w ∷ ws) h a u =
     let least : v.rev.main ≤ w.rev.main = main_le v.rev w.rev a.0 in
     let most : w.rev.main ≤ main = u.0 in
-    ap (λ b. cond (not b) (w ∷ filter (λ x. not (x.rev.main == main)) ws) (filter (λ x. not (x.rev.main == main)) ws)) (same_main w.rev.main main (omega arith) (omega arith))
+    ap (λ b. cond (not b) (w ∷ filter (λ x. not (x.rev.main == main)) ws) (filter (λ x. not (x.rev.main == main)) ws))
+    (same_main w.rev.main main (omega arith) (omega arith))
     ∙ gone-above main v ws h a.1 u.1
 
 not_before_first : (p : Rev) (main : ℕ) → rev_lt p (record { main = main; sub = 0 }) ≡ false → main ≤ p.main
@@ -217,28 +227,33 @@ not_before_first p main h = by (before_false p.main main p.sub 0 h)
 
 -- the versions before the first change of the newest main revision are those of the others
 pub take-first : (main : ℕ) (vs : List Version) → IsRising vs → AllUpTo main vs
-    → take (place (record { main = main; sub = 0 }) vs) vs ≡ filter (λ v. not (v.rev.main == main)) vs
+    → take (count_before (record { main = main; sub = 0 }) vs) vs ≡ filter (λ v. not (v.rev.main == main)) vs
 take-first main [] r u = refl
 take-first main (v ∷ vs) r u = by (rev_lt v.rev (record { main = main; sub = 0 })) refl (take-first main vs r.1 u.1)
   where
     kept : List Version
     kept = filter (λ w. not (w.rev.main == main)) vs
 
-    by : (b : Bool) → rev_lt v.rev (record { main = main; sub = 0 }) ≡ b → take (place (record { main = main; sub = 0 }) vs) vs ≡ kept
-        → take (cond b (suc (place (record { main = main; sub = 0 }) vs)) zero) (v ∷ vs) ≡ cond (not (v.rev.main == main)) (v ∷ kept) kept
+    by : (b : Bool) → rev_lt v.rev (record { main = main; sub = 0 }) ≡ b
+        → take (count_before (record { main = main; sub = 0 }) vs) vs ≡ kept
+        → take (cond b (suc (count_before (record { main = main; sub = 0 }) vs)) zero) (v ∷ vs) ≡ cond (not (v.rev.main == main))
+        (v ∷ kept) kept
     by true e rest = ap (λ ws. v ∷ ws) rest ∙ ap (λ b. cond (not b) (v ∷ kept) kept) (sym (before_first v.rev.main main v.rev.sub e))
     by false e rest =
         let least : main ≤ v.rev.main = not_before_first v.rev main e in
         let most : v.rev.main ≤ main = u.0 in
-        sym (ap (λ b. cond (not b) (v ∷ kept) kept) (same_main v.rev.main main (omega arith) (omega arith)) ∙ gone-above main v vs least r.0 u.1)
+        sym (ap (λ b. cond (not b) (v ∷ kept) kept) (same_main v.rev.main main (omega arith) (omega arith))
+        ∙ gone-above main v vs least r.0 u.1)
 
 retracted-last : (main : ℕ) (vs : List Version) (o : Option Version) → IsRising vs → last vs ≡ o → is_of main o ≡ true
-    → take (place (record { main = main; sub = 0 }) vs) vs ≡ filter (λ v. not (v.rev.main == main)) vs
+    → take (count_before (record { main = main; sub = 0 }) vs) vs ≡ filter (λ v. not (v.rev.main == main)) vs
 retracted-last main vs None r e h = cc
 retracted-last main vs (Some l) r e h = take-first main vs r (up_to-last main vs l r e (grind (arith, nat_tests)))
 
-pub retracted-newest : (main : ℕ) (vs : List Version) → IsRising vs → is_newest main vs ≡ true → take (place (record { main = main; sub = 0 }) vs) vs ≡ retracted main vs
-retracted-newest main vs r h = retracted-last main vs (last vs) r refl h ∙ sym (ap (λ b. cond b (filter (λ v. not (v.rev.main == main)) vs) vs) h)
+pub retracted-newest : (main : ℕ) (vs : List Version) → IsRising vs → is_newest main vs ≡ true
+    → take (count_before (record { main = main; sub = 0 }) vs) vs ≡ retracted main vs
+retracted-newest main vs r h = retracted-last main vs (last vs) r refl h
+    ∙ sym (ap (λ b. cond b (filter (λ v. not (v.rev.main == main)) vs) vs) h)
 
 pub retracted-other : (main : ℕ) (vs : List Version) → is_newest main vs ≡ false → vs ≡ retracted main vs
 retracted-other main vs h = sym (ap (λ b. cond b (filter (λ v. not (v.rev.main == main)) vs) vs) h)
@@ -265,9 +280,11 @@ partitioned p (v ∷ vs) r zero (suc j) d l m h = rev_lt-trans v.rev (get_or vs 
 partitioned p (v ∷ vs) r (suc i) zero d l m h = absurd (omega arith)
 partitioned p (v ∷ vs) r (suc i) (suc j) d l m h = partitioned p vs r.1 i j d (omega arith) (omega arith) h
 
-pub place_point : (p : Rev) (vs : List Version) (n : ℕ) → n ≤ length vs → IsPartitionPoint (λ v. rev_lt v.rev p ≡ true) (λ v. rev_lt v.rev p ≡ false) vs n → n ≡ place p vs
-place_point p [] n h t = omega arith
-place_point p (v ∷ vs) zero h t = ap (λ b. cond b (suc (place p vs)) zero) (sym (t.1 0 v (omega arith) (omega arith)))
-place_point p (v ∷ vs) (suc n) h t =
-    ap suc (place_point p vs n (omega arith) ((λ k d l m. t.0 (suc k) d (omega arith) (omega arith)), (λ k d l m. t.1 (suc k) d (omega arith) (omega arith))))
-    ∙ ap (λ b. cond b (suc (place p vs)) zero) (sym (t.0 0 v (omega arith) (omega arith)))
+pub count_before_point : (p : Rev) (vs : List Version) (n : ℕ) → n ≤ length vs
+    → IsPartitionPoint (λ v. rev_lt v.rev p ≡ true) (λ v. rev_lt v.rev p ≡ false) vs n → n ≡ count_before p vs
+count_before_point p [] n h t = omega arith
+count_before_point p (v ∷ vs) zero h t = ap (λ b. cond b (suc (count_before p vs)) zero) (sym (t.1 0 v (omega arith) (omega arith)))
+count_before_point p (v ∷ vs) (suc n) h t =
+    ap suc (count_before_point p vs n (omega arith)
+    ((λ k d l m. t.0 (suc k) d (omega arith) (omega arith)), (λ k d l m. t.1 (suc k) d (omega arith) (omega arith))))
+    ∙ ap (λ b. cond b (suc (count_before p vs)) zero) (sym (t.0 0 v (omega arith) (omega arith)))

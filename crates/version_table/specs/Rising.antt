@@ -1,5 +1,6 @@
 -- Versions in the order of their revisions, and the ways to change such a list.
-use Rattle.std.specs.Prelude.{◌≡◌, ℕ, ◌-◌, List, [], ◌∷◌, Bool, true, false, not, zero, suc, ◌==◌, Option, None, Some, filter, if◌then◌else◌, ⊤}
+use Rattle.std.specs.Prelude.{◌≡◌, ℕ, ◌-◌, List, [], ◌∷◌, Bool, true, false, not, zero}
+use Rattle.std.specs.Prelude.{suc, ◌==◌, Option, None, Some, filter, if◌then◌else◌, ⊤}
 use Rattle.std.specs.List.{AllByRecursion, remove}
 use Rattle.kv_model.specs.declared.version.Rev.{Rev}
 use Rattle.kv_model.specs.declared.version.Version.{Version}
@@ -16,9 +17,9 @@ IsRising [] = ⊤
 IsRising (v ∷ vs) = AllByRecursion (λ w. rev_lt v.rev w.rev ≡ true) vs × IsRising vs
 
 -- how many versions stand before a place, in a rising list
-abbrev pub place : Rev → List Version → ℕ
-place p [] = zero
-place p (v ∷ vs) = if rev_lt v.rev p then suc (place p vs) else zero
+abbrev pub count_before : Rev → List Version → ℕ
+count_before p [] = zero
+count_before p (v ∷ vs) = if rev_lt v.rev p then suc (count_before p vs) else zero
 
 -- where a revision stands behind the first version, if each main revision between has one version
 abbrev pub guess : Rev → Option Version → ℕ

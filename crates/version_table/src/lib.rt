@@ -1,4 +1,24 @@
-// The versions that are kept, in the order in which they were made.
+//! The versions that are kept, in the order in which they were made.
+//!
+//! A version is what one change left of a key, and its revision is two numbers: `main`, which each
+//! change of the store raises, and `sub`, which tells apart the versions of one transaction. The
+//! one contract is that of [`VersionTable`]: its value is the list of its versions, which rises by
+//! revision, and each call is a function on such lists. `range_view` keeps a table and an index of
+//! its keys, and `trim_core` takes versions out of both.
+//!
+//! For example, with a revision written as main.sub:
+//!
+//! ```text
+//! push 2.0, 3.0, 3.1, 5.0    2.0 3.0 3.1 5.0    each is above those before it
+//! takes 5.0                  no: 5.0 is not above itself; 5.1 and 6.0 are
+//! get 3.1                    found by halving, since the guess, index 1, holds 3.0
+//! next_from 4.0              5.0, the first revision that is not before 4.0
+//! remove 3.0                 2.0 3.1 5.0
+//! retract 5                  2.0 3.1, since 5 is the newest main revision
+//! retract 2                  2.0 3.1, since 2 is not
+//! ```
+//!
+//! The tests stand in the crate `public_calls`, in `src/table.rt`.
 #![tactic(auto)]
 
 pub mod table;

@@ -1,9 +1,12 @@
 //! A table of versions, rising by revision (etcd: data model).
-ghost use Rattle.std.specs.Prelude.{◌≡◌, ◌↔◌, List, [], ◌∷◌, ◌++◌, ◌<◌, length, not, option_and_then, IfSome, option_map, option_copied, OnOk, OnErr, IsTrue, Some, None};
+ghost use Rattle.std.specs.Prelude.{◌≡◌, ◌↔◌, List, [], ◌∷◌, ◌++◌, ◌<◌, length};
+ghost use Rattle.std.specs.Prelude.{not, option_and_then, IfSome, option_map};
+ghost use Rattle.std.specs.Prelude.{option_copied, OnOk, OnErr, IsTrue, Some, None};
 ghost use Rattle.std.specs.List.{find, slice_get};
 ghost use Rattle.kv_model.specs.History.{rev_lt};
 ghost use Rattle.kv_model.specs.Kept.{is_at, without_rev};
-ghost use Rattle.version_table.specs.Rising.{IsBehind, IsRising, guess, is_of, last, place, retracted, without_index};
+ghost use Rattle.version_table.specs.Rising.{IsBehind, IsRising, guess, is_of};
+ghost use Rattle.version_table.specs.Rising.{last, count_before, retracted, without_index};
 
 use kv_model::version::{Rev, Version};
 use std::alloc::{AllocError, Global};
@@ -59,7 +62,8 @@ impl VersionTable {
         self.versions.as_slice()
     }
 
-    /// Whether `push` takes a version at this revision: it is above each one in the table. Constant time.
+    /// Whether `push` takes a version at this revision: it is above each one in the table. Constant
+    /// time.
     pub fn takes(&self, rev: Rev) -> bool
         ensures { IsTrue result ↔ IsBehind rev self.now }
     {
@@ -71,7 +75,8 @@ impl VersionTable {
 
     /// Adds a version at the end. Its revision is above each one in the table.
     ///
-    /// The error is want of memory, and the table is then as it was. Constant time, but for the growth of the list.
+    /// The error is want of memory, and the table is then as it was. Constant time, but for the
+    /// growth of the list.
     pub fn push(&mut self, version: Version) -> Result<(), AllocError>
         requires { IsBehind version.rev self.old }
         ensures ok { OnOk result (self.new ≡ self.old ++ version ∷ []) }
@@ -81,9 +86,11 @@ impl VersionTable {
         Ok(())
     }
 
-    /// Drops all versions of a main revision where it is the newest, and else nothing. Takes no memory.
+    /// Drops all versions of a main revision where it is the newest, and else nothing. Takes no
+    /// memory.
     ///
-    /// The time is logarithmic in the number of versions, and linear in the number of those dropped.
+    /// The time is logarithmic in the number of versions, and linear in the number of those
+    /// dropped.
     pub fn retract(&mut self, main: u64)
         ensures { self.new ≡ retracted main self.old }
     {
@@ -104,9 +111,9 @@ impl VersionTable {
 
     /// The version at a revision. Takes no memory.
     ///
-    /// Constant time where the table has one version of each main revision from its first one to this: it looks first at
-    /// the index that the revision then has. Elsewhere, as behind a command of several changes or behind trimmed versions,
-    /// logarithmic time.
+    /// Constant time where the table has one version of each main revision from its first one to
+    /// this: it looks first at the index that the revision then has. Elsewhere, as behind a command
+    /// of several changes or behind trimmed versions, logarithmic time.
     pub fn get(&self, rev: Rev) -> Option<&Version>
         ensures value { option_copied result ≡ find (is_at rev) self.now }
         ensures rising { IsRising self.now }
@@ -118,9 +125,11 @@ impl VersionTable {
         }
     }
 
-    /// The first revision in the table that is not before the given one. Takes no memory, and logarithmic time.
+    /// The first revision in the table that is not before the given one. Takes no memory, and
+    /// logarithmic time.
     pub fn next_from(&self, rev: Rev) -> Option<Rev>
-        ensures value { result ≡ option_map (λ v. v.rev) (find (λ v. not (rev_lt v.rev rev)) self.now) }
+        ensures value { result ≡ option_map (λ v. v.rev)
+            (find (λ v. not (rev_lt v.rev rev)) self.now) }
         ensures rising { IsRising self.now }
     {
         let versions = self.as_slice();
@@ -153,20 +162,21 @@ fn is_newest(versions: &[Version], main: u64) -> bool
 }
 
 /// The version at an index.
-fn version_at(versions: &[Version], place: usize) -> Option<&Version>
-    ensures { option_copied result ≡ slice_get versions.now place }
+fn version_at(versions: &[Version], index: usize) -> Option<&Version>
+    ensures { option_copied result ≡ slice_get versions.now index }
 {
-    versions.get(place)
+    versions.get(index)
 }
 
 /// The revision at an index.
-fn rev_at(versions: &[Version], place: usize) -> Option<Rev>
-    ensures { result ≡ option_map (λ v. v.rev) (slice_get versions.now place) }
+fn rev_at(versions: &[Version], index: usize) -> Option<Rev>
+    ensures { result ≡ option_map (λ v. v.rev) (slice_get versions.now index) }
 {
-    version_at(versions, place).map(|version| version.rev)
+    version_at(versions, index).map(|version| version.rev)
 }
 
-/// The index at which a revision stands where each main revision from that of the first version on has one version.
+/// The index at which a revision stands where each main revision from that of the first version on
+/// has one version.
 fn guess(versions: &[Version], rev: Rev) -> usize
     ensures { result ≡ guess rev (slice_get versions.now 0) }
 {
@@ -177,11 +187,11 @@ fn guess(versions: &[Version], rev: Rev) -> usize
 }
 
 /// The version at an index, where it is at the revision: none of the others, which rise, is.
-fn version_if(versions: &[Version], place: usize, rev: Rev) -> Option<&Version>
+fn version_if(versions: &[Version], index: usize, rev: Rev) -> Option<&Version>
     requires { IsRising versions.now }
     ensures { IfSome result (λ v. find (is_at rev) versions.now ≡ Some v.now) }
 {
-    match version_at(versions, place) {
+    match version_at(versions, index) {
         Some(version) if version.rev == rev => Some(version),
         _ => None,
     }
@@ -192,8 +202,8 @@ fn search(versions: &[Version], rev: Rev) -> Option<&Version>
     requires { IsRising versions.now }
     ensures { option_copied result ≡ find (is_at rev) versions.now }
 {
-    match place_of(versions, rev) {
-        Some(place) => version_at(versions, place),
+    match index_of(versions, rev) {
+        Some(index) => version_at(versions, index),
         None => None,
     }
 }
@@ -201,21 +211,22 @@ fn search(versions: &[Version], rev: Rev) -> Option<&Version>
 /// How many of the versions, which rise, stand before a revision. It halves.
 fn count_before(versions: &[Version], rev: Rev) -> usize
     requires { IsRising versions.now }
-    ensures { result ≡ place rev versions.now }
+    ensures { result ≡ count_before rev versions.now }
 {
     versions.partition_point(|v| is_before(v.rev, rev))
 }
 
 /// The index of the version at a revision. It halves.
-fn place_of(versions: &[Version], rev: Rev) -> Option<usize>
+fn index_of(versions: &[Version], rev: Rev) -> Option<usize>
     requires { IsRising versions.now }
     ensures bound { IfSome result (λ i. i < length versions.now) }
-    ensures found { find (is_at rev) versions.now ≡ option_and_then (slice_get versions.now) result }
+    ensures found { find (is_at rev) versions.now
+        ≡ option_and_then (slice_get versions.now) result }
     ensures without { without_rev (Some rev) versions.now ≡ without_index versions.now result }
 {
-    let place = count_before(versions, rev);
-    match version_at(versions, place) {
-        Some(version) if version.rev == rev => Some(place),
+    let index = count_before(versions, rev);
+    match version_at(versions, index) {
+        Some(version) if version.rev == rev => Some(index),
         _ => None,
     }
 }
@@ -225,7 +236,7 @@ fn remove_at(versions: &mut Vec<Version>, rev: Rev)
     requires { IsRising versions.old.items }
     ensures { versions.new.items ≡ without_rev (Some rev) versions.old.items }
 {
-    if let Some(place) = place_of(versions, rev) {
-        let _ = versions.remove(place);
+    if let Some(index) = index_of(versions, rev) {
+        let _ = versions.remove(index);
     }
 }

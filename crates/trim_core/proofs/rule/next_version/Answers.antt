@@ -5,4 +5,6 @@ use Rattle.trim_core.proofs.Stepping.{found}
 use Rattle.trim_core.proofs.rule.next_version.Goals as goal
 
 pub returns-in-Some-clause-value : goal.returns-in-Some-clause-value
-returns-in-Some-clause-value c = c.get.ensures.value ∙ found c.args.table.now c.args.place c.args.compacted c.in-Some.rev c.next_from.ensures.rising c.in-Some.ensures.value (grind (arith, nat_tests, c.if-rev-compacted.true))
+returns-in-Some-clause-value c =
+    c.get.ensures.value ∙ found c.args.table.now c.args.place c.args.compacted c.in-Some.rev c.next_from.ensures.rising
+    c.in-Some.ensures.value (grind (arith, nat_tests, c.if-rev-compacted.true))

@@ -13,7 +13,14 @@ pub returns-then-entry-self : goal.returns-then-entry-self
 returns-then-entry-self c =
     let come : leb c.in-Some.entry.deadline c.self.inside.clock ≡ true = grind (arith, nat_tests) in
     let fits : FitsSigned w64 c.in-Some.entry.id = search rules in
-    rw (to_z-of_z w64 c.in-Some.entry.id fits, ← c.self.view_is, due-earliest c.self.inside.clock c.self.inside.leases, ← c.earliest.ensures, c.in-Some.is, come)
+    rw (
+      to_z-of_z w64 c.in-Some.entry.id fits,
+      ← c.self.view_is,
+      due-earliest c.self.inside.clock c.self.inside.leases,
+      ← c.earliest.ensures,
+      c.in-Some.is,
+      come,
+    )
 
 pub returns-else-entry-self : goal.returns-else-entry-self
 returns-else-entry-self c =

@@ -8,4 +8,5 @@ use Rattle.lease_book.proofs.book.LeaseBook.is_granted.Goals as goal
 pub returns : goal.returns
 returns c =
     rw (← c.self.view_is)
-    (c.is_some.ensures ∙ is_some_mapped lease_of c.get.result ∙ ap is_some (rw (to_z-of_z w64 c.args.id c.ranges.id) at c.get.ensures) ∙ is_some-lease_at c.self.inside.leases c.args.id)
+    (c.is_some.ensures ∙ is_some_mapped lease_of c.get.result ∙ ap is_some (rw (to_z-of_z w64 c.args.id c.ranges.id) at c.get.ensures)
+    ∙ is_some-lease_at c.self.inside.leases c.args.id)

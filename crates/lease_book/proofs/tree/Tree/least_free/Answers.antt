@@ -8,7 +8,10 @@ pub next_free-requires-clause-above : goal.next_free-requires-clause-above
 next_free-requires-clause-above c = above_zero c.args.self.now
 
 pub returns-clause-least : goal.returns-clause-least
-returns-clause-least c = c.next_free.ensures ∙ sym (least_free-gap c.args.self.now (subst IsAscending c.self.view_is (ascending_in c.self.inside.root c.self.invariant)))
+returns-clause-least c = c.next_free.ensures
+    ∙ sym (least_free-gap c.args.self.now (subst IsAscending c.self.view_is (ascending_in c.self.inside.root c.self.invariant)))
 
 pub returns-clause-free : goal.returns-clause-free
-returns-clause-free c = rw c.next_free.ensures (gap_free 1 c.args.self.now (subst IsAscending c.self.view_is (ascending_in c.self.inside.root c.self.invariant)))
+returns-clause-free c =
+    rw c.next_free.ensures (gap_free 1 c.args.self.now
+    (subst IsAscending c.self.view_is (ascending_in c.self.inside.root c.self.invariant)))

@@ -12,9 +12,11 @@ returns-after-is_trimmed-clause-exact c =
     let rule = c.is_trimmed.ensures vs c.next_version.ensures.rising c.requires in
     elim c.if-is_trimmed.branch [
       | then-is_trimmed w ↦ (rw (w.result-is, w.table-is, w.remove-then-is_trimmed.ensures, c.place_after-self-inside.ensures)
-          (removes vs c.self.inside.place c.args.compacted v (sym c.in-Some.ensures.value) (sym rule ∙ w.if-is_trimmed.true) ∙ ap (λ p. trimmed vs p c.args.compacted) c.self.view_is))
+          (removes vs c.self.inside.place c.args.compacted v (sym c.in-Some.ensures.value) (sym rule ∙ w.if-is_trimmed.true)
+          ∙ ap (λ p. trimmed vs p c.args.compacted) c.self.view_is))
       | else-is_trimmed w ↦ (rw (w.result-is, w.table-is, c.place_after-self-inside.ensures)
-          (stays vs c.self.inside.place c.args.compacted v (sym c.in-Some.ensures.value) (sym rule ∙ w.if-is_trimmed.false) ∙ ap (λ p. trimmed vs p c.args.compacted) c.self.view_is))
+          (stays vs c.self.inside.place c.args.compacted v (sym c.in-Some.ensures.value) (sym rule ∙ w.if-is_trimmed.false)
+          ∙ ap (λ p. trimmed vs p c.args.compacted) c.self.view_is))
     ]
 
 pub returns-after-is_trimmed-clause-agrees : goal.returns-after-is_trimmed-clause-agrees
@@ -23,7 +25,8 @@ returns-after-is_trimmed-clause-agrees c =
     let v = c.in-Some.version.now in
     elim c.if-is_trimmed.branch [
       | then-is_trimmed w ↦ (rw (w.index-is, w.table-is, w.remove.ensures, w.remove-then-is_trimmed.ensures)
-          (out-agrees c.args.index.now vs c.self.inside.place c.args.compacted v c.requires c.next_version.ensures.rising (sym c.in-Some.ensures.value)))
+          (out-agrees c.args.index.now vs c.self.inside.place c.args.compacted v c.requires c.next_version.ensures.rising
+          (sym c.in-Some.ensures.value)))
       | else-is_trimmed w ↦ (rw (w.index-is, w.table-is) c.requires)
     ]
 

@@ -3,11 +3,14 @@ use Rattle.std.proofs.Common.{◌≡◌, sym, ◌∙◌, ap, not, option_map}
 use Rattle.std.specs.List.{find, slice_get}
 use Rattle.kv_model.specs.History.{rev_lt}
 use Rattle.kv_model.specs.declared.version.Version.{Version}
-use Rattle.version_table.proofs.Rising.{next-place}
+use Rattle.version_table.proofs.Rising.{next-count_before}
 use Rattle.version_table.proofs.table.VersionTable.next_from.Goals as goal
 
 pub returns-clause-value : goal.returns-clause-value
 returns-clause-value c =
-    let next : slice_get c.as_slice-versions.result.now c.count_before.result ≡ find (λ v. not (rev_lt v.rev c.args.rev)) c.as_slice-versions.result.now =
-    ap (slice_get c.as_slice-versions.result.now) c.count_before.ensures ∙ sym (next-place c.args.rev c.as_slice-versions.result.now) in
-    c.rev_at.ensures ∙ ap (option_map (λ (v : Version). v.rev)) (next ∙ ap (find (λ v. not (rev_lt v.rev c.args.rev))) c.as_slice-versions.ensures.value)
+    let next : slice_get c.as_slice-versions.result.now c.count_before.result
+    ≡ find (λ v. not (rev_lt v.rev c.args.rev)) c.as_slice-versions.result.now =
+    ap (slice_get c.as_slice-versions.result.now) c.count_before.ensures
+    ∙ sym (next-count_before c.args.rev c.as_slice-versions.result.now) in
+    c.rev_at.ensures ∙ ap (option_map (λ (v : Version). v.rev))
+    (next ∙ ap (find (λ v. not (rev_lt v.rev c.args.rev))) c.as_slice-versions.ensures.value)

@@ -1,6 +1,6 @@
 -- The versions before the first of the newest main revision are those that stay.
 use Rattle.std.proofs.Common.{◌≡◌, true, take, sym, ◌∙◌, ap}
-use Rattle.version_table.specs.Rising.{last, is_of, is_newest, place, retracted}
+use Rattle.version_table.specs.Rising.{last, is_of, is_newest, count_before, retracted}
 use Rattle.version_table.proofs.Rising.{retracted-newest, retracted-other, rising-retracted}
 use Rattle.version_table.proofs.table.VersionTable.retract.Goals as goal
 use Rattle.version_table.proofs.table.VersionTable.retract.Goals.{After-truncate}
@@ -10,7 +10,8 @@ stays c =
     let newest : is_newest c.args.main c.self.inside.versions.items ≡ true =
     ap (λ l. is_of c.args.main (last l)) (sym c.deref.ensures.value) ∙ sym c.is_newest.ensures ∙ c.if-is_newest.true in
     c.truncate.ensures.items
-    ∙ ap (λ k. take k c.self.inside.versions.items) (c.count_before-kept.ensures ∙ ap (place (record { main = c.args.main; sub = 0 })) c.deref-then-is_newest.ensures.value)
+    ∙ ap (λ k. take k c.self.inside.versions.items)
+    (c.count_before-kept.ensures ∙ ap (count_before (record { main = c.args.main; sub = 0 })) c.deref-then-is_newest.ensures.value)
     ∙ retracted-newest c.args.main c.self.inside.versions.items c.self.invariant newest
 
 pub invariant_of-self : goal.invariant_of-self
