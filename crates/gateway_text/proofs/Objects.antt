@@ -32,7 +32,8 @@ members_of_fields [] = refl
 members_of_fields (f ∷ fs) = member_tokens f.0 f.1 (members fs) ∙ ap (λ s. field_tokens f.0 f.1 ++ s) (members_of_fields fs)
 
 -- an object is written by its members
-pub by_fields : (old new : List Token) (fs : List (List ℕ × Option Data)) → new ≡ old ++ begin_object ∷ fields_tokens fs → new ≡ old ++ data_tokens (object fs)
+pub by_fields : (old new : List Token) (fs : List (List ℕ × Option Data)) → new ≡ old ++ begin_object ∷ fields_tokens fs
+    → new ≡ old ++ data_tokens (object fs)
 by_fields old new fs e = e ∙ ap (λ s. old ++ begin_object ∷ s) (sym (members_of_fields fs))
 
 -- a list's items, one after another, and its end
@@ -61,7 +62,8 @@ map-map g f [] = refl
 map-map g f (x ∷ xs) = ap (λ ys. g (f x) ∷ ys) (map-map g f xs)
 
 -- two views, one after the other, of what may be missing
-pub option_map-option_map : {X Y Z : Type 0} (g : Y → Z) (f : X → Y) (o : Option X) → option_map g (option_map f o) ≡ option_map (λ x. g (f x)) o
+pub option_map-option_map : {X Y Z : Type 0} (g : Y → Z) (f : X → Y) (o : Option X)
+    → option_map g (option_map f o) ≡ option_map (λ x. g (f x)) o
 option_map-option_map g f None = refl
 option_map-option_map g f (Some x) = refl
 

@@ -1,7 +1,8 @@
 -- This crate's types, as the definitions of answers speak of them.
 use Rattle.std.specs.Prelude.{ℕ, ℤ, pos, negsuc, List, [], ◌∷◌, ◌++◌, map, Option, None, Some, codes}
 use Rattle.serde_json.specs.Data.{Data}
-use Rattle.kv_model.specs.Answers.{Fault, header, short_header, object, nat_field, int_field, list_field, bytes_text, lease_text, responses}
+use Rattle.kv_model.specs.Answers.{Fault, header, short_header, object, nat_field}
+use Rattle.kv_model.specs.Answers.{int_field, list_field, bytes_text, lease_text, responses}
 use Rattle.kv_model.specs.Txns.{Replies}
 use Rattle.range_view.specs.declared.reply.OpReply.{OpReply}
 use Rattle.range_view.specs.Replies.{op_reply_view}
@@ -30,7 +31,8 @@ unfoldable pub lease_data : Data → ℤ → ℕ → Data
 lease_data h id ttl = object ((codes "ID", int_field id) ∷ (codes "TTL", nat_field ttl) ∷ (codes "header", Some h) ∷ [])
 
 unfoldable pub time_left_data : Data → ℤ → ℤ → ℕ → List (List ℕ) → Data
-time_left_data h id ttl granted keys = object ((codes "ID", int_field id) ∷ (codes "TTL", int_field ttl) ∷ (codes "grantedTTL", nat_field granted)
+time_left_data h id ttl granted keys =
+    object ((codes "ID", int_field id) ∷ (codes "TTL", int_field ttl) ∷ (codes "grantedTTL", nat_field granted)
     ∷ (codes "header", Some h) ∷ (codes "keys", list_field (map bytes_text keys)) ∷ [])
 
 unfoldable pub leases_data : Data → List ℤ → Data

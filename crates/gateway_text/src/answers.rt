@@ -1,8 +1,9 @@
 //! The bodies of answers.
 //!
-//! Each function here fails for want of memory alone. A body is reserved at once; the base64 of each key and value is
-//! made in a second buffer, which grows to the longest of them, and is copied into the body. So an answer costs two
-//! allocations and a few more as the second buffer grows, and time for the bytes of its body.
+//! Each function here fails for want of memory alone. A body is reserved at once; the base64 of
+//! each key and value is made in a second buffer, which grows to the longest of them, and is copied
+//! into the body. So an answer costs two allocations and a few more as the second buffer grows, and
+//! time for the bytes of its body.
 ghost use Rattle.std.specs.Prelude.{◌≡◌, ◌≤◌, ◌++◌, map, IfOk, OnOk, option_map};
 ghost use Rattle.kv_model.specs.Told as told;
 ghost use Rattle.kv_model.specs.Answers as texts;
@@ -11,9 +12,9 @@ ghost use Rattle.range_view.specs.Replies.{kv_view, reply_view};
 ghost use Rattle.gateway_text.specs.Tokens.{data_tokens};
 ghost use Rattle.gateway_text.specs.Views.{header_data};
 
-use crate::header::{Header, digits, room_of as room_of_header};
+use crate::header::{Header, digits, room_of_header};
 use crate::json_text::JsonText;
-use crate::key_value::room_of;
+use crate::key_value::room_of_kv;
 use kv_model::ids::Ids;
 use range_view::reply::{KvRef, RangeReply};
 use std::alloc::{AllocError, Global};
@@ -21,9 +22,10 @@ use std::alloc::{AllocError, Global};
 /// The bytes of a body without its lists, at most, where it is about a lease.
 pub(crate) const FRAME: usize = 256;
 
-/// The bytes of the names of a Range's answer, at most, without its header and its key-values, and one more, which the writer
-/// asks for behind the last brace. Those of the answers to a DeleteRange and a Txn are not more.
-pub(crate) const NAMES: usize = 44;
+/// The bytes of the names of a Range's answer, at most, without its header and its key-values, and
+/// one more, which the writer asks for behind the last brace. Those of the answers to a DeleteRange
+/// and a Txn are not more.
+pub(crate) const ANSWER_NAMES: usize = 44;
 
 /// The bytes that say that the limit cut some, which are among those names.
 const MORE: usize = 12;
@@ -38,7 +40,10 @@ const PREVIOUS: usize = 11;
 #[tactic(auto, using(crate::proofs::Objects::written), unfolding(kv_model::specs::Answers::reply_text))]
 pub fn range_text(alloc: Global, reply: &RangeReply<'_>, ids: &Ids) -> Result<Vec<u8>, AllocError>
     ensures { IfOk result (λ v. v.items ≡ (answered ids.now
-        (record { reply = told.Reply.range (reply_view reply.now); revision = reply.now.revision })).body) }
+        (record {
+          reply = told.Reply.range (reply_view reply.now);
+          revision = reply.now.revision;
+        })).body) }
 {
     let most = frame_of(ids, reply.revision, reply.count);
     let frame = if reply.more { most } else { most - MORE };
@@ -47,7 +52,8 @@ pub fn range_text(alloc: Global, reply: &RangeReply<'_>, ids: &Ids) -> Result<Ve
     Ok(out.into_bytes())
 }
 
-/// The body of a Put's answer, with the revision after the Put and the key-value before it, where that was asked for.
+/// The body of a Put's answer, with the revision after the Put and the key-value before it, where
+/// that was asked for.
 #[tactic(auto, using(crate::proofs::Objects::written), unfolding(kv_model::specs::Answers::reply_text))]
 pub fn put_text(
     alloc: Global,
@@ -56,11 +62,14 @@ pub fn put_text(
     ids: &Ids,
 ) -> Result<Vec<u8>, AllocError>
     ensures { IfOk result (λ v. v.items ≡ (answered ids.now
-        (record { reply = told.Reply.put (option_map kv_view previous.entry); revision = revision })).body) }
+        (record {
+          reply = told.Reply.put (option_map kv_view previous.entry);
+          revision = revision;
+        })).body) }
 {
     let frame = room_of_header(ids, revision) + PUT;
     let room = match &previous {
-        Some(kv) => room_of(kv).saturating_add(frame + PREVIOUS),
+        Some(kv) => room_of_kv(kv).saturating_add(frame + PREVIOUS),
         None => frame,
     };
     let mut out = JsonText::with_capacity(alloc, room)?;
@@ -68,8 +77,8 @@ pub fn put_text(
     Ok(out.into_bytes())
 }
 
-/// The body of a DeleteRange's answer, with the revision after it, the number of keys that it deleted, and their
-/// key-values, where those were asked for.
+/// The body of a DeleteRange's answer, with the revision after it, the number of keys that it
+/// deleted, and their key-values, where those were asked for.
 #[tactic(auto, using(crate::proofs::Objects::written), unfolding(kv_model::specs::Answers::reply_text))]
 pub fn delete_text(
     alloc: Global,
@@ -79,7 +88,10 @@ pub fn delete_text(
     ids: &Ids,
 ) -> Result<Vec<u8>, AllocError>
     ensures { IfOk result (λ v. v.items ≡ (answered ids.now
-        (record { reply = told.Reply.delete deleted (map kv_view previous.now); revision = revision })).body) }
+        (record {
+          reply = told.Reply.delete deleted (map kv_view previous.now);
+          revision = revision;
+        })).body) }
 {
     let frame = frame_of(ids, revision, deleted);
     let mut out = JsonText::with_capacity(alloc, room_for(frame, previous))?;
@@ -93,7 +105,8 @@ pub(crate) fn write_range(
     reply: &RangeReply<'_>,
 ) -> Result<(), AllocError>
     ensures { OnOk result (out.new
-        ≡ out.old ++ data_tokens (texts.range_text (header_data header.now) (reply_view reply.now))) }
+        ≡ out.old ++ data_tokens (texts.range_text (header_data header.now)
+        (reply_view reply.now))) }
 {
     out.begin_object()?;
     out.number_member("count", reply.count)?;
@@ -109,7 +122,8 @@ pub(crate) fn write_put(
     previous: Option<KvRef<'_>>,
 ) -> Result<(), AllocError>
     ensures { OnOk result (out.new
-        ≡ out.old ++ data_tokens (texts.put_text (header_data header.now) (option_map kv_view previous.entry))) }
+        ≡ out.old ++ data_tokens (texts.put_text (header_data header.now)
+        (option_map kv_view previous.entry))) }
 {
     out.begin_object()?;
     out.member("header", header)?;
@@ -124,7 +138,8 @@ pub(crate) fn write_delete(
     previous: &[KvRef<'_>],
 ) -> Result<(), AllocError>
     ensures { OnOk result (out.new
-        ≡ out.old ++ data_tokens (texts.delete_text (header_data header.now) deleted (map kv_view previous.now))) }
+        ≡ out.old ++ data_tokens (texts.delete_text (header_data header.now) deleted
+        (map kv_view previous.now))) }
 {
     out.begin_object()?;
     out.number_member("deleted", deleted)?;
@@ -138,14 +153,14 @@ pub(crate) fn frame_of(ids: &Ids, revision: u64, count: u64) -> usize
     ensures least { 44 ≤ result }
     ensures most { result ≤ 256 }
 {
-    room_of_header(ids, revision) + NAMES + digits(count)
+    room_of_header(ids, revision) + ANSWER_NAMES + digits(count)
 }
 
 /// So much room, and room for these key-values.
 pub(crate) fn room_for(frame: usize, kvs: &[KvRef<'_>]) -> usize {
     let mut room = frame;
     for kv in kvs {
-        room = room.saturating_add(room_of(kv));
+        room = room.saturating_add(room_of_kv(kv));
     }
     room
 }

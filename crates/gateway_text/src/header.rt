@@ -30,17 +30,17 @@ impl WriteJson for Header {
 }
 
 /// The bytes of a whole header without its numbers.
-const NAMES: usize = 62;
+const HEADER_NAMES: usize = 62;
 
 /// Room for the text of a whole header.
-pub(crate) fn room_of(ids: &Ids, revision: u64) -> usize
+pub(crate) fn room_of_header(ids: &Ids, revision: u64) -> usize
     ensures { result ≤ 125 }
 {
-    NAMES + digits(ids.cluster) + digits(ids.member) + digits(revision)
+    HEADER_NAMES + digits(ids.cluster) + digits(ids.member) + digits(revision)
 }
 
-/// At least as many as the decimal digits of a number, and at most one more: ten bits have three digits, and five bits of
-/// sixteen are a little more than that.
+/// At least as many as the decimal digits of a number, and at most one more: ten bits have three
+/// digits, and five bits of sixteen are a little more than that.
 pub(crate) fn digits(n: u64) -> usize
     ensures { result ≤ 21 }
 {

@@ -1,10 +1,12 @@
 //! JSON text while it is written, and the values that know how to write themselves.
-ghost use Rattle.std.specs.Prelude.{◌≡◌, ℕ, List, [], ◌∷◌, ◌++◌, map, Some, IfOk, OnOk, option_map, string_bytes};
+ghost use Rattle.std.specs.Prelude.{◌≡◌, ℕ, List, [], ◌∷◌, ◌++◌, map, Some};
+ghost use Rattle.std.specs.Prelude.{IfOk, OnOk, option_map, string_bytes};
 ghost use Rattle.std.specs.List.{flat_map};
 ghost use Rattle.json.specs.Token.{key, begin_object, end_object, begin_array, end_array};
 ghost use Rattle.json.specs.Print.{print};
 ghost use Rattle.serde_json.specs.Data.{Num, Data, number};
-ghost use Rattle.kv_model.specs.Answers.{text_of, nat_field, int_field, bytes_text, bytes_field, truth_field, list_field};
+ghost use Rattle.kv_model.specs.Answers.{text_of, nat_field, int_field, bytes_text};
+ghost use Rattle.kv_model.specs.Answers.{bytes_field, truth_field, list_field};
 ghost use Rattle.gateway_text.specs.Tokens.{data_tokens, field_tokens};
 
 use base64::engine::general_purpose::STANDARD;
@@ -21,10 +23,11 @@ pub(crate) trait WriteJson {
         ensures { OnOk result (out.new ≡ out.old ++ data_tokens (value self.now)) };
 }
 
-/// JSON text while it is written: its tokens so far. After an error of a method the text is of no use.
+/// JSON text while it is written: its tokens so far. After an error of a method the text is of no
+/// use.
 ///
-/// A member at its default is left out, as the gateway leaves it out. No method but those that write
-/// bytes allocates for itself: each appends to one buffer, and a member costs its bytes.
+/// A member at its default is left out, as the gateway leaves it out. No method but those that
+/// write bytes allocates for itself: each appends to one buffer, and a member costs its bytes.
 #[derive(Drop)]
 pub(crate) struct JsonText {
     writer: Writer,
@@ -98,7 +101,8 @@ impl JsonText {
 
     /// A member that is a string, escaped where it has to be.
     pub(crate) fn string_member(&mut self, name: &str, text: &str) -> Result<(), AllocError>
-        ensures { OnOk result (self.new ≡ self.old ++ field_tokens name.now (Some (text_of text.now))) }
+        ensures { OnOk result (self.new ≡ self.old ++ field_tokens name.now
+            (Some (text_of text.now))) }
     {
         self.name(name)?;
         self.writer.string(text)
@@ -106,13 +110,15 @@ impl JsonText {
 
     /// A member that is a JSON number.
     pub(crate) fn code_member(&mut self, name: &str, code: u16) -> Result<(), AllocError>
-        ensures { OnOk result (self.new ≡ self.old ++ field_tokens name.now (Some (number (Num.unsigned code)))) }
+        ensures { OnOk result (self.new ≡ self.old ++ field_tokens name.now
+            (Some (number (Num.unsigned code)))) }
     {
         self.name(name)?;
         self.writer.u64(u64::from(code))
     }
 
-    /// Bytes as a string of padded base64 (RFC 4648). Grows a buffer that is kept to the longest of them.
+    /// Bytes as a string of padded base64 (RFC 4648). Grows a buffer that is kept to the longest of
+    /// them.
     pub(crate) fn bytes(&mut self, bytes: &[u8]) -> Result<(), AllocError>
         ensures { OnOk result (self.new ≡ self.old ++ data_tokens (bytes_text bytes.now)) }
     {
@@ -144,7 +150,8 @@ impl JsonText {
 
     /// A member of bytes; none where there are none.
     pub(crate) fn bytes_member(&mut self, name: &str, bytes: &[u8]) -> Result<(), AllocError>
-        ensures { OnOk result (self.new ≡ self.old ++ field_tokens name.now (bytes_field bytes.now)) }
+        ensures { OnOk result (self.new ≡ self.old ++ field_tokens name.now
+            (bytes_field bytes.now)) }
     {
         if bytes.is_empty() {
             return Ok(());
@@ -166,7 +173,8 @@ impl JsonText {
 
     /// A member that is always there.
     pub(crate) fn member<T: WriteJson>(&mut self, name: &str, value: &T) -> Result<(), AllocError>
-        ensures { OnOk result (self.new ≡ self.old ++ field_tokens name.now (Some (T.value value.now))) }
+        ensures { OnOk result (self.new ≡ self.old ++ field_tokens name.now
+            (Some (T.value value.now))) }
     {
         self.name(name)?;
         value.write_json(self)
@@ -178,7 +186,8 @@ impl JsonText {
         name: &str,
         value: Option<T>,
     ) -> Result<(), AllocError>
-        ensures { OnOk result (self.new ≡ self.old ++ field_tokens name.now (option_map T.value value)) }
+        ensures { OnOk result (self.new ≡ self.old ++ field_tokens name.now
+            (option_map T.value value)) }
     {
         match value {
             Some(value) => self.member(name, &value),
@@ -205,7 +214,8 @@ impl JsonText {
     }
 
     fn items<T: WriteJson>(&mut self, items: &[T]) -> Result<(), AllocError>
-        ensures { OnOk result (self.new ≡ self.old ++ flat_map (λ x. data_tokens (T.value x)) items.now) }
+        ensures { OnOk result (self.new ≡ self.old ++ flat_map
+            (λ x. data_tokens (T.value x)) items.now) }
     {
         for item in items {
             item.write_json(self)?;

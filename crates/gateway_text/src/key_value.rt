@@ -4,20 +4,21 @@ use crate::json_text::{JsonText, WriteJson};
 use range_view::reply::KvRef;
 use std::alloc::AllocError;
 
-/// The bytes of a key-value's text without its numbers, its key and its value: five names, and the comma before it.
-const NAMES: usize = 74;
+/// The bytes of a key-value's text without its numbers, its key and its value: five names, and the
+/// comma before it.
+const KEY_VALUE_NAMES: usize = 74;
 
 /// The bytes of a lease, at most: its name, nineteen digits and a sign.
 const LEASE: usize = 31;
 
 /// Room for the text of a key-value: base64 has four symbols for three bytes.
-pub(crate) fn room_of(kv: &KvRef<'_>) -> usize {
+pub(crate) fn room_of_kv(kv: &KvRef<'_>) -> usize {
     let groups = kv.key.len() / 3 + kv.value.len() / 3 + 2;
     let lease = if kv.lease == 0 { 0 } else { LEASE };
     let numbers = digits(kv.create) + digits(kv.modified) + digits(kv.version);
     groups
         .saturating_mul(4)
-        .saturating_add(NAMES + numbers + lease)
+        .saturating_add(KEY_VALUE_NAMES + numbers + lease)
 }
 
 /// A key-value (the etcd documentation's KeyValue).

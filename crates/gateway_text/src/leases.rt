@@ -1,4 +1,5 @@
-//! The bodies of the answers about leases (the etcd documentation's API reference: LeaseGrantResponse and the like).
+//! The bodies of the answers about leases (the etcd documentation's API reference:
+//! LeaseGrantResponse and the like).
 //!
 //! Each function here fails for want of memory alone, and costs as those of the other answers do.
 ghost use Rattle.std.specs.Prelude.{◌≡◌, ◌++◌, map, codes, IfOk, OnOk};
@@ -6,7 +7,8 @@ ghost use Rattle.kv_model.specs.Told as told;
 ghost use Rattle.kv_model.specs.Answers as texts;
 ghost use Rattle.kv_model.specs.Answers.{answered, int_field};
 ghost use Rattle.gateway_text.specs.Tokens.{data_tokens, field_tokens};
-ghost use Rattle.gateway_text.specs.Views.{header_data, lease_data, leases_data, seconds_view, time_left_data};
+ghost use Rattle.gateway_text.specs.Views.{header_data, lease_data, leases_data};
+ghost use Rattle.gateway_text.specs.Views.{seconds_view, time_left_data};
 
 use crate::answers::FRAME;
 use crate::header::Header;
@@ -17,7 +19,8 @@ use std::alloc::{AllocError, Global};
 /// The bytes of a lease in a list, at most.
 const ITEM: usize = 32;
 
-/// The body of a LeaseGrant's answer, with the revision after it, and the lease's ID and its time to live in seconds.
+/// The body of a LeaseGrant's answer, with the revision after it, and the lease's ID and its time
+/// to live in seconds.
 #[tactic(auto, using(crate::proofs::Objects::written), unfolding(kv_model::specs::Answers::reply_text, crate::specs::Views::lease_data))]
 pub fn granted_text(
     alloc: Global,
@@ -45,8 +48,8 @@ pub fn revoked_text(alloc: Global, revision: u64, ids: &Ids) -> Result<Vec<u8>, 
     Ok(out.into_bytes())
 }
 
-/// The body of a LeaseKeepAlive's answer, with the revision of the store, and the lease's ID and its time to live in
-/// seconds, which is 0 where no lease has the ID.
+/// The body of a LeaseKeepAlive's answer, with the revision of the store, and the lease's ID and
+/// its time to live in seconds, which is 0 where no lease has the ID.
 #[tactic(auto, using(crate::proofs::Objects::written), unfolding(kv_model::specs::Answers::reply_text, crate::specs::Views::lease_data))]
 pub fn renewed_text(
     alloc: Global,
@@ -58,16 +61,18 @@ pub fn renewed_text(
     ensures { IfOk result (λ v. v.items ≡ (answered ids.now
         (record { reply = told.Reply.keep_alive id ttl; revision = revision })).body) }
 {
+    let header = Header::Whole(*ids, revision);
     let mut out = JsonText::with_capacity(alloc, FRAME)?;
-    write_renewed(&mut out, &Header::Whole(*ids, revision), id, ttl)?;
+    write_renewed(&mut out, &Renewed { header, id, ttl })?;
     Ok(out.into_bytes())
 }
 
 /// The body of a LeaseTimeToLive's answer, with the revision of the store and the lease's ID.
 ///
-/// `seconds` are those that the lease still has, and `None` where no lease has the ID, which is told as -1. `granted` is
-/// the time to live that was granted, in seconds, and 0 where there is no lease. `keys` are the lease's keys, where they
-/// were asked for.
+/// `seconds` are those that the lease still has, and `None` where no lease has the ID, which is
+/// told as -1. `granted` is
+/// the time to live that was granted, in seconds, and 0 where there is no lease. `keys` are the
+/// lease's keys, where they were asked for.
 #[tactic(auto, using(crate::proofs::Objects::written), unfolding(kv_model::specs::Answers::reply_text, crate::specs::Views::time_left_data))]
 pub fn time_left_text(
     alloc: Global,
@@ -79,9 +84,13 @@ pub fn time_left_text(
     ids: &Ids,
 ) -> Result<Vec<u8>, AllocError>
     ensures { IfOk result (λ v. v.items ≡ (answered ids.now
-        (record { reply = told.Reply.time_to_live id (seconds_view seconds) granted (map (λ k. k.now) keys.now); revision = revision })).body) }
+        (record {
+          reply = told.Reply.time_to_live id (seconds_view seconds) granted
+              (map (λ k. k.now) keys.now);
+          revision = revision;
+        })).body) }
 {
-    let mut out = JsonText::with_capacity(alloc, room_for(keys))?;
+    let mut out = JsonText::with_capacity(alloc, room_for_keys(keys))?;
     let header = Header::Whole(*ids, revision);
     write_time_left(&mut out, &header, id, seconds, granted, keys)?;
     Ok(out.into_bytes())
@@ -105,7 +114,8 @@ pub fn leases_text(
 }
 
 fn write_header_alone(out: &mut JsonText, header: &Header) -> Result<(), AllocError>
-    ensures { OnOk result (out.new ≡ out.old ++ data_tokens (texts.header_alone (header_data header.now))) }
+    ensures { OnOk result (out.new ≡ out.old ++ data_tokens
+        (texts.header_alone (header_data header.now))) }
 {
     out.begin_object()?;
     out.member("header", header)?;
@@ -113,7 +123,8 @@ fn write_header_alone(out: &mut JsonText, header: &Header) -> Result<(), AllocEr
 }
 
 fn write_lease(out: &mut JsonText, header: &Header, id: i64, ttl: u64) -> Result<(), AllocError>
-    ensures { OnOk result (out.new ≡ out.old ++ data_tokens (lease_data (header_data header.now) id ttl)) }
+    ensures { OnOk result (out.new ≡ out.old ++ data_tokens
+        (lease_data (header_data header.now) id ttl)) }
 {
     out.begin_object()?;
     out.signed_member("ID", id)?;
@@ -140,17 +151,12 @@ impl WriteJson for Renewed {
     }
 }
 
-fn write_renewed(out: &mut JsonText, header: &Header, id: i64, ttl: u64) -> Result<(), AllocError>
-    ensures { OnOk result (out.new
-        ≡ out.old ++ data_tokens (texts.result_text (lease_data (header_data header.now) id ttl))) }
+fn write_renewed(out: &mut JsonText, renewed: &Renewed) -> Result<(), AllocError>
+    ensures { OnOk result (out.new ≡ out.old ++ data_tokens (texts.result_text
+        (lease_data (header_data renewed.now.header) renewed.now.id renewed.now.ttl))) }
 {
-    let renewed = Renewed {
-        header: *header,
-        id,
-        ttl,
-    };
     out.begin_object()?;
-    out.member("result", &renewed)?;
+    out.member("result", renewed)?;
     out.end_object()
 }
 
@@ -163,7 +169,8 @@ fn write_time_left(
     keys: &[&[u8]],
 ) -> Result<(), AllocError>
     ensures { OnOk result (out.new
-        ≡ out.old ++ data_tokens (time_left_data (header_data header.now) id (seconds_view seconds) granted (map (λ k. k.now) keys.now))) }
+        ≡ out.old ++ data_tokens (time_left_data (header_data header.now) id
+        (seconds_view seconds) granted (map (λ k. k.now) keys.now))) }
 {
     out.begin_object()?;
     out.signed_member("ID", id)?;
@@ -176,7 +183,8 @@ fn write_time_left(
 
 /// The seconds that a lease still has, and -1 where there is no lease.
 fn write_seconds(out: &mut JsonText, seconds: Option<u64>) -> Result<(), AllocError>
-    ensures { OnOk result (out.new ≡ out.old ++ field_tokens (codes "TTL") (int_field (seconds_view seconds))) }
+    ensures { OnOk result (out.new ≡ out.old ++ field_tokens (codes "TTL")
+        (int_field (seconds_view seconds))) }
 {
     match seconds {
         Some(seconds) => out.number_member("TTL", seconds),
@@ -185,7 +193,8 @@ fn write_seconds(out: &mut JsonText, seconds: Option<u64>) -> Result<(), AllocEr
 }
 
 fn write_leases(out: &mut JsonText, header: &Header, leases: &[i64]) -> Result<(), AllocError>
-    ensures { OnOk result (out.new ≡ out.old ++ data_tokens (leases_data (header_data header.now) leases.now)) }
+    ensures { OnOk result (out.new ≡ out.old ++ data_tokens
+        (leases_data (header_data header.now) leases.now)) }
 {
     out.begin_object()?;
     out.member("header", header)?;
@@ -207,7 +216,7 @@ impl WriteJson for i64 {
 }
 
 /// Room for a body with these keys: base64 has four symbols for three bytes.
-fn room_for(keys: &[&[u8]]) -> usize {
+fn room_for_keys(keys: &[&[u8]]) -> usize {
     let mut room = FRAME;
     for key in keys {
         room = room.saturating_add((key.len() / 3).saturating_mul(4).saturating_add(ITEM));

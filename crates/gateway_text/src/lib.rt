@@ -1,4 +1,22 @@
-//! The bodies of the JSON gateway's answers and refusals, written straight into bytes: no tree of values is built.
+//! The bodies of the JSON gateway's answers and refusals, written straight into bytes: no tree of
+//! values is built.
+//!
+//! The one contract is that of each `.._text` function: the bytes are `answered` of `kv_model`,
+//! the compact text of the answer's value, for every reply, revision and numbers of the member. A
+//! body that fails was not given, and fails for want of memory alone. `json_gateway` picks the
+//! function for each reply, and the [`Wording`] for each refusal. For example, with member 2 of
+//! cluster 1 at revision 5, a Put that replaced nothing is told as
+//!
+//! ```text
+//! put_text(alloc, 5, None, &ids)
+//! {"header":{"cluster_id":"1","member_id":"2","raft_term":"1","revision":"5"}}
+//! ```
+//!
+//! A member at its default, as a count of 0, is left out, and numbers of 64 bits are strings.
+//! Within, a body is a list of JSON tokens ([`json_text`]): each `write_..` function appends those
+//! of one value, and the text of the tokens is the body.
+//!
+//! The tests stand in the crate `gateway_calls`, in `src/texts.rt`.
 #![tactic(auto)]
 
 mod answers;

@@ -2,7 +2,8 @@
 ghost use Rattle.std.specs.Prelude.{◌≡◌, ℕ, ◌++◌, IfOk, OnOk, string_bytes};
 ghost use Rattle.kv_model.specs.declared.refusal.Refusal.TheVariants.{Memory};
 ghost use Rattle.kv_model.specs.Requests as requests;
-ghost use Rattle.kv_model.specs.Answers.{fault, fault_of, fault_of_bad, lost_fault, fault_text, refused};
+ghost use Rattle.kv_model.specs.Answers.{fault, fault_of, fault_of_bad};
+ghost use Rattle.kv_model.specs.Answers.{lost_fault, fault_text, refused};
 ghost use Rattle.gateway_text.specs.Tokens.{data_tokens};
 ghost use Rattle.gateway_text.specs.Views.{wording_view};
 
@@ -11,7 +12,7 @@ use kv_model::refusal::Refusal;
 use std::alloc::{AllocError, Global};
 
 /// The bytes of a refusal's body without its texts, at most.
-const FRAME: usize = 64;
+const REFUSAL_FRAME: usize = 64;
 
 /// What a refusal says.
 #[derive(Clone, Copy, Debug)]
@@ -122,7 +123,8 @@ pub fn refusal_wording(refusal: Refusal) -> Wording<'static>
     }
 }
 
-/// The body that says this: `{"code":N,"error":TEXT,"message":TEXT}`. The only error is want of memory.
+/// The body that says this: `{"code":N,"error":TEXT,"message":TEXT}`. The only error is want of
+/// memory.
 ///
 /// Two allocations, and time for the bytes of the body.
 #[tactic(auto, using(crate::proofs::Objects::written))]
@@ -130,7 +132,7 @@ pub fn refusal_text(alloc: Global, wording: &Wording<'_>) -> Result<Vec<u8>, All
     ensures { IfOk result (λ v. v.items ≡ (refused (wording_view wording.now)).body) }
 {
     let text = joined(alloc, wording.text, wording.name)?;
-    let room = text.len().saturating_mul(2).saturating_add(FRAME);
+    let room = text.len().saturating_mul(2).saturating_add(REFUSAL_FRAME);
     let mut out = JsonText::with_capacity(alloc, room)?;
     write_refusal(&mut out, wording.code, text.as_str())?;
     Ok(out.into_bytes())
@@ -162,12 +164,15 @@ fn write_refusal(out: &mut JsonText, code: u16, text: &str) -> Result<(), AllocE
 pub fn memory_text() -> &'static [u8]
     ensures { result.now ≡ (refused (fault_of Memory)).body }
 {
-    b"{\"code\":13,\"error\":\"etcdserver: out of memory\",\"message\":\"etcdserver: out of memory\"}"
+    b"{\"code\":13,\"error\":\"etcdserver: out of memory\",\
+      \"message\":\"etcdserver: out of memory\"}"
 }
 
-/// The body that says that a change stands though its answer is lost, of status 500. Takes no memory.
+/// The body that says that a change stands though its answer is lost, of status 500. Takes no
+/// memory.
 pub fn lost_text() -> &'static [u8]
     ensures { result.now ≡ (refused lost_fault).body }
 {
-    b"{\"code\":13,\"error\":\"etcdserver: answer lost, the change stands\",\"message\":\"etcdserver: answer lost, the change stands\"}"
+    b"{\"code\":13,\"error\":\"etcdserver: answer lost, the change stands\",\
+      \"message\":\"etcdserver: answer lost, the change stands\"}"
 }

@@ -8,7 +8,7 @@ ghost use Rattle.range_view.specs.Replies.{kv_view, reply_view, replies_view};
 ghost use Rattle.gateway_text.specs.Tokens.{data_tokens, field_tokens};
 ghost use Rattle.gateway_text.specs.Views.{header_data, response_of};
 
-use crate::answers::{NAMES, frame_of, room_for, write_delete, write_put, write_range};
+use crate::answers::{ANSWER_NAMES, frame_of, room_for, write_delete, write_put, write_range};
 use crate::header::{Header, digits};
 use crate::json_text::JsonText;
 use kv_model::ids::Ids;
@@ -18,11 +18,11 @@ use std::alloc::{AllocError, Global};
 /// The bytes of the names of a response, at most: those of its kind and of its header.
 const RESPONSE: usize = 56;
 
-/// The body of a Txn's answer, with the revision after it, whether its compares held, and the answers to the operations
-/// that ran, in order.
+/// The body of a Txn's answer, with the revision after it, whether its compares held, and the
+/// answers to the operations that ran, in order.
 ///
-/// Fails for want of memory alone, and costs as the other answers do, with a stack as deep as transactions lie in one
-/// another.
+/// Fails for want of memory alone, and costs as the other answers do, with a stack as deep as
+/// transactions lie in one another.
 #[tactic(auto, using(crate::proofs::Objects::written), unfolding(kv_model::specs::Answers::reply_text))]
 pub fn txn_text(
     alloc: Global,
@@ -32,7 +32,10 @@ pub fn txn_text(
     ids: &Ids,
 ) -> Result<Vec<u8>, AllocError>
     ensures { IfOk result (λ v. v.items ≡ (answered ids.now
-        (record { reply = told.Reply.txn succeeded (replies_view replies.now); revision = revision })).body) }
+        (record {
+          reply = told.Reply.txn succeeded (replies_view replies.now);
+          revision = revision;
+        })).body) }
 {
     let frame = frame_of(ids, revision, 0);
     let mut out = JsonText::with_capacity(alloc, room_of_all(replies, revision, frame))?;
@@ -50,7 +53,8 @@ fn write_txn(
     replies: &[OpReply<'_>],
 ) -> Result<(), AllocError>
     ensures { OnOk result (out.new
-        ≡ out.old ++ data_tokens (texts.txn_text (header_data header.now) succeeded (texts.responses revision (replies_view replies.now)))) }
+        ≡ out.old ++ data_tokens (texts.txn_text (header_data header.now) succeeded
+        (texts.responses revision (replies_view replies.now)))) }
 {
     out.begin_object()?;
     out.member("header", header)?;
@@ -67,7 +71,8 @@ fn write_responses(
     replies: &[OpReply<'_>],
 ) -> Result<(), AllocError>
     ensures { OnOk result (out.new
-        ≡ out.old ++ field_tokens (codes "responses") (list_field (map (response_of revision) replies.now))) }
+        ≡ out.old ++ field_tokens (codes "responses")
+        (list_field (map (response_of revision) replies.now))) }
 {
     if replies.is_empty() {
         return Ok(());
@@ -89,7 +94,8 @@ fn write_items(out: &mut JsonText, revision: u64, replies: &[OpReply<'_>]) -> Re
     Ok(())
 }
 
-/// What an operation is answered, under the name of its kind. The header is that of the whole transaction, cut short.
+/// What an operation is answered, under the name of its kind. The header is that of the whole
+/// transaction, cut short.
 #[cycle(responses)]
 fn write_response(out: &mut JsonText, revision: u64, reply: &OpReply<'_>) -> Result<(), AllocError>
     ensures { OnOk result (out.new ≡ out.old ++ data_tokens (response_of revision reply.now)) }
@@ -115,7 +121,9 @@ fn write_txn_response(
     replies: &[OpReply<'_>],
 ) -> Result<(), AllocError>
     ensures { OnOk result (out.new
-        ≡ out.old ++ data_tokens (texts.response (codes "response_txn") (texts.txn_text (texts.short_header revision) succeeded (texts.responses revision (replies_view replies.now))))) }
+        ≡ out.old ++ data_tokens (texts.response (codes "response_txn")
+        (texts.txn_text (texts.short_header revision) succeeded
+        (texts.responses revision (replies_view replies.now))))) }
 {
     out.begin_object()?;
     out.name("response_txn")?;
@@ -129,7 +137,8 @@ fn write_range_response(
     reply: &RangeReply<'_>,
 ) -> Result<(), AllocError>
     ensures { OnOk result (out.new
-        ≡ out.old ++ data_tokens (texts.response (codes "response_range") (texts.range_text (header_data header.now) (reply_view reply.now)))) }
+        ≡ out.old ++ data_tokens (texts.response (codes "response_range")
+        (texts.range_text (header_data header.now) (reply_view reply.now)))) }
 {
     out.begin_object()?;
     out.name("response_range")?;
@@ -143,7 +152,8 @@ fn write_put_response(
     previous: Option<KvRef<'_>>,
 ) -> Result<(), AllocError>
     ensures { OnOk result (out.new
-        ≡ out.old ++ data_tokens (texts.response (codes "response_put") (texts.put_text (header_data header.now) (option_map kv_view previous.entry)))) }
+        ≡ out.old ++ data_tokens (texts.response (codes "response_put")
+        (texts.put_text (header_data header.now) (option_map kv_view previous.entry)))) }
 {
     out.begin_object()?;
     out.name("response_put")?;
@@ -158,7 +168,8 @@ fn write_delete_response(
     previous: &[KvRef<'_>],
 ) -> Result<(), AllocError>
     ensures { OnOk result (out.new
-        ≡ out.old ++ data_tokens (texts.response (codes "response_delete_range") (texts.delete_text (header_data header.now) deleted (map kv_view previous.now)))) }
+        ≡ out.old ++ data_tokens (texts.response (codes "response_delete_range")
+        (texts.delete_text (header_data header.now) deleted (map kv_view previous.now)))) }
 {
     out.begin_object()?;
     out.name("response_delete_range")?;
@@ -180,12 +191,15 @@ fn room_of_all(replies: &[OpReply<'_>], revision: u64, room: usize) -> usize {
 fn room_of_one(reply: &OpReply<'_>, revision: u64) -> usize {
     let response = RESPONSE + digits(revision);
     match reply {
-        OpReply::Range(reply) => room_for(response + NAMES + digits(reply.count), &reply.kvs),
+        OpReply::Range(reply) => room_for(
+            response + ANSWER_NAMES + digits(reply.count),
+            &reply.kvs,
+        ),
         OpReply::Put(Some(kv)) => room_for(response, &[*kv]),
         OpReply::Put(None) => response,
         OpReply::Delete { deleted, previous } => {
-            room_for(response + NAMES + digits(*deleted), previous)
+            room_for(response + ANSWER_NAMES + digits(*deleted), previous)
         }
-        OpReply::Inner { replies, .. } => room_of_all(replies, revision, response + NAMES),
+        OpReply::Inner { replies, .. } => room_of_all(replies, revision, response + ANSWER_NAMES),
     }
 }

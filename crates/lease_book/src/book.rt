@@ -79,10 +79,8 @@ impl LeaseBook {
     /// far. An earlier one changes nothing, and one above 2^62 counts as 2^62. Takes no memory.
     /// Constant time.
     pub fn moment(&mut self, now: u64) -> u64
-        ensures clock { self.new ≡ record self.old {
-          clock = max self.old.clock
-              (min now (2 ^ 62));
-        } }
+        ensures clock { self.new
+            ≡ record self.old { clock = max self.old.clock (min now (2 ^ 62)) } }
         ensures answer { result ≡ self.new.clock }
     {
         self.clock = self.clock.max(now.min(LAST_MOMENT));
@@ -114,11 +112,9 @@ impl LeaseBook {
         ensures allowed { OnOk result (refusal_of self.old ttl id ≡ None) }
         ensures answer { IfOk result (λ g. g
             ≡ record { id = id_asked self.old.leases id; ttl = ttl_asked ttl }) }
-        ensures granted { OnOk result
-            (self.new ≡ record self.old {
-              leases = insert_lease
-                  (lease_asked self.old ttl id) self.old.leases;
-            }) }
+        ensures granted { OnOk result (self.new ≡ record self.old {
+          leases = insert_lease (lease_asked self.old ttl id) self.old.leases;
+        }) }
         ensures refused { IfErr result (λ e. (refusal_of self.old ttl id ≡ Some e)
             ⊎ ((refusal_of self.old ttl id ≡ None) × (e ≡ Memory))) }
         ensures unchanged { OnErr result (self.new ≡ self.old) }
@@ -174,10 +170,8 @@ impl LeaseBook {
     /// Logarithmic time (etcd: LeaseKeepAlive).
     pub fn keep_alive(&mut self, id: i64) -> Option<u64>
         ensures ttl { result ≡ option_map (λ l. l.ttl) (lease_at self.old.leases id) }
-        ensures leases { self.new ≡ record self.old {
-          leases = map
-              (renewed self.old.clock id) self.old.leases;
-        } }
+        ensures leases { self.new
+            ≡ record self.old { leases = map (renewed self.old.clock id) self.old.leases } }
     {
         let clock = self.clock;
         self.leases.renew(id, clock)

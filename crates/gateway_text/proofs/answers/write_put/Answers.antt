@@ -7,5 +7,6 @@ pub returns : goal.returns
 unfolding put_text
 returns c =
     on_ok c.end_object.result _ _
-    (λ e. e ∙ simp (c.in_ok-begin_object.ensures, c.in_ok-member.ensures, c.in_ok-optional_member.ensures, append_assoc, member_tokens, option_map-option_map))
+    (λ e. e ∙ rw (c.in_ok-optional_member.ensures, c.in_ok-member.ensures, c.in_ok-begin_object.ensures)
+    (simp (append_assoc, member_tokens, option_map-option_map)))
     c.end_object.ensures

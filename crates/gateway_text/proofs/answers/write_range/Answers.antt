@@ -7,5 +7,7 @@ pub returns : goal.returns
 unfolding range_text
 returns c =
     on_ok c.end_object.result _ _
-    (λ e. e ∙ simp (c.in_ok-begin_object.ensures, c.in_ok-number_member.ensures, c.in_ok-member.ensures, c.in_ok-list_member.ensures, c.in_ok-truth_member.ensures, append_assoc, member_tokens, map-map, c.deref.ensures.value))
+    (λ e. e ∙ rw (c.in_ok-truth_member.ensures, c.in_ok-list_member.ensures, c.in_ok-member.ensures)
+    (rw (c.in_ok-number_member.ensures, c.in_ok-begin_object.ensures)
+    (simp (append_assoc, member_tokens, map-map, c.deref.ensures.value))))
     c.end_object.ensures

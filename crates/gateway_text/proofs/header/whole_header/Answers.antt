@@ -7,5 +7,6 @@ pub returns : goal.returns
 unfolding header
 returns c =
     on_ok c.end_object.result _ _
-    (λ e. e ∙ simp (c.in_ok-begin_object.ensures, c.in_ok-number_member.ensures, c.in_ok-number_member-2.ensures, c.in_ok-number_member-3.ensures, c.in_ok-number_member-4.ensures, append_assoc, member_tokens))
+    (λ e. e ∙ rw (c.in_ok-number_member-4.ensures, c.in_ok-number_member-3.ensures, c.in_ok-number_member-2.ensures)
+    (rw (c.in_ok-number_member.ensures, c.in_ok-begin_object.ensures) (simp (append_assoc, member_tokens))))
     c.end_object.ensures

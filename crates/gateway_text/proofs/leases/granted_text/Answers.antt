@@ -10,4 +10,5 @@ pub returns : goal.returns
 unfolding reply_text lease_data
 returns c =
     let made = rw (to_z-of_z w64 c.args.id c.ranges.id) at c.in_ok-write_lease.ensures in
-    written _ _ _ (reply_text (header c.args.ids.now c.args.revision) c.args.revision (Reply.grant c.args.id c.args.ttl)) c.into_bytes.ensures made c.in_ok-out.ensures
+    written _ _ _ (reply_text (header c.args.ids.now c.args.revision) c.args.revision (Reply.grant c.args.id c.args.ttl))
+    c.into_bytes.ensures made c.in_ok-out.ensures

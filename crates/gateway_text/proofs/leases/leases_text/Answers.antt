@@ -7,4 +7,5 @@ use Rattle.gateway_text.proofs.leases.leases_text.Goals as goal
 pub returns : goal.returns
 unfolding reply_text leases_data
 returns c =
-    written _ _ _ (reply_text (header c.args.ids.now c.args.revision) c.args.revision (Reply.leases c.args.leases.now)) c.into_bytes.ensures c.in_ok-write_leases.ensures c.in_ok-out.ensures
+    written _ _ _ (reply_text (header c.args.ids.now c.args.revision) c.args.revision (Reply.leases c.args.leases.now)) c.into_bytes.ensures
+    c.in_ok-write_leases.ensures c.in_ok-out.ensures

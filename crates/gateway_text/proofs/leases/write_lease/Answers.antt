@@ -10,5 +10,6 @@ unfolding lease_data
 returns c =
     let id = rw (to_z-of_z w64 c.args.id c.ranges.id) at c.in_ok-signed_member.ensures in
     on_ok c.end_object.result _ _
-    (λ e. e ∙ rw (c.in_ok-member.ensures, c.in_ok-number_member.ensures, id, c.in_ok-begin_object.ensures) (simp (append_assoc, member_tokens)))
+    (λ e. e ∙ rw (c.in_ok-member.ensures, c.in_ok-number_member.ensures, id, c.in_ok-begin_object.ensures)
+    (simp (append_assoc, member_tokens)))
     c.end_object.ensures

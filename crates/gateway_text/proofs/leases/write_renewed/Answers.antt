@@ -1,6 +1,4 @@
 use Rattle.std.proofs.Common.{◌∙◌, append_assoc}
-use Rattle.std.specs.Int.{w64}
-use Rattle.std.proofs.lemmas.Int.{to_z-of_z}
 use Rattle.kv_model.specs.Answers.{result_text}
 use Rattle.gateway_text.proofs.Objects.{on_ok, member_tokens}
 use Rattle.gateway_text.proofs.leases.write_renewed.Goals as goal
@@ -8,7 +6,6 @@ use Rattle.gateway_text.proofs.leases.write_renewed.Goals as goal
 pub returns : goal.returns
 unfolding result_text
 returns c =
-    let lease = rw (to_z-of_z w64 c.args.id c.ranges.id) at c.in_ok-member.ensures in
     on_ok c.end_object.result _ _
-    (λ e. e ∙ rw (lease, c.in_ok-begin_object.ensures) (simp (append_assoc, member_tokens)))
+    (λ e. e ∙ rw (c.in_ok-member.ensures, c.in_ok-begin_object.ensures) (simp (append_assoc, member_tokens)))
     c.end_object.ensures

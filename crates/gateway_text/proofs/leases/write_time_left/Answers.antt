@@ -14,8 +14,12 @@ returns c =
     let id = rw (to_z-of_z w64 c.args.id c.ranges.id) at c.in_ok-signed_member.ensures in
     let keys = rw (← (map-map bytes_text (λ (k : Bor (List ℕ)). k.now) c.args.keys.now)) at c.in_ok-list_member.ensures in
     let fields : List (List ℕ × Option Data) =
-    (codes "ID", int_field c.args.id) ∷ (codes "TTL", int_field (seconds_view c.args.seconds)) ∷ (codes "grantedTTL", nat_field c.args.granted)
-    ∷ (codes "header", Some (header_data c.args.header.now)) ∷ (codes "keys", list_field (map bytes_text (map (λ (k : Bor (List ℕ)). k.now) c.args.keys.now))) ∷ [] in
+    (codes "ID", int_field c.args.id) ∷ (codes "TTL", int_field (seconds_view c.args.seconds))
+    ∷ (codes "grantedTTL", nat_field c.args.granted)
+    ∷ (codes "header", Some (header_data c.args.header.now))
+    ∷ (codes "keys", list_field (map bytes_text (map (λ (k : Bor (List ℕ)). k.now) c.args.keys.now))) ∷ [] in
     on_ok c.end_object.result _ _
-    (λ e. by_fields c.args.out.now c.end_object.new.self fields (e ∙ rw (keys, c.in_ok-member.ensures, c.in_ok-number_member.ensures, c.in_ok-write_seconds.ensures, id, c.in_ok-begin_object.ensures) (simp append_assoc)))
+    (λ e. by_fields c.args.out.now c.end_object.new.self fields
+    (e ∙ rw (keys, c.in_ok-member.ensures, c.in_ok-number_member.ensures, c.in_ok-write_seconds.ensures)
+    (rw (id, c.in_ok-begin_object.ensures) (simp append_assoc))))
     c.end_object.ensures

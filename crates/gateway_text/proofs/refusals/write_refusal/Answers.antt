@@ -7,5 +7,6 @@ pub returns : goal.returns
 unfolding fault_text
 returns c status =
     on_ok c.end_object.result _ _
-    (λ e. e ∙ simp (c.in_ok-begin_object.ensures, c.in_ok-code_member.ensures, c.in_ok-string_member.ensures, c.in_ok-string_member-2.ensures, append_assoc, member_tokens))
+    (λ e. e ∙ rw (c.in_ok-string_member-2.ensures, c.in_ok-string_member.ensures, c.in_ok-code_member.ensures)
+    (rw c.in_ok-begin_object.ensures (simp (append_assoc, member_tokens))))
     c.end_object.ensures

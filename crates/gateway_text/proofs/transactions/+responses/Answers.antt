@@ -9,13 +9,16 @@ pub write_txn-returns : goal.write_txn-returns
 unfolding txn_text
 write_txn-returns t c =
     on_ok c.end_object.result _ _
-    (λ e. e ∙ simp (c.in_ok-begin_object.ensures, c.in_ok-member.ensures, c.in_ok-write_responses.ensures, c.in_ok-truth_member.ensures, append_assoc, member_tokens, each))
+    (λ e. e ∙ rw (c.in_ok-truth_member.ensures, c.in_ok-write_responses.ensures, c.in_ok-member.ensures)
+    (rw c.in_ok-begin_object.ensures (simp (append_assoc, member_tokens, each))))
     c.end_object.ensures
 
 pub write_responses-returns : goal.write_responses-returns
 write_responses-returns t c =
     on_ok c.end_array.result _ _
-    (λ e. e ∙ rw (c.in_ok-write_items.ensures, c.in_ok-begin_array.ensures, c.in_ok-name.ensures, list_tokens (response_of c.args.revision) _ c.args.replies.now (sym c.is_empty.ensures ∙ c.if-is_empty.false)) (simp append_assoc))
+    (λ e. e ∙ rw (c.in_ok-write_items.ensures, c.in_ok-begin_array.ensures, c.in_ok-name.ensures)
+    (rw (list_tokens (response_of c.args.revision) _ c.args.replies.now (sym c.is_empty.ensures ∙ c.if-is_empty.false))
+    (simp append_assoc)))
     c.end_array.ensures
 
 pub write_txn_response-returns : goal.write_txn_response-returns

@@ -5,4 +5,5 @@ use Rattle.gateway_text.specs.Views.{response_of}
 use Rattle.gateway_text.proofs.transactions.+responses.Given as goal
 
 abbrev pub invariant-write_items-loop-reply : goal.invariant-write_items-loop-reply
-invariant-write_items-loop-reply l = l.out ≡ l.initial.out ++ flat_map (λ o. data_tokens (response_of l.revision o)) (take l.reply-index l.replies)
+invariant-write_items-loop-reply l = l.out ≡ l.initial.out ++ flat_map (λ o. data_tokens (response_of l.revision o))
+    (take l.reply-index l.replies)

@@ -11,5 +11,7 @@ unfolding key_value_text
 returns c =
     let lease = simp (to_z-of_z w64 c.args.self.now.lease (search rules)) at c.in_ok-signed_member.ensures in
     on_ok c.end_object.result _ _
-    (λ e. e ∙ rw (c.in_ok-number_member-3.ensures, c.in_ok-bytes_member-2.ensures, c.in_ok-number_member-2.ensures, lease, c.in_ok-bytes_member.ensures, c.in_ok-number_member.ensures, c.in_ok-begin_object.ensures) (simp (append_assoc, member_tokens)))
+    (λ e. e ∙ rw (c.in_ok-number_member-3.ensures, c.in_ok-bytes_member-2.ensures, c.in_ok-number_member-2.ensures, lease)
+    (rw (c.in_ok-bytes_member.ensures, c.in_ok-number_member.ensures, c.in_ok-begin_object.ensures)
+    (simp (append_assoc, member_tokens))))
     c.end_object.ensures
