@@ -1,15 +1,17 @@
 -- Watches at places: what is listed, and how the list changes.
 use Rattle.std.proofs.Common.{◌≡◌, ◌≢◌, ℕ, zero, suc, ◌+◌, ◌<◌, ◌≤◌, List, [], ◌∷◌, ◌++◌, map, filter, get_or, Bool, true, false, not, ◌&&◌, ◌==◌, cond, Option, None, Some, option_map, option_and_then, refl, sym, ◌∙◌, ap, arith}
-use Rattle.std.specs.Prelude.{unwrap_or, is_some}
+use Rattle.std.specs.Prelude.{unwrap_or, is_some, IfSome, OnSome}
 use Rattle.std.specs.List.{AllByRecursion, remove}
 use Rattle.std.proofs.lemmas.Bool.Decides.{nat_tests}
 use Rattle.kv_model.specs.declared.version.Version.{Version}
 use Rattle.store_laws.specs.Stands.{Tracked, noted, first_main_of, still_ahead, is_reached}
 use Rattle.kv_model.specs.Events.{matches}
 use Rattle.std.specs.Option.{option_or}
+use Rattle.slab.specs.Slab.{Slab, get, slab_len}
+use Rattle.watch_hub.specs.declared.entry.Entry.{Entry}
 use Rattle.watch_hub.specs.declared.entries.Place.{Place}
 use Rattle.watch_hub.specs.Hub.{has_number, tracked_at, without_tracked}
-use Rattle.watch_hub.specs.Entries.{AreUpTo, no_watch, listed, AreAscending, ArePlaced, index_of, key_of}
+use Rattle.watch_hub.specs.Entries.{AreUpTo, tracked_of, seen_in, no_watch, listed, AreAscending, ArePlaced, index_of, key_of}
 
 abbrev pub number_of : Option Tracked → Option ℕ
 number_of o = option_map (λ t. t.number) o
@@ -231,6 +233,18 @@ pub removed : (seen new : ℕ → Option Tracked) (n i : ℕ) (d : Place) (ps : 
 removed seen new n i d ps h e k o =
     let done = taken seen new n (get_or ps i d).key (key-number seen n ps (get_or ps i d).key h.present k) o ps i h.ascending h.present e in
     (done.0, record { ascending = ascending-removed ps i h.ascending; present = done.1 })
+
+-- the slab has the watch of a number that was found, so one less is left in it
+pub one-less : (s : Slab Entry) (n key left : ℕ) (ps : List Place) → ArePresent (seen_in s) ps → key_of n ps ≡ Some key
+    → (o : Option Entry) → o ≡ get s key → OnSome o (left + 1 ≡ slab_len s) → left + 1 ≡ slab_len s
+one-less s n key left ps h e (Some x) g less = less
+one-less s n key left ps h e None g less =
+    let none : None ≡ Some n = ap (λ (o : Option Entry). number_of (option_map tracked_of o)) g ∙ key-number (seen_in s) n ps key h e in
+    absurd (cc)
+
+pub within : (o : Option ℕ) (i n : ℕ) → o ≡ Some i → IfSome o (λ j. j < n) → i < n
+within None i n e h = absurd (cc)
+within (Some j) i n e h = let same : j ≡ i = cc in omega arith
 
 -- no watch of the number
 pub missed : (seen : ℕ → Option Tracked) (n : ℕ) (ps : List Place) → ArePresent seen ps → key_of n ps ≡ None → AllByRecursion (λ t. has_number n t ≡ false) (listed seen ps)

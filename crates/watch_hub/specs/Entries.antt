@@ -1,7 +1,7 @@
 -- Watches at the places of a slab, by number.
-use Rattle.std.specs.Prelude.{◌≡◌, ℕ, suc, ◌<◌, ◌≤◌, pos, List, [], ◌∷◌, map, false, ◌==◌, Option, None, Some, option_map, unwrap_or, if◌then◌else◌, ⊤}
+use Rattle.std.specs.Prelude.{◌≡◌, ℕ, suc, ◌<◌, ◌≤◌, pos, List, [], ◌∷◌, length, map, false, ◌==◌, Option, None, Some, option_map, unwrap_or, if◌then◌else◌, ⊤}
 use Rattle.std.specs.List.{AllByRecursion}
-use Rattle.slab.specs.Slab.{Slab, get}
+use Rattle.slab.specs.Slab.{Slab, get, slab_len}
 use Rattle.kv_model.specs.Events.{plain_watch}
 use Rattle.store_laws.specs.Stands.{Tracked}
 use Rattle.watch_hub.specs.declared.entry.Entry.{Entry}
@@ -31,6 +31,11 @@ AreAscending (p ∷ ps) = AllByRecursion (λ q. p.number < q.number) ps × AreAs
 pub record ArePlaced (seen : ℕ → Option Tracked) (ps : List Place) : Type 0 where
   pub ascending : AreAscending ps
   pub present : AllByRecursion (λ p. option_map (λ t. t.number) (seen p.key) ≡ Some p.number) ps
+
+-- the places have the watches of their numbers, and the slab has no watch beside them
+pub record AreAll (s : Slab Entry) (ps : List Place) : Type 0 where
+  pub placed : ArePlaced (seen_in s) ps
+  pub count : slab_len s ≡ length ps
 
 -- the index of the place with a number, and its key
 abbrev pub index_of : ℕ → List Place → Option ℕ

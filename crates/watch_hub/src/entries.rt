@@ -1,7 +1,7 @@
 //! The watches that stand, each at a place of a slab, found by number.
 ghost use Rattle.std.specs.Prelude.{◌≡◌, ◌≢◌, ℕ, ◌<◌, ◌≤◌, [], ◌∷◌, ◌++◌, length, map, is_some, option_map, option_copied, OnOk, OnErr, IfSome};
 ghost use Rattle.std.specs.List.{AllByRecursion, slice_get};
-ghost use Rattle.slab.specs.Slab.{get};
+ghost use Rattle.slab.specs.Slab.{get, slab_len};
 ghost use Rattle.store_laws.specs.Stands.{noted};
 ghost use Rattle.kv_model.specs.Step.{last_main};
 ghost use Rattle.version_table.specs.Rising.{IsRising};
@@ -21,7 +21,8 @@ pub(crate) struct Place {
     key: usize,
 }
 
-/// The watches that stand, in the order of their numbers. Only `push` takes memory.
+/// The watches that stand, in the order of their numbers. The slab has these and no other: one that ends leaves it. Only `push`
+/// takes memory.
 #[derive(Drop)]
 pub(crate) struct Entries {
     slab: Slab<Entry>,
@@ -31,13 +32,13 @@ pub(crate) struct Entries {
 impl Model for Entries {
     ghost use Rattle.std.specs.Prelude.{List};
     ghost use Rattle.store_laws.specs.Stands.{Tracked};
-    ghost use Rattle.watch_hub.specs.Entries.{seen_in, listed, ArePlaced};
+    ghost use Rattle.watch_hub.specs.Entries.{seen_in, listed, AreAll};
 
     ghost Value = { List Tracked };
 
     ghost view = { λ e. listed (seen_in e.slab) e.places.items };
 
-    ghost invariant = { λ e. ArePlaced (seen_in e.slab) e.places.items };
+    ghost invariant = { λ e. AreAll e.slab e.places.items };
 }
 
 impl Entries {
@@ -151,6 +152,7 @@ fn key_of(places: &[Place], number: u64) -> Option<usize>
 fn note_at(slab: &mut Slab<Entry>, key: usize, versions: &[Version], now: u64)
     ensures here { seen_in slab.new key ≡ option_map (noted versions.now now) (seen_in slab.old key) }
     ensures others { (other : ℕ) → other ≢ key → get slab.new other ≡ get slab.old other }
+    ensures count { slab_len slab.new ≡ slab_len slab.old }
 {
     if let Some(entry) = slab.get_mut(key) {
         entry.note(versions, now);
@@ -159,7 +161,8 @@ fn note_at(slab: &mut Slab<Entry>, key: usize, versions: &[Version], now: u64)
 
 /// The watch under each key takes note.
 fn note_all(slab: &mut Slab<Entry>, versions: &[Version], now: u64)
-    ensures { (key : ℕ) → seen_in slab.new key ≡ option_map (noted versions.now now) (seen_in slab.old key) }
+    ensures each { (key : ℕ) → seen_in slab.new key ≡ option_map (noted versions.now now) (seen_in slab.old key) }
+    ensures count { slab_len slab.new ≡ slab_len slab.old }
 {
     let keys = slab.capacity();
     for key in 0..keys {
@@ -173,6 +176,7 @@ fn advance_at(slab: &mut Slab<Entry>, key: usize, versions: &[Version], now: u64
     requires fits { last ≤ last_main }
     ensures here { seen_in slab.new key ≡ option_map (told_to versions.now now last) (seen_in slab.old key) }
     ensures others { (other : ℕ) → other ≢ key → get slab.new other ≡ get slab.old other }
+    ensures count { slab_len slab.new ≡ slab_len slab.old }
 {
     if let Some(entry) = slab.get_mut(key) {
         entry.advance(versions, now, last);
