@@ -64,6 +64,10 @@ AreReached s = AllByRecursion (λ v. rev_le v.rev (end_of s.revision) ≡ true) 
 abbrev pub is_spent : ℕ → Bool
 is_spent revision = not (nat_lt revision last_main)
 
+-- the number of changing calls behind one more, if that one changed something
+abbrev pub stamp_after : Bool → ℕ → ℕ
+stamp_after changed n = if changed then (n + 1) % 2 ^ 64 else n
+
 -- one changing call later
 abbrev pub stamped : CoreState → CoreState
 stamped s = record s { stamp = (s.stamp + 1) % 2 ^ 64 }
