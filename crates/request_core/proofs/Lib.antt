@@ -6,5 +6,6 @@ pub mod Planned
 pub mod Puts
 pub mod Ranges
 pub mod Revokes
+pub mod Starting
 pub mod Txns
 pub mod Worlds

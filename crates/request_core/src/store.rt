@@ -11,6 +11,8 @@ mod expiring;
 mod leasing;
 mod putting;
 mod ranging;
+#[cfg(test)]
+pub(crate) mod starting;
 mod transacting;
 
 use self::leasing::{granted, renewed};
@@ -269,12 +271,4 @@ fn batch_of(alloc: Global, versions: &[Version]) -> Result<Op, AllocError>
     ensures { IfOk result (λ op. published op ≡ Published.batch versions.now) }
 {
     Ok(Op::Batch(Vec::from_clones(alloc, versions)?))
-}
-
-#[cfg(test)]
-impl Core {
-    /// A core that keeps no version and no lease, at the last revision but one.
-    pub(crate) fn at_last_but_one(alloc: Global) -> Self {
-        Core::at(alloc, LAST_MAIN - 1)
-    }
 }
