@@ -4,13 +4,11 @@ use Rattle.std.specs.Option.{option_or, MatchOption}
 use Rattle.std.specs.List.{AllByRecursion}
 use Rattle.std.specs.Ordering.{int_eq}
 use Rattle.kv_model.specs.declared.version.Version.{Version}
-use Rattle.kv_model.specs.declared.version.Body.{Body}
 use Rattle.kv_model.specs.declared.version.Body.TheVariants.{Gone}
 use Rattle.kv_model.specs.Lists.{last_that}
 use Rattle.kv_model.specs.Keys.{same_key}
 use Rattle.kv_model.specs.History.{KeyValue, key_value, shown, value_at, value_now, end_of, rev_le}
 use Rattle.kv_model.specs.Ranges.{keys_of}
-use Rattle.store_laws.specs.Stands.{Store}
 use Rattle.kv_model.specs.Step.{last_main}
 use Rattle.store_laws.proofs.HistoryLaws.{last_that-append}
 use Rattle.store_laws.proofs.KeyLaws.{has_key}

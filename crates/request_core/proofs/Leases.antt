@@ -1,10 +1,8 @@
 -- What grants, keepalives, times to live and the list of leases do, in each world that the core stands for.
-use Rattle.std.proofs.Common.{◌≡◌, ℕ, ℤ, List, [], ◌∷◌, Bool, true, false, cond, Option, None, Some, Ok, refl, sym, ◌∙◌, ap, subst, map, filter}
+use Rattle.std.proofs.Common.{◌≡◌, ℕ, ℤ, List, [], ◌∷◌, Bool, true, false, cond, Option, None, Some, Ok, refl, sym, ◌∙◌, ap, subst}
 use Rattle.std.specs.Prelude.{is_some, option_map, unwrap_or, ◌&&◌, ◌||◌}
-use Rattle.std.specs.Ordering.{int_eq}
 use Rattle.kv_model.specs.declared.refusal.Refusal.{Refusal}
 use Rattle.kv_model.specs.Calls.{Call}
-use Rattle.kv_model.specs.History.{KeyValue}
 use Rattle.kv_model.specs.Leases.{Lease, has_id, is_granted, lease_at, insert_lease, keys_of_lease, seconds_left}
 use Rattle.kv_model.specs.Told.{Reply}
 use Rattle.kv_model.specs.Txns.{if_asked}
@@ -14,11 +12,9 @@ use Rattle.store_laws.specs.Stands.{Store, StandsFor}
 use Rattle.store_laws.specs.Stores.{with_leases, refusal_of_grant, granted_lease, renewed_leases, reply_of_time_to_live, reply_of_leases}
 use Rattle.store_laws.proofs.StandsLeases.{leases_stand, grant_told, keep_alive_none, keep_alive_made, time_to_live_told, leases_told}
 use Rattle.lease_book.specs.declared.book.TimeLeft.{TimeLeft}
-use Rattle.range_view.specs.declared.reply.KvRef.{KvRef}
-use Rattle.range_view.specs.Replies.{kv_view}
 use Rattle.request_core.specs.declared.answer.Receipt.{Receipt}
-use Rattle.request_core.specs.State.{CoreState, after_grant, after_keep_alive, leased, stamped}
-use Rattle.request_core.specs.Answers.{Accepts, IsRefusal, answer_of, first_refusal, time_left_view}
+use Rattle.request_core.specs.State.{CoreState, after_grant, after_keep_alive, leased, stamp_after, stamped}
+use Rattle.request_core.specs.Answers.{Accepts, IsRefusal, answer_of, first_refusal, has_changed, time_left_view}
 use Rattle.request_core.proofs.Worlds.{made_accepted, raised-not, read_accepted, is_refused}
 
 -- a command that leaves the history as it was
@@ -102,6 +98,15 @@ keep_alive_unchanged s new id ttl found e none = by (lease_at s.store.leases id)
 some-ttl : (o : Option Lease) → is_some (ttl-of o) ≡ is_some o
 some-ttl None = refl
 some-ttl (Some l) = refl
+
+-- a keepalive is a changing call where it found the lease
+pub keep_alive_counts : (s new : CoreState) (id : ℤ) (ttl : Option ℕ) (r : Receipt) → ttl ≡ option_map (λ (l : Lease). l.ttl) (lease_at s.store.leases id)
+    → new ≡ after_keep_alive s id → has_changed r ≡ is_some ttl → new.stamp ≡ stamp_after (has_changed r) s.stamp
+keep_alive_counts s new id ttl r found e changed = by (lease_at s.store.leases id) refl
+  where
+    by : (o : Option Lease) → lease_at s.store.leases id ≡ o → new.stamp ≡ stamp_after (has_changed r) s.stamp
+    by None is = ap (λ (t : CoreState). t.stamp) (e ∙ kept-alive s id None is) ∙ sym (ap (λ b. stamp_after b s.stamp) (changed ∙ ap is_some (found ∙ ap ttl-of is)))
+    by (Some l) is = ap (λ (t : CoreState). t.stamp) (e ∙ kept-alive s id (Some l) is) ∙ sym (ap (λ b. stamp_after b s.stamp) (changed ∙ ap is_some (found ∙ ap ttl-of is)))
 
 -- a keepalive changes something where the world has the lease
 pub keep_alive_beside : (s : Store) (w : World) (id : ℤ) (ttl : Option ℕ) → StandsFor s w → ttl ≡ option_map (λ (l : Lease). l.ttl) (lease_at s.leases id)

@@ -7,5 +7,6 @@ pub mod Puts
 pub mod Quiet
 pub mod Ranges
 pub mod Revokes
+pub mod Starting
 pub mod Txns
 pub mod Worlds

@@ -1,6 +1,7 @@
 -- What receipts and answers say, in the definitions' terms.
 use Rattle.std.specs.Prelude.{◌≡◌, ℕ, ◌+◌, ◌-◌, ◌<◌, ◌^◌, ℤ, pos, negsuc, List, Bool, true, false, ◌&&◌, ◌||◌, nat_lt, is_some, unwrap_or, Option, None, Some, option_map, map, Result, Ok, Err, ⊤}
 use Rattle.kv_model.specs.declared.refusal.Refusal.{Refusal}
+use Rattle.kv_model.specs.Calls.{Call}
 use Rattle.kv_model.specs.History.{value_at, end_of}
 use Rattle.kv_model.specs.Ranges.{range_reply, revision_refusal, live}
 use Rattle.kv_model.specs.Txns.{Path, previous_value, if_asked, changes_of, replies_of}
@@ -68,6 +69,22 @@ is_beside _ = false
 abbrev pub has_changed : Receipt → Bool
 has_changed r = is_some r.raised || is_beside r.todo
 
+-- doing the command may want memory
+abbrev pub takes_memory : Call → Bool
+takes_memory (Call.range q) = false
+takes_memory (Call.keep_alive id) = false
+takes_memory (Call.time_to_live id asked) = false
+takes_memory Call.leases = false
+takes_memory _ = true
+
+-- nothing has to grow for the answer
+abbrev pub is_free : Todo → Bool
+is_free (todo.Put key asked) = true
+is_free (todo.Grant id ttl) = true
+is_free todo.Revoke = true
+is_free (todo.KeepAlive id ttl) = true
+is_free _ = false
+
 -- a command was accepted as the model accepts it in this world, which then is that one
 pub record Accepts (new : CoreState) (r : Receipt) (w : World) (told : Result ModelAnswer Refusal) (after : World) : Type 0 where
   pub answers : told ≡ Ok (answer_of r new)
@@ -103,3 +120,8 @@ first_refusal (Err e) = Some e
 abbrev pub expiry_view : Expiry → ModelExpiry
 expiry_view expiry.Nothing = ModelExpiry.nothing
 expiry_view (expiry.Expired id revision raised) = ModelExpiry.expired id revision raised
+
+-- a lease was revoked
+abbrev pub has_expired : Expiry → Bool
+has_expired expiry.Nothing = false
+has_expired (expiry.Expired id revision raised) = true

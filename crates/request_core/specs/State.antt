@@ -1,5 +1,5 @@
 -- What a core holds, and how a command changes it.
-use Rattle.std.specs.Prelude.{◌≡◌, ℕ, ℤ, ◌+◌, ◌-◌, ◌<◌, ◌≤◌, ◌%◌, ◌^◌, List, [], ◌∷◌, ◌++◌, map, Bool, true, not, ◌&&◌, nat_lt, filter, Option, None, Some, option_map, if◌then◌else◌}
+use Rattle.std.specs.Prelude.{◌≡◌, ℕ, ℤ, pos, ◌+◌, ◌-◌, ◌<◌, ◌≤◌, ◌%◌, ◌^◌, List, [], ◌∷◌, ◌++◌, map, Bool, true, not, ◌&&◌, nat_lt, filter, Option, None, Some, option_map, if◌then◌else◌}
 use Rattle.std.specs.Option.{option_or}
 use Rattle.std.specs.List.{AllByRecursion}
 use Rattle.std.specs.Ordering.{int_eq}
@@ -18,7 +18,8 @@ use Rattle.kv_model.specs.Ranges.{live, refuse_if}
 use Rattle.kv_model.specs.Told.{Answer, Reply}
 use Rattle.kv_model.specs.Txns.{put_fault, previous_value, if_asked, static_fault}
 use Rattle.kv_model.specs.Txns as txns
-use Rattle.kv_model.specs.History.{KeyValue, value_at, end_of, rev_le}
+use Rattle.kv_model.specs.World.{World, opening}
+use Rattle.kv_model.specs.History.{Mutation, KeyValue, put, value_at, end_of, rev_le}
 use Rattle.kv_model.specs.Step.{last_main}
 use Rattle.store_laws.specs.Stands.{Store}
 use Rattle.store_laws.specs.Stores.{path_in, refusal_of_path, changes_of_path, refusal_of_delete, with_leases, granted_lease, refusal_of_revoke, renewed_leases, at_store_moment}
@@ -63,6 +64,10 @@ AreReached s = AllByRecursion (λ v. rev_le v.rev (end_of s.revision) ≡ true) 
 -- no revision comes after this one
 abbrev pub is_spent : ℕ → Bool
 is_spent revision = not (nat_lt revision last_main)
+
+-- the number of changing calls behind one more, if that one changed something
+abbrev pub stamp_after : Bool → ℕ → ℕ
+stamp_after changed n = if changed then (n + 1) % 2 ^ 64 else n
 
 -- one changing call later
 abbrev pub stamped : CoreState → CoreState
@@ -201,3 +206,13 @@ added_by s _ = []
 abbrev pub IsTold : {X : Type 0} → (X → Published → X → Type 0) → List Version → X → X → Type 0
 IsTold takes [] old new = new ≡ old
 IsTold takes (v ∷ vs) old new = takes old (Published.batch (v ∷ vs)) new
+
+-- ---- one put
+
+-- the put of an empty value
+abbrev pub put_at : ℕ → List ℕ → Mutation
+put_at main k = record { rev = record { main = main; sub = 0 }; key = k; action = put [] (pos 0) }
+
+-- the world in which nothing else was ever done
+abbrev pub world_of_put : ℕ → List ℕ → World
+world_of_put main k = record opening { mutations = put_at main k ∷ [] }

@@ -4,13 +4,15 @@ ghost use Rattle.range_view.specs.Replies.{kv_view, reply_view};
 ghost use Rattle.request_core.specs.Writing.{AreNext, IsHeldTo};
 ghost use Rattle.kv_model.specs.Step.{last_main};
 ghost use Rattle.kv_model.specs.Wire.{changes_beside};
-ghost use Rattle.std.specs.Prelude.{◌≡◌, [], false, option_map, ◌<◌, ◌≤◌, length, IfOk, IfErr, OnOk, OnErr};
+ghost use Rattle.std.specs.Prelude.{◌≡◌, [], true, false, None, is_ok, option_map, ◌<◌, ◌≤◌, length, IfOk, IfErr, OnOk, OnErr};
 
 mod deleting;
 mod expiring;
 mod leasing;
 mod putting;
 mod ranging;
+#[cfg(test)]
+pub(crate) mod starting;
 mod transacting;
 
 use self::leasing::{granted, renewed};
@@ -57,13 +59,14 @@ impl Core {
     ghost use Rattle.kv_model.specs.World.{World, opening};
     ghost use Rattle.store_laws.specs.Stands.{StandsFor};
     ghost use Rattle.kv_model.specs.Step.{perform};
-    ghost use Rattle.request_core.specs.State.{CoreState, IsTold, added_by, held_in, is_spent, store_of, with_versions};
+    ghost use Rattle.request_core.specs.State.{CoreState, IsTold, added_by, core_state, held_in, is_spent, stamp_after, with_versions};
     ghost use Rattle.range_view.specs.Stored.{blank_at};
-    ghost use Rattle.request_core.specs.Answers.{Accepts, IsRefusal, IsReadable, answer_view, answer_of, first_refusal, has_changed, is_beside};
+    ghost use Rattle.request_core.specs.Answers.{Accepts, IsRefusal, IsReadable, answer_view, answer_of, first_refusal, has_changed, is_beside, is_free, is_memory, takes_memory};
 
     /// The store before the first event. Takes no memory.
     pub fn new(alloc: Global) -> Self
-        ensures { StandsFor result.store opening }
+        ensures stands { StandsFor result.store opening }
+        ensures stamp { result.stamp ≡ 0 }
     {
         Core::at(alloc, 1)
     }
@@ -72,7 +75,7 @@ impl Core {
     fn at(alloc: Global, revision: u64) -> Self
         requires opened { 1 ≤ revision }
         requires fits { revision ≤ last_main }
-        ensures { result.store ≡ store_of (blank_at revision) (record { leases = []; clock = 0 }) }
+        ensures { result ≡ core_state (blank_at revision) (record { leases = []; clock = 0 }) 0 }
     {
         Core {
             alloc,
@@ -133,9 +136,12 @@ impl Core {
             → Accepts self.new r w (perform w (call_of command.now)).0 (perform w (call_of command.now)).1) }
         ensures readable { IfOk result (λ r. IsReadable r self.new) }
         ensures unchanged { IfOk result (λ r. has_changed r ≡ false → self.new ≡ self.old) }
+        ensures stamp { IfOk result (λ r. self.new.stamp ≡ stamp_after (has_changed r) self.old.stamp) }
+        ensures unwatched { IfOk result (λ r. r.watch ≡ None) }
         ensures beside { IfOk result (λ r. (w : World) → StandsFor self.old.store w → is_beside r.todo ≡ changes_beside w (call_of command.now)) }
         ensures refused { IfErr result (λ e. (w : World) → StandsFor self.old.store w
             → IsRefusal e (first_refusal (perform w (call_of command.now)).0)) }
+        ensures free { IfErr result (λ e. takes_memory (call_of command.now) ≡ false → is_memory e ≡ false) }
         ensures err { OnErr result (self.new ≡ self.old) }
     {
         self.apply_over(command, &mut NoSink)
@@ -152,10 +158,13 @@ impl Core {
             → Accepts self.new r w (perform w (call_of command.now)).0 (perform w (call_of command.now)).1) }
         ensures readable { IfOk result (λ r. IsReadable r self.new) }
         ensures unchanged { IfOk result (λ r. has_changed r ≡ false → self.new ≡ self.old) }
+        ensures stamp { IfOk result (λ r. self.new.stamp ≡ stamp_after (has_changed r) self.old.stamp) }
+        ensures unwatched { IfOk result (λ r. r.watch ≡ None) }
         ensures beside { IfOk result (λ r. (w : World) → StandsFor self.old.store w → is_beside r.todo ≡ changes_beside w (call_of command.now)) }
         ensures told { OnOk result (IsTold S.takes (added_by self.old.store (call_of command.now)) sink.old sink.new) }
         ensures refused { IfErr result (λ e. (w : World) → StandsFor self.old.store w
             → IsRefusal e (first_refusal (perform w (call_of command.now)).0)) }
+        ensures free { IfErr result (λ e. takes_memory (call_of command.now) ≡ false → is_memory e ≡ false) }
         ensures err { OnErr result ((self.new ≡ self.old) × (sink.new ≡ sink.old)) }
     {
         match command {
@@ -179,7 +188,8 @@ impl Core {
     /// that were put under it.
     pub fn answer<'a>(&'a self, receipt: &Receipt<'_>) -> Result<Answer<'a>, AllocError>
         requires { IsReadable receipt.now self.now }
-        ensures { IfOk result (λ a. answer_view a ≡ answer_of receipt.now self.now) }
+        ensures lends { IfOk result (λ a. answer_view a ≡ answer_of receipt.now self.now) }
+        ensures free { is_free receipt.now.todo ≡ true → is_ok result ≡ true }
     {
         match &receipt.todo {
             Todo::Range(query) => Ok(Answer::Range(self.range(query)?)),
@@ -261,12 +271,4 @@ fn batch_of(alloc: Global, versions: &[Version]) -> Result<Op, AllocError>
     ensures { IfOk result (λ op. published op ≡ Published.batch versions.now) }
 {
     Ok(Op::Batch(Vec::from_clones(alloc, versions)?))
-}
-
-#[cfg(test)]
-impl Core {
-    /// A core that keeps no version and no lease, at the last revision but one.
-    pub(crate) fn at_last_but_one(alloc: Global) -> Self {
-        Core::at(alloc, LAST_MAIN - 1)
-    }
 }

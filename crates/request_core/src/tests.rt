@@ -2,6 +2,7 @@
 //!
 //! A core, a receipt and a command are each handed to `drop`, and no function that has a core asserts: within the crate, each way out of
 //! a function carries the release of all the parts of what it holds, and a test that let go of a core in several places took a minute of proof.
+use crate::store::starting::at_last_but_one;
 use crate::store::{Core, LAST_MAIN};
 use bytes::Bytes;
 use kv_model::call::{Command, DeleteRequest, PutRequest};
@@ -49,13 +50,16 @@ fn done(core: &mut Core, command: Command) -> Result<u64, Refusal> {
 
 /// What a put, a put of the same key and its delete are answered, at the last revision but one.
 fn three_changes(alloc: Global) -> [Result<u64, Refusal>; 3] {
-    let mut core = Core::at_last_but_one(alloc);
-    let found = [
-        done(&mut core, put(b"a", b"1")),
-        done(&mut core, put(b"a", b"2")),
-        done(&mut core, delete(b"a", b"")),
-    ];
-    drop(core);
+    let mut made = at_last_but_one(alloc);
+    let found = match &mut made {
+        Ok(core) => [
+            done(core, put(b"a", b"1")),
+            done(core, put(b"a", b"2")),
+            done(core, delete(b"a", b"")),
+        ],
+        Err(_) => [Err(Refusal::Memory); 3],
+    };
+    drop(made);
     found
 }
 

@@ -21,8 +21,8 @@ impl Core {
     ghost use Rattle.kv_model.specs.World.{World};
     ghost use Rattle.store_laws.specs.Stands.{StandsFor};
     ghost use Rattle.kv_model.specs.Step.{perform};
-    ghost use Rattle.request_core.specs.State.{IsTold, added_by, fault_of_delete, added_by_delete, after_delete, answer_after_delete, live_in, raised_by_delete};
-    ghost use Rattle.request_core.specs.Answers.{Accepts, IsRefusal, IsReadable, answer_of, first_refusal, is_beside};
+    ghost use Rattle.request_core.specs.State.{IsTold, added_by, fault_of_delete, added_by_delete, after_delete, answer_after_delete, live_in, raised_by_delete, stamp_after};
+    ghost use Rattle.request_core.specs.Answers.{Accepts, IsRefusal, IsReadable, answer_of, first_refusal, has_changed, is_beside};
 
     /// A DeleteRange appends the tombstones of the live keys of its range at the next revision, and nothing where none is live.
     pub(crate) fn apply_delete<'c, S: Sink>(
@@ -35,6 +35,8 @@ impl Core {
         ensures readable { IfOk result (λ r. IsReadable r self.new) }
         ensures beside { IfOk result (λ r. is_beside r.todo ≡ false) }
         ensures unraised { IfOk result (λ r. r.raised ≡ None → self.new ≡ self.old) }
+        ensures stamp { IfOk result (λ r. self.new.stamp ≡ stamp_after (has_changed r) self.old.stamp) }
+        ensures unwatched { IfOk result (λ r. r.watch ≡ None) }
         ensures told { OnOk result (IsTold S.takes (added_by self.old.store (Call.delete request.now)) sink.old sink.new) }
         ensures refused { IfErr result (λ e. (w : World) → StandsFor self.old.store w
             → IsRefusal e (first_refusal (perform w (Call.delete request.now)).0)) }

@@ -1,7 +1,7 @@
 //! The clock, and expiry.
 ghost use Rattle.kv_model.specs.Told.{Expiry as ModelExpiry};
 ghost use Rattle.request_core.specs.Answers.{is_memory};
-ghost use Rattle.std.specs.Prelude.{◌≡◌, MatchBool, ⊤, nat_lt, if◌then◌else◌, IfOk, IfErr, OnOk, OnErr, Some};
+ghost use Rattle.std.specs.Prelude.{◌≡◌, true, false, MatchBool, ⊤, nat_lt, if◌then◌else◌, IfOk, IfErr, OnOk, OnErr, Some};
 
 use super::Core;
 use crate::answer::Expiry;
@@ -12,8 +12,8 @@ impl Core {
     ghost use Rattle.kv_model.specs.World.{World, at_moment};
     ghost use Rattle.store_laws.specs.Stands.{StandsFor};
     ghost use Rattle.kv_model.specs.Step.{expire};
-    ghost use Rattle.request_core.specs.State.{IsTold, added_by_expiry, added_by_revoke, after_moment, due_in};
-    ghost use Rattle.request_core.specs.Answers.{expiry_view};
+    ghost use Rattle.request_core.specs.State.{IsTold, added_by_expiry, added_by_revoke, after_moment, due_in, stamp_after};
+    ghost use Rattle.request_core.specs.Answers.{expiry_view, has_expired};
 
     /// Hands in the present moment, in milliseconds, and answers the clock: the greatest moment so far. An earlier one leaves
     /// the clock, and one above 2^62 counts as 2^62. Takes no memory. Constant time.
@@ -32,6 +32,8 @@ impl Core {
     /// core is then as it was. Finding that no lease is due takes constant time; else the cost is that of a revoke.
     pub fn expire(&mut self) -> Result<Expiry, Refusal>
         ensures expired { IfOk result (λ e. (w : World) → StandsFor self.old.store w → (expiry_view e ≡ (expire w).0) × StandsFor self.new.store (expire w).1) }
+        ensures unchanged { IfOk result (λ e. has_expired e ≡ false → self.new ≡ self.old) }
+        ensures stamp { IfOk result (λ e. self.new.stamp ≡ stamp_after (has_expired e) self.old.stamp) }
         ensures refused { IfErr result (λ e. MatchBool (is_memory e) ⊤ ((e ≡ Refusal.RevisionsSpent) × ((w : World) → StandsFor self.old.store w → (expire w).0 ≡ ModelExpiry.spent))) }
         ensures err { OnErr result (self.new ≡ self.old) }
     {
@@ -42,6 +44,8 @@ impl Core {
     /// refuses the step.
     pub(crate) fn expire_over<S: Sink>(&mut self, sink: &mut S) -> Result<Expiry, Refusal>
         ensures expired { IfOk result (λ e. (w : World) → StandsFor self.old.store w → (expiry_view e ≡ (expire w).0) × StandsFor self.new.store (expire w).1) }
+        ensures unchanged { IfOk result (λ e. has_expired e ≡ false → self.new ≡ self.old) }
+        ensures stamp { IfOk result (λ e. self.new.stamp ≡ stamp_after (has_expired e) self.old.stamp) }
         ensures told { OnOk result (IsTold S.takes (added_by_expiry self.old.store) sink.old sink.new) }
         ensures refused { IfErr result (λ e. MatchBool (is_memory e) ⊤ ((e ≡ Refusal.RevisionsSpent) × ((w : World) → StandsFor self.old.store w → (expire w).0 ≡ ModelExpiry.spent))) }
         ensures err { OnErr result ((self.new ≡ self.old) × (sink.new ≡ sink.old)) }
@@ -56,6 +60,8 @@ impl Core {
     fn expire_lease<S: Sink>(&mut self, id: i64, sink: &mut S) -> Result<Expiry, Refusal>
         requires { due_in self.old.store ≡ Some id }
         ensures expired { IfOk result (λ e. (w : World) → StandsFor self.old.store w → (expiry_view e ≡ (expire w).0) × StandsFor self.new.store (expire w).1) }
+        ensures unchanged { IfOk result (λ e. has_expired e ≡ false → self.new ≡ self.old) }
+        ensures stamp { IfOk result (λ e. self.new.stamp ≡ stamp_after (has_expired e) self.old.stamp) }
         ensures told { OnOk result (IsTold S.takes (added_by_revoke self.old.store id) sink.old sink.new) }
         ensures refused { IfErr result (λ e. MatchBool (is_memory e) ⊤ ((e ≡ Refusal.RevisionsSpent) × ((w : World) → StandsFor self.old.store w → (expire w).0 ≡ ModelExpiry.spent))) }
         ensures err { OnErr result ((self.new ≡ self.old) × (sink.new ≡ sink.old)) }
@@ -68,7 +74,8 @@ impl Core {
 
     /// That a lease was revoked with so many keys.
     fn expired(&self, id: i64, deleted: u64) -> Expiry
-        ensures { expiry_view result ≡ ModelExpiry.expired id self.now.store.revision (nat_lt 0 deleted) }
+        ensures told { expiry_view result ≡ ModelExpiry.expired id self.now.store.revision (nat_lt 0 deleted) }
+        ensures expired { has_expired result ≡ true }
     {
         Expiry::Expired {
             id,

@@ -28,7 +28,7 @@ impl Core {
     ghost use Rattle.kv_model.specs.World.{World};
     ghost use Rattle.store_laws.specs.Stands.{StandsFor};
     ghost use Rattle.kv_model.specs.Step.{perform};
-    ghost use Rattle.request_core.specs.State.{AreReached, IsTold, added_by, added_by_revoke, after_grant, after_keep_alive, after_revoke, fault_of_revoke, leased, leased_in, stamped, raised_by_delete, with_any};
+    ghost use Rattle.request_core.specs.State.{AreReached, IsTold, added_by, added_by_revoke, after_grant, after_keep_alive, after_revoke, fault_of_revoke, leased, leased_in, stamp_after, stamped, raised_by_delete, with_any};
     ghost use Rattle.request_core.specs.Answers.{Accepts, IsAllowed, IsRefusal, IsReadable, answer_of, first_refusal, has_changed, is_beside, reply_left};
 
     /// A grant takes one node of the book.
@@ -37,6 +37,8 @@ impl Core {
             → Accepts self.new r w (perform w (Call.grant ttl id)).0 (perform w (Call.grant ttl id)).1) }
         ensures readable { IfOk result (λ r. IsReadable r self.new) }
         ensures beside { IfOk result (λ r. is_beside r.todo ≡ true) }
+        ensures stamp { IfOk result (λ r. self.new.stamp ≡ stamp_after (has_changed r) self.old.stamp) }
+        ensures unwatched { IfOk result (λ r. r.watch ≡ None) }
         ensures refused { IfErr result (λ e. (w : World) → StandsFor self.old.store w
             → IsRefusal e (first_refusal (perform w (Call.grant ttl id)).0)) }
         ensures err { OnErr result (self.new ≡ self.old) }
@@ -93,6 +95,8 @@ impl Core {
             → Accepts self.new r w (perform w (Call.revoke id)).0 (perform w (Call.revoke id)).1) }
         ensures readable { IfOk result (λ r. IsReadable r self.new) }
         ensures beside { IfOk result (λ r. is_beside r.todo ≡ true) }
+        ensures stamp { IfOk result (λ r. self.new.stamp ≡ stamp_after (has_changed r) self.old.stamp) }
+        ensures unwatched { IfOk result (λ r. r.watch ≡ None) }
         ensures told { OnOk result (IsTold S.takes (added_by self.old.store (Call.revoke id)) sink.old sink.new) }
         ensures refused { IfErr result (λ e. (w : World) → StandsFor self.old.store w
             → IsRefusal e (first_refusal (perform w (Call.revoke id)).0)) }
@@ -217,6 +221,8 @@ impl Core {
             → Accepts self.new result w (perform w (Call.keep_alive id)).0 (perform w (Call.keep_alive id)).1 }
         ensures readable { IsReadable result self.new }
         ensures unchanged { has_changed result ≡ false → self.new ≡ self.old }
+        ensures stamp { self.new.stamp ≡ stamp_after (has_changed result) self.old.stamp }
+        ensures unwatched { result.watch ≡ None }
         ensures beside { (w : World) → StandsFor self.old.store w → is_beside result.todo ≡ is_some (lease_at w.leases id) }
     {
         let ttl = self.keep_alive(id);
@@ -241,6 +247,7 @@ impl Core {
             → Accepts self.now result w (perform w (Call.time_to_live id keys)).0 (perform w (Call.time_to_live id keys)).1 }
         ensures readable { IsReadable result self.now }
         ensures beside { is_beside result.todo ≡ false }
+        ensures unraised { (result.raised ≡ None) × (result.watch ≡ None) }
     {
         self.receipt_of(Todo::TimeToLive { id, keys })
     }
@@ -251,6 +258,7 @@ impl Core {
             → Accepts self.now result w (perform w Call.leases).0 (perform w Call.leases).1 }
         ensures readable { IsReadable result self.now }
         ensures beside { is_beside result.todo ≡ false }
+        ensures unraised { (result.raised ≡ None) × (result.watch ≡ None) }
     {
         self.receipt_of(Todo::Leases)
     }

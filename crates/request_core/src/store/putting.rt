@@ -21,8 +21,8 @@ impl Core {
     ghost use Rattle.kv_model.specs.World.{World};
     ghost use Rattle.store_laws.specs.Stands.{StandsFor};
     ghost use Rattle.kv_model.specs.Step.{perform};
-    ghost use Rattle.request_core.specs.State.{IsTold, added_by, fault_of_put, added_by_put, after_put, answer_after_put, held_in};
-    ghost use Rattle.request_core.specs.Answers.{Accepts, IsRefusal, IsReadable, answer_of, first_refusal, is_beside};
+    ghost use Rattle.request_core.specs.State.{IsTold, added_by, fault_of_put, added_by_put, after_put, answer_after_put, held_in, stamp_after};
+    ghost use Rattle.request_core.specs.Answers.{Accepts, IsRefusal, IsReadable, answer_of, first_refusal, has_changed, is_beside};
 
     /// A Put appends one version at the next revision.
     pub(crate) fn apply_put<'c, S: Sink>(
@@ -34,7 +34,8 @@ impl Core {
             → Accepts self.new r w (perform w (Call.put request.now)).0 (perform w (Call.put request.now)).1) }
         ensures readable { IfOk result (λ r. IsReadable r self.new) }
         ensures beside { IfOk result (λ r. is_beside r.todo ≡ false) }
-        ensures raised { IfOk result (λ r. r.raised ≡ Some (self.old.store.revision + 1)) }
+        ensures raised { IfOk result (λ r. (r.raised ≡ Some (self.old.store.revision + 1)) × (r.watch ≡ None)) }
+        ensures stamp { IfOk result (λ r. self.new.stamp ≡ stamp_after (has_changed r) self.old.stamp) }
         ensures told { OnOk result (IsTold S.takes (added_by self.old.store (Call.put request.now)) sink.old sink.new) }
         ensures refused { IfErr result (λ e. (w : World) → StandsFor self.old.store w
             → IsRefusal e (first_refusal (perform w (Call.put request.now)).0)) }

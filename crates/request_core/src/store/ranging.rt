@@ -18,7 +18,7 @@ impl Core {
     ghost use Rattle.store_laws.specs.Stands.{StandsFor};
     ghost use Rattle.kv_model.specs.Step.{perform};
     ghost use Rattle.store_laws.specs.Stores.{refusal_of_range, reply_of_range};
-    ghost use Rattle.request_core.specs.Answers.{Accepts, IsRefusal, IsReadable, answer_of, first_refusal, is_beside};
+    ghost use Rattle.request_core.specs.Answers.{Accepts, IsRefusal, IsReadable, answer_of, first_refusal, is_beside, is_memory};
 
     /// A Range changes nothing, and takes no memory before its answer.
     pub(crate) fn apply_range<'c>(&self, query: &'c RangeQuery) -> Result<Receipt<'c>, Refusal>
@@ -26,6 +26,8 @@ impl Core {
             → Accepts self.now r w (perform w (Call.range query.now)).0 (perform w (Call.range query.now)).1) }
         ensures readable { IfOk result (λ r. IsReadable r self.now) }
         ensures beside { IfOk result (λ r. is_beside r.todo ≡ false) }
+        ensures unraised { IfOk result (λ r. (r.raised ≡ None) × (r.watch ≡ None)) }
+        ensures free { IfErr result (λ e. is_memory e ≡ false) }
         ensures refused { IfErr result (λ e. (w : World) → StandsFor self.now.store w
             → IsRefusal e (first_refusal (perform w (Call.range query.now)).0)) }
     {

@@ -29,8 +29,8 @@ impl Core {
     ghost use Rattle.kv_model.specs.World.{World};
     ghost use Rattle.store_laws.specs.Stands.{StandsFor};
     ghost use Rattle.kv_model.specs.Step.{perform};
-    ghost use Rattle.request_core.specs.State.{IsTold, added_by, fault_of_txn, added_by_txn, after_txn, raised_from, with_some};
-    ghost use Rattle.request_core.specs.Answers.{Accepts, CanReply, IsAllowed, IsRefusal, IsReadable, answer_of, first_refusal, is_beside, reply_left};
+    ghost use Rattle.request_core.specs.State.{IsTold, added_by, fault_of_txn, added_by_txn, after_txn, raised_from, stamp_after, with_some};
+    ghost use Rattle.request_core.specs.Answers.{Accepts, CanReply, IsAllowed, IsRefusal, IsReadable, answer_of, first_refusal, has_changed, is_beside, reply_left};
 
     /// A transaction appends the versions of its changes at the next revision, and nothing where it changes no key.
     pub(crate) fn apply_txn<'c, S: Sink>(
@@ -43,6 +43,8 @@ impl Core {
         ensures readable { IfOk result (λ r. IsReadable r self.new) }
         ensures beside { IfOk result (λ r. is_beside r.todo ≡ false) }
         ensures unraised { IfOk result (λ r. r.raised ≡ None → self.new ≡ self.old) }
+        ensures stamp { IfOk result (λ r. self.new.stamp ≡ stamp_after (has_changed r) self.old.stamp) }
+        ensures unwatched { IfOk result (λ r. r.watch ≡ None) }
         ensures told { OnOk result (IsTold S.takes (added_by self.old.store (as_call (txn_view txn.now))) sink.old sink.new) }
         ensures refused { IfErr result (λ e. (w : World) → StandsFor self.old.store w
             → IsRefusal e (first_refusal (perform w (as_call (txn_view txn.now))).0)) }

@@ -8,8 +8,8 @@ use Rattle.request_core.specs.Answers.{reply_left}
 use Rattle.request_core.proofs.Ranges.{reply_revision}
 use Rattle.request_core.proofs.store.Core.answer.Goals as goal
 
-pub returns-in_ok-range-in-Range : goal.returns-in_ok-range-in-Range
-returns-in_ok-range-in-Range c =
+pub returns-in_ok-range-in-Range-clause-lends : goal.returns-in_ok-range-in-Range-clause-lends
+returns-in_ok-range-in-Range-clause-lends c =
     let s = c.args.self.now.store in
     ap (λ (x : RangeReply). let a : Answer = record { reply = Reply.range x; revision = x.revision } in a) c.in_ok-range-in-Range.ensures
     ∙ ap (λ (n : ℕ). let a : Answer = record { reply = reply_left (todo.Range c.in-Range.query) s s.revision; revision = n } in a)

@@ -3,7 +3,7 @@ use Rattle.std.specs.Prelude.{is_some, ◌||◌}
 use Rattle.std.proofs.lemmas.Int.{to_z-of_z}
 use Rattle.std.specs.Int.{w64}
 use Rattle.request_core.specs.Answers.{is_beside}
-use Rattle.request_core.proofs.Leases.{keep_alive_accepted, keep_alive_unchanged}
+use Rattle.request_core.proofs.Leases.{keep_alive_accepted, keep_alive_counts, keep_alive_unchanged}
 use Rattle.request_core.proofs.store.Core.apply_keep_alive.Goals as goal
 
 pub returns-clause-accepted : goal.returns-clause-accepted
@@ -20,3 +20,10 @@ returns-clause-unchanged c = λ none.
     let made = rw (to_z-of_z w64 c.args.id c.ranges.id) at c.keep_alive-ttl.ensures.made in
     keep_alive_unchanged c.args.self.now c.keep_alive-ttl.new.self c.args.id c.keep_alive-ttl.result found made
     ((λ i. is_some (sym c.receipt_of.ensures.unraised.0 i) || is_beside (sym c.receipt_of.ensures.todo i)) ∙ none)
+
+pub returns-clause-stamp : goal.returns-clause-stamp
+returns-clause-stamp c =
+    let found = rw (to_z-of_z w64 c.args.id c.ranges.id) at c.keep_alive-ttl.ensures.ttl in
+    let made = rw (to_z-of_z w64 c.args.id c.ranges.id) at c.keep_alive-ttl.ensures.made in
+    keep_alive_counts c.args.self.now c.keep_alive-ttl.new.self c.args.id c.keep_alive-ttl.result c.receipt_of.result found made
+    (λ i. is_some (c.receipt_of.ensures.unraised.0 i) || is_beside (c.receipt_of.ensures.todo i))

@@ -8,7 +8,7 @@ pub returns-in-Ok-clause-expired : goal.returns-in-Ok-clause-expired
 returns-in-Ok-clause-expired g c = λ w h.
     let made = rw (to_z-of_z w64 c.args.id c.ranges.id) at c.in-Ok.ensures.made in
     let counted = rw (to_z-of_z w64 c.args.id c.ranges.id) at c.in-Ok.ensures.counted in
-    let told = rw (to_z-of_z w64 c.args.id c.ranges.id) at c.expired.ensures in
+    let told = rw (to_z-of_z w64 c.args.id c.ranges.id) at c.expired.ensures.told in
     let done = lease_expired c.args.self.now c.revoke.new.self w c.args.id c.in-Ok.deleted _ _ h
     c.in-Ok.ensures.quiet c.requires made.0 made.1 counted (search rules) refl refl in
     (told ∙ done.0, done.1)
