@@ -21,13 +21,16 @@ pub each_none : {X : Type 0} (front : List X) (r : Read (List X)) → front ≡ 
 each_none front (Ok xs) is = rw is refl
 each_none front (Err e) is = refl
 
-one_more : {X : Type 0} (front : List X) (x : X) (r : Read (List X)) → with_front front (r >>= λ xs. Ok (x ∷ xs)) ≡ with_front (front ++ x ∷ []) r
+one_more : {X : Type 0} (front : List X) (x : X) (r : Read (List X))
+    → with_front front (r >>= λ xs. Ok (x ∷ xs)) ≡ with_front (front ++ x ∷ []) r
 one_more front x (Ok xs) = ap Ok (sym (append_assoc front (x ∷ []) xs))
 one_more front x (Err e) = refl
 
 -- one more value that was read
-pub each_more : {X : Type 0} (f : Data → Read X) (vs : List Value) (i : ℕ) (v d : Value) (x : X) (front new : List X) (whole : Read (List X))
-    → i < length vs → v ≡ get_or vs i d → f (view v) ≡ Ok x → new ≡ front ++ x ∷ [] → with_front front (each f (items_view (drop i vs))) ≡ whole
+pub each_more : {X : Type 0} (f : Data → Read X) (vs : List Value) (i : ℕ) (v d : Value) (x : X) (front new : List X)
+    (whole : Read (List X))
+    → i < length vs → v ≡ get_or vs i d → f (view v) ≡ Ok x → new ≡ front ++ x ∷ []
+    → with_front front (each f (items_view (drop i vs))) ≡ whole
     → with_front new (each f (items_view (drop (i + 1) vs))) ≡ whole
 each_more f vs i v d x front new whole low is read made inv =
     ap (λ front. with_front front (each f (items_view (drop (i + 1) vs)))) made

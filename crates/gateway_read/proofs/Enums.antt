@@ -12,12 +12,14 @@ use Rattle.gateway_read.proofs.Readings.{named_value-map}
 abbrev pub under : {A B : Type 0} → (A → B) → List (List ℕ × A) → List (List ℕ × B)
 under f table = map (λ e. (e.0, f e.1)) table
 
-slice_get-under : {A B : Type 0} (f : A → B) (table : List (List ℕ × A)) (n : ℕ) → option_map (λ e. e.1) (slice_get (under f table) n) ≡ option_map f (option_map (λ e. e.1) (slice_get table n))
+slice_get-under : {A B : Type 0} (f : A → B) (table : List (List ℕ × A)) (n : ℕ)
+    → option_map (λ e. e.1) (slice_get (under f table) n) ≡ option_map f (option_map (λ e. e.1) (slice_get table n))
 slice_get-under f [] n = refl
 slice_get-under f (e ∷ table) zero = refl
 slice_get-under f (e ∷ table) (suc n) = slice_get-under f table n
 
-enum_of-under : {A B : Type 0} (f : A → B) (table : List (List ℕ × A)) (d : Data) → enum_of (under f table) d ≡ option_map f (enum_of table d)
+enum_of-under : {A B : Type 0} (f : A → B) (table : List (List ℕ × A)) (d : Data)
+    → enum_of (under f table) d ≡ option_map f (enum_of table d)
 enum_of-under f table null = refl
 enum_of-under f table (boolean b) = refl
 enum_of-under f table (number (unsigned n)) = slice_get-under f table n
@@ -31,14 +33,17 @@ abbrev read_map : {A B : Type 0} → (A → B) → Read A → Read B
 read_map f (Ok x) = Ok (f x)
 read_map f (Err e) = Err e
 
-read_map-some_or : {A B : Type 0} (f : A → B) (name : List ℕ) (o : Option A) → some_or (bad_field name) (option_map f o) ≡ read_map f (some_or (bad_field name) o)
+read_map-some_or : {A B : Type 0} (f : A → B) (name : List ℕ) (o : Option A)
+    → some_or (bad_field name) (option_map f o) ≡ read_map f (some_or (bad_field name) o)
 read_map-some_or f name None = refl
 read_map-some_or f name (Some x) = refl
 
 or_default-under : {A B : Type 0} (f : A → B) (x : A) (table : List (List ℕ × A)) (name : List ℕ) (o : Option Data)
-    → or_default (f x) (λ d. some_or (bad_field name) (enum_of (under f table) d)) o ≡ read_map f (or_default x (λ d. some_or (bad_field name) (enum_of table d)) o)
+    → or_default (f x) (λ d. some_or (bad_field name) (enum_of (under f table) d)) o
+    ≡ read_map f (or_default x (λ d. some_or (bad_field name) (enum_of table d)) o)
 or_default-under f x table name None = refl
-or_default-under f x table name (Some d) = ap (some_or (bad_field name)) (enum_of-under f table d) ∙ read_map-some_or f name (enum_of table d)
+or_default-under f x table name (Some d) = ap (some_or (bad_field name)) (enum_of-under f table d)
+    ∙ read_map-some_or f name (enum_of table d)
 
 fails_mapped : {A B : Type 0} (f : A → B) (e : Bad) (m : Read A) → Fails e m → Fails e (read_map f m)
 fails_mapped f NotJson m h = ap (read_map f) h

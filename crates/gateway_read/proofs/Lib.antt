@@ -1,10 +1,10 @@
-pub mod Integers
-pub mod Readings
 pub mod Each
 pub mod Enums
-pub mod Transactions
+pub mod Integers
 pub mod Marks
+pub mod Operands
+pub mod Readings
 pub mod Signs
 pub mod Spellings
 pub mod Steps
-pub mod Operands
+pub mod Transactions

@@ -16,12 +16,14 @@ with_operand range relation operand = record { range = range; relation = relatio
 pub compared-operand : (range : KeyRange) (relation : Relation) (target : requests.Target) (ms : Members)
     → compared range relation target ms ≡ (operand_read target ms >>= λ o. Ok (with_operand range relation o))
 unfolding compared operand_read
-compared-operand range relation target ms = over (integer_field (codes "version") ms) (integer_field (codes "create_revision") ms) (integer_field (codes "mod_revision") ms)
+compared-operand range relation target ms = over (integer_field (codes "version") ms) (integer_field (codes "create_revision") ms)
+    (integer_field (codes "mod_revision") ms)
     (bytes_field (codes "value") ms) (integer_field (codes "lease") ms)
   where
     over : (ra rb rc : Read ℤ) (rd : Read (List ℕ)) (re : Read ℤ)
         → (ra >>= λ a. rb >>= λ b. rc >>= λ c. rd >>= λ d. re >>= λ e. Ok (with_operand range relation (operand_of target a b c d e)))
-        ≡ ((ra >>= λ a. rb >>= λ b. rc >>= λ c. rd >>= λ d. re >>= λ e. Ok (operand_of target a b c d e)) >>= λ o. Ok (with_operand range relation o))
+        ≡ ((ra >>= λ a. rb >>= λ b. rc >>= λ c. rd >>= λ d. re >>= λ e. Ok (operand_of target a b c d e))
+        >>= λ o. Ok (with_operand range relation o))
     over (Err x) b c d e = refl
     over (Ok a) (Err x) c d e = refl
     over (Ok a) (Ok b) (Err x) d e = refl

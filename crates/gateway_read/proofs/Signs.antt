@@ -1,5 +1,6 @@
 -- The symbols of a base64 text, and those of the same text in the standard alphabet.
-use Rattle.std.proofs.Common.{◌≡◌, ℕ, zero, suc, ◌<◌, List, [], ◌∷◌, length, get_or, map, Option, None, Some, is_some, Bool, true, false, true≢false, cond, eqb, refl, sym, arith, ◌∙◌}
+use Rattle.std.proofs.Common.{◌≡◌, ℕ, zero, suc, ◌<◌, List, [], ◌∷◌, length, get_or, map, Option, None, Some}
+use Rattle.std.proofs.Common.{is_some, Bool, true, false, true≢false, cond, eqb, refl, sym, arith, ◌∙◌}
 use Rattle.std.proofs.lemmas.Bool.Decides.{nat_tests}
 use Rattle.std.specs.Prelude.{◌||◌}
 use Rattle.std.specs.List.{list_any}
@@ -8,6 +9,7 @@ use Rattle.base64.specs.Engines.{standard, standard_no_pad}
 use Rattle.base64.specs.GeneralPurpose.{decoded_of}
 use Rattle.kv_model.specs.Requests.{decoded, standard_symbol}
 use Rattle.gateway_read.specs.Signs.{is_url, is_padding}
+use Rattle.gateway_read.proofs.Readings.{refuted}
 
 -- ---- a byte that a search looks for
 
@@ -19,10 +21,6 @@ any_at : (p : ℕ → Bool) (xs : List ℕ) (k : ℕ) → k < length xs → p (g
 any_at p [] k h is = absurd (omega (arith, h))
 any_at p (x ∷ xs) zero h is = rw is refl
 any_at p (x ∷ xs) (suc k) h is = either_true (p x) _ (any_at p xs k (omega (arith, h)) is)
-
-refuted : (b : Bool) → (b ≡ true → ⊥) → b ≡ false
-refuted true h = absurd (h refl)
-refuted false h = refl
 
 any_nowhere : (p : ℕ → Bool) (xs : List ℕ) → ((k : ℕ) → k < length xs → p (get_or xs k 0) ≡ true → ⊥) → list_any p xs ≡ false
 any_nowhere p [] h = refl
@@ -68,10 +66,12 @@ pub plain : (s : List ℕ) → list_any is_url s ≡ false → map standard_symb
 plain [] is = refl
 plain (x ∷ s) is = let parts = either (is_url x) (list_any is_url s) is in rw (plain_symbol x parts.0, plain s parts.1) refl
 
-by_engine : (s : List ℕ) → decoded s ≡ decoded_of (cond (list_any is_padding (map standard_symbol s)) standard standard_no_pad) (map standard_symbol s)
+by_engine : (s : List ℕ) → decoded s ≡ decoded_of (cond (list_any is_padding (map standard_symbol s)) standard standard_no_pad)
+    (map standard_symbol s)
 unfolding decoded decoded_of
 by_engine s = refl
 
 -- what a text stands for, by whether it has padding, and by its symbols in the standard alphabet
-pub decoded-by : (s t : List ℕ) (padding : Bool) → padding ≡ list_any is_padding s → t ≡ map standard_symbol s → decoded s ≡ decoded_of (cond padding standard standard_no_pad) t
+pub decoded-by : (s t : List ℕ) (padding : Bool) → padding ≡ list_any is_padding s → t ≡ map standard_symbol s
+    → decoded s ≡ decoded_of (cond padding standard standard_no_pad) t
 decoded-by s t padding has is = by_engine s ∙ rw (has, is, padding-standard s) refl

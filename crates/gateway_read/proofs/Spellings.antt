@@ -2,7 +2,12 @@
 use Rattle.std.proofs.Common.{◌≡◌, refl}
 use Rattle.kv_model.specs.Requests as requests
 use Rattle.gateway_read.specs.declared.field.Field.{Field}
-use Rattle.gateway_read.specs.declared.field.Field.TheVariants.{Key, RangeEnd, Limit, Revision, SortOrder, SortTarget, Serializable, KeysOnly, CountOnly, MinModRevision, MaxModRevision, MinCreateRevision, MaxCreateRevision, Value, Lease, PrevKv, IgnoreValue, IgnoreLease, Compare, Success, Failure, Physical, CreateRequest, StartRevision, Filters, WatchId, Ttl, Id, Keys, Result, Target, Version, CreateRevision, ModRevision, RequestRange, RequestPut, RequestDeleteRange, RequestTxn}
+use Rattle.gateway_read.specs.declared.field.Field.TheVariants.{Key, RangeEnd, Limit, Revision, SortOrder, SortTarget, Serializable}
+use Rattle.gateway_read.specs.declared.field.Field.TheVariants.{KeysOnly, CountOnly, MinModRevision, MaxModRevision, MinCreateRevision}
+use Rattle.gateway_read.specs.declared.field.Field.TheVariants.{MaxCreateRevision, Value, Lease, PrevKv, IgnoreValue, IgnoreLease}
+use Rattle.gateway_read.specs.declared.field.Field.TheVariants.{Compare, Success, Failure, Physical, CreateRequest, StartRevision}
+use Rattle.gateway_read.specs.declared.field.Field.TheVariants.{Filters, WatchId, Ttl, Id, Keys, Result, Target, Version, CreateRevision}
+use Rattle.gateway_read.specs.declared.field.Field.TheVariants.{ModRevision, RequestRange, RequestPut, RequestDeleteRange, RequestTxn}
 use Rattle.gateway_read.specs.Fields.{snake_of, camel_of}
 
 pub camel_of-snake_of : (f : Field) → camel_of f ≡ requests.camel (snake_of f)

@@ -15,6 +15,7 @@ fails_then TooLong m f h = ap (λ m. m >>= f) h
 fails_then Memory m f h = tt
 
 -- a result that is this refusal gives the model's fault
-pub gives_fault : {X Y : Type 0} (view : X → Y) (r : Result X Bad) (e : Bad) (m : Read Y) → IsErrAnd r (λ f. f ≡ e) → Fails e m → Gives view r m
+pub gives_fault : {X Y : Type 0} (view : X → Y) (r : Result X Bad) (e : Bad) (m : Read Y) → IsErrAnd r (λ f. f ≡ e) → Fails e m
+    → Gives view r m
 gives_fault view (Ok x) e m is h = absurd is
 gives_fault view (Err f) e m is h = rw is h

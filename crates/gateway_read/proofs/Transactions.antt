@@ -43,11 +43,15 @@ by_message : (txn : Members → Read Ops) (name field : List ℕ) (d : Data) (ma
     → (requests.message field (λ ms. message_read txn (make ms)) d) ≡ ((object_under field d >>= λ ms. Ok (make ms)) >>= message_read txn)
 by_message txn name field d make = sym (then_assoc (object_under field d) (λ ms. Ok (make ms)) (message_read txn))
 
-one_kind-only_of : (txn : Members → Read Ops) (name : List ℕ) (a b c d : Option Data) → one_kind name txn a b c d ≡ (only_of name a b c d >>= message_read txn)
+one_kind-only_of : (txn : Members → Read Ops) (name : List ℕ) (a b c d : Option Data)
+    → one_kind name txn a b c d ≡ (only_of name a b c d >>= message_read txn)
 one_kind-only_of txn name None None None None = refl
-one_kind-only_of txn name (Some a) None None None = then_assoc (object_under (codes "request_range") a) requests.range_query (λ q. Ok (Ops.range q Ops.no_ops)) ∙ by_message txn name (codes "request_range") a Message.range
-one_kind-only_of txn name None (Some b) None None = then_assoc (object_under (codes "request_put") b) requests.put_request (λ p. Ok (Ops.put p Ops.no_ops)) ∙ by_message txn name (codes "request_put") b Message.put
-one_kind-only_of txn name None None (Some c) None = then_assoc (object_under (codes "request_delete_range") c) requests.delete_request (λ r. Ok (Ops.delete r Ops.no_ops)) ∙ by_message txn name (codes "request_delete_range") c Message.delete
+one_kind-only_of txn name (Some a) None None None = then_assoc (object_under (codes "request_range") a) requests.range_query
+    (λ q. Ok (Ops.range q Ops.no_ops)) ∙ by_message txn name (codes "request_range") a Message.range
+one_kind-only_of txn name None (Some b) None None = then_assoc (object_under (codes "request_put") b) requests.put_request
+    (λ p. Ok (Ops.put p Ops.no_ops)) ∙ by_message txn name (codes "request_put") b Message.put
+one_kind-only_of txn name None None (Some c) None = then_assoc (object_under (codes "request_delete_range") c) requests.delete_request
+    (λ r. Ok (Ops.delete r Ops.no_ops)) ∙ by_message txn name (codes "request_delete_range") c Message.delete
 one_kind-only_of txn name None None None (Some d) = by_message txn name (codes "request_txn") d Message.inner
 one_kind-only_of txn name (Some a) (Some b) c d = refl
 one_kind-only_of txn name (Some a) None (Some c) d = refl
@@ -56,14 +60,18 @@ one_kind-only_of txn name None (Some b) (Some c) d = refl
 one_kind-only_of txn name None (Some b) None (Some d) = refl
 one_kind-only_of txn name None None (Some c) (Some d) = refl
 
-pub by_kind : (txn : Members → Read Ops) (name : List ℕ) (d : Data) → requests.operation txn name d ≡ (kind_read name d >>= message_read txn)
+pub by_kind : (txn : Members → Read Ops) (name : List ℕ) (d : Data)
+    → requests.operation txn name d ≡ (kind_read name d >>= message_read txn)
 unfolding kind_read
 by_kind txn name d = over (object_under name d)
   where
     over : (r : Read Members)
-        → (r >>= λ ms. one_kind name txn (given (codes "request_range") ms) (given (codes "request_put") ms) (given (codes "request_delete_range") ms) (given (codes "request_txn") ms))
-        ≡ ((r >>= λ ms. only_of name (given (codes "request_range") ms) (given (codes "request_put") ms) (given (codes "request_delete_range") ms) (given (codes "request_txn") ms)) >>= message_read txn)
-    over (Ok ms) = one_kind-only_of txn name (given (codes "request_range") ms) (given (codes "request_put") ms) (given (codes "request_delete_range") ms) (given (codes "request_txn") ms)
+        → (r >>= λ ms. one_kind name txn (given (codes "request_range") ms) (given (codes "request_put") ms)
+        (given (codes "request_delete_range") ms) (given (codes "request_txn") ms))
+        ≡ ((r >>= λ ms. only_of name (given (codes "request_range") ms) (given (codes "request_put") ms)
+        (given (codes "request_delete_range") ms) (given (codes "request_txn") ms)) >>= message_read txn)
+    over (Ok ms) = one_kind-only_of txn name (given (codes "request_range") ms) (given (codes "request_put") ms)
+        (given (codes "request_delete_range") ms) (given (codes "request_txn") ms)
     over (Err e) = refl
 
 -- ---- a transaction
@@ -73,7 +81,9 @@ unfolding requests.txn_request
 not_nested n ms h = rw h refl
 
 pub nested : (n m : ℕ) (ms : Members) → n ≡ suc m → requests.txn_request n ms
-    ≡ (compares_read ms >>= λ compares. branch (requests.txn_request m) (codes "success") ms >>= λ success. branch (requests.txn_request m) (codes "failure") ms
+    ≡ (compares_read ms >>= λ compares. branch (requests.txn_request m) (codes "success") ms
+    >>= λ success. branch (requests.txn_request m) (codes "failure") ms
     >>= λ failure. Ok (Ops.txn compares success failure Ops.no_ops))
 unfolding requests.txn_request
-nested n m ms h = ap (λ n. requests.txn_request n ms) h ∙ sym (then_assoc (requests.list_field (codes "compare") ms) (each requests.compare_request) _)
+nested n m ms h = ap (λ n. requests.txn_request n ms) h
+    ∙ sym (then_assoc (requests.list_field (codes "compare") ms) (each requests.compare_request) _)

@@ -1,7 +1,15 @@
 -- How each field of a request is spelled.
 use Rattle.std.specs.Prelude.{ℕ, List, codes}
 use Rattle.gateway_read.specs.declared.field.Field.{Field}
-use Rattle.gateway_read.specs.declared.field.Field.TheVariants.{Key, RangeEnd, Limit, Revision, SortOrder, SortTarget, Serializable, KeysOnly, CountOnly, MinModRevision, MaxModRevision, MinCreateRevision, MaxCreateRevision, Value, Lease, PrevKv, IgnoreValue, IgnoreLease, Compare, Success, Failure, Physical, CreateRequest, StartRevision, Filters, WatchId, Ttl, Id, Keys, Result, Target, Version, CreateRevision, ModRevision, RequestRange, RequestPut, RequestDeleteRange, RequestTxn}
+use Rattle.gateway_read.specs.declared.field.Field.TheVariants.{Key, RangeEnd, Limit, Revision, SortOrder}
+use Rattle.gateway_read.specs.declared.field.Field.TheVariants.{SortTarget, Serializable, KeysOnly, CountOnly}
+use Rattle.gateway_read.specs.declared.field.Field.TheVariants.{MinModRevision, MaxModRevision, MinCreateRevision}
+use Rattle.gateway_read.specs.declared.field.Field.TheVariants.{MaxCreateRevision, Value, Lease, PrevKv}
+use Rattle.gateway_read.specs.declared.field.Field.TheVariants.{IgnoreValue, IgnoreLease, Compare, Success}
+use Rattle.gateway_read.specs.declared.field.Field.TheVariants.{Failure, Physical, CreateRequest, StartRevision}
+use Rattle.gateway_read.specs.declared.field.Field.TheVariants.{Filters, WatchId, Ttl, Id, Keys, Result, Target}
+use Rattle.gateway_read.specs.declared.field.Field.TheVariants.{Version, CreateRevision, ModRevision, RequestRange}
+use Rattle.gateway_read.specs.declared.field.Field.TheVariants.{RequestPut, RequestDeleteRange, RequestTxn}
 
 -- the name as the etcd documentation has it
 unfoldable pub snake_of : Field → List ℕ

@@ -1,5 +1,6 @@
 -- Which lengths the names of an object have.
-use Rattle.std.specs.Prelude.{◌≡◌, ℕ, List, length, min, Bool, true, false, is_none, slice_index_or, slice_set, String, string_bytes}
+use Rattle.std.specs.Prelude.{◌≡◌, ℕ, List, length, min, Bool, true, false, is_none}
+use Rattle.std.specs.Prelude.{slice_index_or, slice_set, String, string_bytes}
 use Rattle.std.specs.declared.alloc.Global.{Global}
 use Rattle.serde_json.specs.Data.{Members}
 use Rattle.serde_json.specs.Find.{get_member}
@@ -14,4 +15,5 @@ marked lengths name = slice_set lengths (place_of (string_bytes name)) true
 
 -- A name whose place is not marked is that of no member.
 abbrev pub AreMarked : List Bool → Members → Type 0
-AreMarked lengths ms = (name : List ℕ) → slice_index_or lengths (place_of name) false ≡ false → is_none (get_member name ms) ≡ true
+AreMarked lengths ms = (name : List ℕ) → slice_index_or lengths (place_of name) false ≡ false
+    → is_none (get_member name ms) ≡ true

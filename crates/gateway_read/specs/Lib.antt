@@ -1,8 +1,8 @@
 pub mod Compares
 pub mod Fields
-pub mod Filters
 pub mod Lengths
 pub mod Objects
+pub mod Options
 pub mod Parts
 pub mod Reading
 pub mod Signs

@@ -3,7 +3,8 @@ use Rattle.std.specs.Prelude.{ℕ, List, codes, Option, None, Some, Ok, Err}
 use Rattle.serde_json.specs.Data.{Data, Items, Members}
 use Rattle.kv_model.specs.declared.call.Compare.{Compare}
 use Rattle.kv_model.specs.Calls.{Ops, joined}
-use Rattle.kv_model.specs.Requests.{Read, ◌>>=◌, bad_field, some_or, members_of, given, list_field, each, operation, compare_request, range_query, put_request, delete_request}
+use Rattle.kv_model.specs.Requests.{Read, ◌>>=◌, bad_field, some_or, members_of, given, list_field, each}
+use Rattle.kv_model.specs.Requests.{operation, compare_request, range_query, put_request, delete_request}
 use Rattle.gateway_read.specs.Objects.{seen}
 use Rattle.gateway_read.specs.declared.transacting.Kind.{Kind}
 use Rattle.gateway_read.specs.declared.transacting.Kind.TheVariants.{Range, Put, Delete, Inner}
@@ -35,7 +36,8 @@ only_of name _ _ _ _ = Err (bad_field name)
 -- the one kind of an operation of the list with this name
 unfoldable pub kind_read : List ℕ → Data → Read Message
 kind_read name d = object_under name d >>= λ ms.
-    only_of name (given (codes "request_range") ms) (given (codes "request_put") ms) (given (codes "request_delete_range") ms) (given (codes "request_txn") ms)
+    only_of name (given (codes "request_range") ms) (given (codes "request_put") ms)
+    (given (codes "request_delete_range") ms) (given (codes "request_txn") ms)
 
 -- the operation that a message asks for, where transactions are read by txn
 abbrev pub message_read : (Members → Read Ops) → Message → Read Ops

@@ -9,7 +9,8 @@ use thiserror::Error;
 /// Why a request is refused before it reaches the store. Its display is the text of the refusal.
 #[derive(Clone, Copy, Debug, PartialEq, Eq, Error)]
 pub enum Bad {
-    /// The body is no JSON object: not UTF-8, no JSON text (RFC 8259), nested deeper than 127, or of another kind.
+    /// The body is no JSON object: not UTF-8, no JSON text (RFC 8259), nested deeper than 127, or
+    /// of another kind.
     #[error("gateway: body is not a JSON object")]
     NotJson,
     /// The field's value is not of its kind, or does not fit it.

@@ -42,10 +42,10 @@ const TARGETS: [(&str, Target); 5] = [
     ("LEASE", Target::Lease),
 ];
 
-/// Reads one compare: `result`, `target`, `key`, `range_end` and each operand, in the order of the etcd
-/// documentation's Compare. The operand that the target names counts, and the others are read and ignored. The first
-/// fault counts: `BadField` or `BadBase64`, and `BadField(Compare)` for a value that is no object. `Memory` comes
-/// where a growth finds no memory.
+/// Reads one compare: `result`, `target`, `key`, `range_end` and each operand, in the order of the
+/// etcd documentation's Compare. The operand that the target names counts, and the others are read
+/// and ignored. The first fault counts: `BadField` or `BadBase64`, and `BadField(Compare)` for a
+/// value that is no object. `Memory` comes where a growth finds no memory.
 #[tactic(auto, unfolding(kv_model::specs::Requests::compare_request, crate::specs::Fields::snake_of, crate::specs::Compares::compared))]
 pub fn compare_request(alloc: Global, value: &Value) -> Result<Compare, Bad>
     ensures { Gives (λ compare. compare) result (requests.compare_request (view value.now)) }
@@ -60,7 +60,8 @@ pub fn compare_request(alloc: Global, value: &Value) -> Result<Compare, Bad>
 
 fn target_field(object: &Object<'_>) -> Result<Target, Bad>
     ensures { Gives target_of result
-        (requests.field requests.Target.to_version (requests.enum_of requests.targets) (snake_of Field.Target) (seen object.now)) }
+        (requests.field requests.Target.to_version (requests.enum_of requests.targets)
+        (snake_of Field.Target) (seen object.now)) }
 {
     enum_field(object, Field::Target, Target::Version, &TARGETS)
 }

@@ -11,8 +11,9 @@ use kv_model::call::DeleteRequest;
 use kv_model::version::KeyRange;
 use std::alloc::Global;
 
-/// Reads the fields `key`, `range_end` and `prev_kv`, in this order (the etcd documentation, DeleteRangeRequest). The
-/// first fault counts: `BadField` or `BadBase64`. `Memory` comes where a growth finds no memory.
+/// Reads the fields `key`, `range_end` and `prev_kv`, in this order (the etcd documentation,
+/// DeleteRangeRequest). The first fault counts: `BadField` or `BadBase64`. `Memory` comes where a
+/// growth finds no memory.
 #[tactic(auto, unfolding(kv_model::specs::Requests::delete_request, crate::specs::Fields::snake_of))]
 pub(crate) fn delete_request(alloc: Global, object: &Object<'_>) -> Result<DeleteRequest, Bad>
     ensures { Gives (λ request. request) result

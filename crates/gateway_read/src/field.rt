@@ -3,9 +3,10 @@ ghost use Rattle.std.specs.Prelude.{◌≡◌};
 ghost use Rattle.kv_model.specs.Requests as requests;
 ghost use Rattle.gateway_read.specs.Fields.{snake_of, camel_of};
 
-/// A field of a request, or of a message within one (the etcd documentation's API reference: the fields of
-/// RangeRequest, PutRequest, DeleteRangeRequest, TxnRequest, Compare, RequestOp, CompactionRequest, WatchRequest and
-/// the lease requests). Fields of one name in several messages are one.
+/// A field of a request, or of a message within one (the etcd documentation's API reference: the
+/// fields of RangeRequest, PutRequest, DeleteRangeRequest, TxnRequest, Compare, RequestOp,
+/// CompactionRequest, WatchRequest and the lease requests). Fields of one name in several messages
+/// are one.
 #[derive(Clone, Copy, Debug, PartialEq, Eq)]
 pub enum Field {
     /// `key`
@@ -134,7 +135,8 @@ impl Field {
         }
     }
 
-    /// The name in camel case, as `rangeEnd` (protobuf's JSON mapping: lowerCamelCase). Some names are the same in both.
+    /// The name in camel case, as `rangeEnd` (protobuf's JSON mapping: lowerCamelCase). Some names
+    /// are the same in both.
     pub fn camel(self) -> &'static str
         ensures spelling { result.now ≡ camel_of self }
         ensures camel { result.now ≡ requests.camel (snake_of self) }

@@ -10,7 +10,8 @@ use crate::members::{integer_field, truth_field};
 use crate::object::Object;
 use kv_model::call::Command;
 
-/// Reads the fields `TTL` and `ID`, in this order (the etcd documentation, LeaseGrantRequest). The first fault counts: `BadField`.
+/// Reads the fields `TTL` and `ID`, in this order (the etcd documentation, LeaseGrantRequest). The
+/// first fault counts: `BadField`.
 #[tactic(auto, unfolding(kv_model::specs::Requests::grant_request, crate::specs::Fields::snake_of))]
 pub(crate) fn grant_request(object: &Object<'_>) -> Result<Command, Bad>
     ensures { Gives call_of result (requests.grant_request (seen object.now)) }
@@ -40,7 +41,8 @@ pub(crate) fn keep_alive_request(object: &Object<'_>) -> Result<Command, Bad>
     Ok(Command::KeepAlive { id })
 }
 
-/// Reads the fields `ID` and `keys`, in this order (the etcd documentation, LeaseTimeToLiveRequest). The first fault counts: `BadField`.
+/// Reads the fields `ID` and `keys`, in this order (the etcd documentation,
+/// LeaseTimeToLiveRequest). The first fault counts: `BadField`.
 #[tactic(auto, unfolding(kv_model::specs::Requests::time_to_live_request, crate::specs::Fields::snake_of))]
 pub(crate) fn time_to_live_request(object: &Object<'_>) -> Result<Command, Bad>
     ensures { Gives call_of result

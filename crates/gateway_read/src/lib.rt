@@ -1,4 +1,25 @@
 //! The command that a request asks for, read from its path and its body (etcd: the JSON gateway).
+//!
+//! The one contract is that of [`read`]: what it gives is `request_of` of `kv_model`, a command or
+//! the first fault in the order of the fields, and want of memory says nothing. `json_gateway`
+//! calls it for each request. For example,
+//!
+//! ```text
+//! POST /v3/kv/range  {"key":"YQ==","rangeEnd":"Yg==","limit":"2","sort_order":"DESCEND","x":1}
+//! ```
+//!
+//! asks for the first two of the keys from `a` up to `b`, the greatest first:
+//!
+//! ```text
+//! Command::Range(RangeQuery { range: KeyRange { key: a, end: b }, limit: 2, order: Descend, .. })
+//! ```
+//!
+//! Bytes are base64, a number is one or a string of digits, an enum is its name or its number, a
+//! name is spelled in snake or in camel case, and one that no message has is ignored. With
+//! `"limit":"two"` and `"key":"?"` the refusal is `BadBase64(Key)`, since `key` is read first.
+//!
+//! The tests stand in the crate `gateway_calls`, in `src/reading.rt`, `requests.rt`,
+//! `compares.rt`, `values.rt` and `faults.rt`.
 #![tactic(auto)]
 
 ghost use Rattle.kv_model.specs.Calls.{call_of};
@@ -40,12 +61,14 @@ const PATHS: [(&str, Request); 12] = [
     ("/v3/kv/lease/leases", Request::Leases),
 ];
 
-/// The command that a POST of this body to this path asks for (the etcd documentation, "gRPC gateway").
+/// The command that a POST of this body to this path asks for (the etcd documentation, "gRPC
+/// gateway").
 ///
-/// The first fault counts: `NoPath`, then `TooLong` for a body above 1,572,864 bytes, `NotJson` for one that is no
-/// JSON object, and `BadField` or `BadBase64` by the fields in their order. A body of no bytes is an empty object.
-/// Names are snake or camel case, and the snake one counts where both stand; other names are ignored.
-/// `Memory` comes where a growth finds no memory. The time is linear in the body, but for the look-up of each field.
+/// The first fault counts: `NoPath`, then `TooLong` for a body above 1,572,864 bytes, `NotJson` for
+/// one that is no JSON object, and `BadField` or `BadBase64` by the fields in their order. A body
+/// of no bytes is an empty object. Names are snake or camel case, and the snake one counts where
+/// both stand; other names are ignored. `Memory` comes where a growth finds no memory. The time is
+/// linear in the body, but for the look-up of each field.
 pub fn read(alloc: Global, path: &[u8], body: &[u8]) -> Result<Command, Bad>
     ensures { Gives call_of result (requests.request_of path.now body.now) }
 {

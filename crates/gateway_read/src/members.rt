@@ -1,4 +1,5 @@
-//! The fields of an object, each by its kind. An absent field is at its kind's default, and so is one that is null.
+//! The fields of an object, each by its kind. An absent field is at its kind's default, and so is
+//! one that is null.
 ghost use Rattle.std.specs.Prelude.{◌≡◌, map, option_map};
 ghost use Rattle.serde_json.specs.View.{view, items_view};
 ghost use Rattle.kv_model.specs.Requests as requests;
@@ -71,7 +72,8 @@ pub(crate) fn enum_field<T: Copy>(
     table: &[(&str, T)],
 ) -> Result<T, Bad>
     ensures { Gives (λ meant. meant) result
-        (requests.field default (requests.enum_of (map (λ e. (e.0.now, e.1)) table.now)) (snake_of field) (seen object.now)) }
+        (requests.field default (requests.enum_of (map (λ e. (e.0.now, e.1)) table.now))
+        (snake_of field) (seen object.now)) }
 {
     match given(object, field) {
         None => Ok(default),

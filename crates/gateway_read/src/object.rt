@@ -9,8 +9,8 @@ use serde_json::{Map, Value};
 /// How many lengths of names are told apart: the last place is that of all longer names too.
 const PLACES: usize = 32;
 
-/// The members of an object, with the lengths of their names. Most of a request's fields are absent, and most of those have
-/// a name of a length that no member's name has.
+/// The members of an object, with the lengths of their names. Most of a request's fields are
+/// absent, and most of those have a name of a length that no member's name has.
 #[derive(Drop)]
 pub(crate) struct Object<'v> {
     members: &'v Map<String, Value>,

@@ -1,8 +1,9 @@
-//! The requests, each from the fields of its object, in the order of the etcd documentation's message.
+//! The requests, each from the fields of its object, in the order of the etcd documentation's
+//! message.
 ghost use Rattle.kv_model.specs.Calls.{call_of};
 ghost use Rattle.kv_model.specs.Requests as requests;
-ghost use Rattle.gateway_read.specs.Filters.{filters_of};
-ghost use Rattle.gateway_read.specs.Parts.{filtered, call_read};
+ghost use Rattle.gateway_read.specs.Options.{flags_of, bounds_of};
+ghost use Rattle.gateway_read.specs.Parts.{completed, call_read};
 ghost use Rattle.gateway_read.specs.Objects.{seen};
 ghost use Rattle.gateway_read.specs.Reading.{Gives};
 
@@ -49,7 +50,7 @@ pub(crate) fn command(alloc: Global, request: Request, object: &Object<'_>) -> R
     }
 }
 
-#[tactic(auto, unfolding(kv_model::specs::Requests::range_query, crate::specs::Fields::snake_of, crate::specs::Parts::filtered))]
+#[tactic(auto, unfolding(kv_model::specs::Requests::range_query, crate::specs::Fields::snake_of))]
 pub(crate) fn range_query(alloc: Global, object: &Object<'_>) -> Result<RangeQuery, Bad>
     ensures { Gives (λ query. query) result
         (requests.range_query (seen object.now)) }
@@ -74,46 +75,61 @@ pub(crate) fn range_query(alloc: Global, object: &Object<'_>) -> Result<RangeQue
         min_create: 0,
         max_create: 0,
     };
-    filtered(object, query)
+    completed(object, query)
 }
 
 /// The query with what is left to read of a Range.
-fn filtered(object: &Object<'_>, query: RangeQuery) -> Result<RangeQuery, Bad>
-    ensures { Gives (λ query. query) result (filtered query (seen object.now)) }
+#[tactic(auto, unfolding(crate::specs::Parts::completed))]
+fn completed(object: &Object<'_>, query: RangeQuery) -> Result<RangeQuery, Bad>
+    ensures { Gives (λ query. query) result (completed query (seen object.now)) }
 {
-    let filters = filters_of(object)?;
+    let flags = flags_of(object)?;
+    let bounds = bounds_of(object)?;
     Ok(RangeQuery {
-        serializable: filters.serializable,
-        keys_only: filters.keys_only,
-        count_only: filters.count_only,
-        min_mod: filters.min_mod,
-        max_mod: filters.max_mod,
-        min_create: filters.min_create,
-        max_create: filters.max_create,
+        serializable: flags.serializable,
+        keys_only: flags.keys_only,
+        count_only: flags.count_only,
+        min_mod: bounds.min_mod,
+        max_mod: bounds.max_mod,
+        min_create: bounds.min_create,
+        max_create: bounds.max_create,
         ..query
     })
 }
 
-/// The last seven fields of a Range, in their order.
+/// How a Range is answered: by one member alone, by keys without values, by their number alone.
 #[derive(Clone, Copy)]
-struct Filters {
+struct Flags {
     serializable: bool,
     keys_only: bool,
     count_only: bool,
+}
+
+/// The revisions between which a Range shows a key; 0 sets no bound.
+#[derive(Clone, Copy)]
+struct Bounds {
     min_mod: i64,
     max_mod: i64,
     min_create: i64,
     max_create: i64,
 }
 
-#[tactic(auto, unfolding(crate::specs::Fields::snake_of, crate::specs::Filters::filters_of))]
-fn filters_of(object: &Object<'_>) -> Result<Filters, Bad>
-    ensures { Gives (λ filters. filters) result (filters_of (seen object.now)) }
+#[tactic(auto, unfolding(crate::specs::Fields::snake_of, crate::specs::Options::flags_of))]
+fn flags_of(object: &Object<'_>) -> Result<Flags, Bad>
+    ensures { Gives (λ flags. flags) result (flags_of (seen object.now)) }
 {
-    Ok(Filters {
+    Ok(Flags {
         serializable: truth_field(object, Field::Serializable)?,
         keys_only: truth_field(object, Field::KeysOnly)?,
         count_only: truth_field(object, Field::CountOnly)?,
+    })
+}
+
+#[tactic(auto, unfolding(crate::specs::Fields::snake_of, crate::specs::Options::bounds_of))]
+fn bounds_of(object: &Object<'_>) -> Result<Bounds, Bad>
+    ensures { Gives (λ bounds. bounds) result (bounds_of (seen object.now)) }
+{
+    Ok(Bounds {
         min_mod: integer_field(object, Field::MinModRevision)?,
         max_mod: integer_field(object, Field::MaxModRevision)?,
         min_create: integer_field(object, Field::MinCreateRevision)?,

@@ -29,14 +29,16 @@ const SORT_TARGETS: [(&str, SortTarget); 5] = [
 
 pub(crate) fn sort_order(object: &Object<'_>) -> Result<SortOrder, Bad>
     ensures { Gives (λ order. order) result
-        (requests.field Unsorted (requests.enum_of requests.sort_orders) (snake_of Field.SortOrder) (seen object.now)) }
+        (requests.field Unsorted (requests.enum_of requests.sort_orders) (snake_of Field.SortOrder)
+        (seen object.now)) }
 {
     enum_field(object, Field::SortOrder, SortOrder::Unsorted, &SORT_ORDERS)
 }
 
 pub(crate) fn sort_target(object: &Object<'_>) -> Result<SortTarget, Bad>
     ensures { Gives (λ target. target) result
-        (requests.field ByKey (requests.enum_of requests.sort_targets) (snake_of Field.SortTarget) (seen object.now)) }
+        (requests.field ByKey (requests.enum_of requests.sort_targets) (snake_of Field.SortTarget)
+        (seen object.now)) }
 {
     enum_field(object, Field::SortTarget, SortTarget::ByKey, &SORT_TARGETS)
 }

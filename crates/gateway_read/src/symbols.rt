@@ -44,9 +44,11 @@ fn decoded_by(
     }
 }
 
-/// The bytes that symbols of the standard alphabet stand for, which have their exact padding or none.
+/// The bytes that symbols of the standard alphabet stand for, which have their exact padding or
+/// none.
 fn decoded_with(alloc: Global, symbols: &[u8], padding: bool) -> Result<Option<Bytes>, AllocError>
-    ensures { IfOk result (λ found. found ≡ decoded_of (if padding then standard else standard_no_pad) symbols.now) }
+    ensures { IfOk result (λ found. found
+        ≡ decoded_of (if padding then standard else standard_no_pad) symbols.now) }
 {
     if padding {
         decoded_by(alloc, &STANDARD, symbols)
@@ -75,9 +77,9 @@ fn signs_of(text: &[u8]) -> Signs
     }
 }
 
-/// The bytes that a text of either alphabet stands for: one with `=` has its exact padding, and one with none has no
-/// padding. No text stands for bytes where the bits left over are not zero. The cost is linear in the text, which is copied
-/// only where it has symbols of the URL alphabet.
+/// The bytes that a text of either alphabet stands for: one with `=` has its exact padding, and one
+/// with none has no padding. No text stands for bytes where the bits left over are not zero. The
+/// cost is linear in the text, which is copied only where it has symbols of the URL alphabet.
 pub(crate) fn decoded(alloc: Global, text: &str) -> Result<Option<Bytes>, AllocError>
     ensures { IfOk result (λ found. found ≡ requests.decoded text.now) }
 {

@@ -6,7 +6,8 @@ ghost use Rattle.kv_model.specs.Requests as requests;
 ghost use Rattle.gateway_read.specs.Fields.{snake_of};
 ghost use Rattle.gateway_read.specs.Objects.{seen};
 ghost use Rattle.gateway_read.specs.Reading.{Gives};
-ghost use Rattle.gateway_read.specs.Transactions.{message_of, only_of, kind_read, operations_read, compares_read};
+ghost use Rattle.gateway_read.specs.Transactions.{message_of, only_of, kind_read};
+ghost use Rattle.gateway_read.specs.Transactions.{operations_read, compares_read};
 
 use crate::bad::Bad;
 use crate::comparing::compare_request;
@@ -31,9 +32,10 @@ enum Kind<'v> {
     Inner(Object<'v>),
 }
 
-/// Reads the fields `compare`, `success` and `failure`, in this order (the etcd documentation, TxnRequest), and the
-/// transactions that lie within. The first fault counts: `BadField` or `BadBase64`. An operation is of one kind, or it is
-/// `BadField` of its list. `Memory` comes where a growth finds no memory. Linear in the number of compares and operations.
+/// Reads the fields `compare`, `success` and `failure`, in this order (the etcd documentation,
+/// TxnRequest), and the transactions that lie within. The first fault counts: `BadField` or
+/// `BadBase64`. An operation is of one kind, or it is `BadField` of its list. `Memory` comes where
+/// a growth finds no memory. Linear in the number of compares and operations.
 pub(crate) fn txn_request(alloc: Global, object: &Object<'_>) -> Result<Txn, Bad>
     ensures { Gives txn_view result
         (requests.txn_request requests.most_nested (seen object.now)) }
@@ -71,7 +73,8 @@ fn branch(alloc: Global, object: &Object<'_>, list: Field, depth: u8) -> Result<
     operations(alloc, values, list, depth)
 }
 
-/// The operations that these values of a list ask for, where so many transactions may lie in one another.
+/// The operations that these values of a list ask for, where so many transactions may lie in one
+/// another.
 #[cycle(transacting)]
 fn operations(
     alloc: Global,
@@ -126,7 +129,8 @@ fn only_kind<'v>(
     inner: Option<&'v Value>,
 ) -> Result<Kind<'v>, Bad>
     ensures { Gives message_of result
-        (only_of (snake_of list) (option_map (λ v. view v.now) range.entry) (option_map (λ v. view v.now) put.entry)
+        (only_of (snake_of list) (option_map (λ v. view v.now) range.entry)
+        (option_map (λ v. view v.now) put.entry)
         (option_map (λ v. view v.now) delete.entry) (option_map (λ v. view v.now) inner.entry)) }
 {
     match (range, put, delete, inner) {

@@ -9,4 +9,5 @@ pub returns-in_err-members : goal.returns-in_err-members
 returns-in_err-members c = rw (request_of-call_read c.args.path.now c.args.body.now _ (sym c.in-Some.ensures)) (search rules)
 
 pub returns : goal.returns
-returns c = rw (request_of-call_read c.args.path.now c.args.body.now _ (sym c.in-Some.ensures), c.in_ok-members.ensures, ← c.new.ensures) c.command.ensures
+returns c = rw (request_of-call_read c.args.path.now c.args.body.now _ (sym c.in-Some.ensures), c.in_ok-members.ensures, ← c.new.ensures)
+    c.command.ensures

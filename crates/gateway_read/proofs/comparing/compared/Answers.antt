@@ -10,4 +10,5 @@ returns-in_err-operand c = rw (compared-operand c.args.range c.args.relation (ta
     (gives_fault _ c.from_residual.result _ _ c.from_residual.ensures.1 (fails_then _ _ _ c.in_err-operand.ensures))
 
 pub returns : goal.returns
-returns c = rw (compared-operand c.args.range c.args.relation (target_of c.args.target) (seen c.args.object.now), c.in_ok-operand.ensures) (search rules)
+returns c = rw (compared-operand c.args.range c.args.relation (target_of c.args.target) (seen c.args.object.now), c.in_ok-operand.ensures)
+    (search rules)

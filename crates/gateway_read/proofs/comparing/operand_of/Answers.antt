@@ -10,12 +10,14 @@ returns-in_err-version c = gives_fault _ c.from_residual.result _ _ c.from_resid
 pub returns-in_err-create : goal.returns-in_err-create
 unfolding operand_read snake_of
 returns-in_err-create c = rw c.in_ok-version.ensures
-    (gives_fault _ c.from_residual-in_err-create.result _ _ c.from_residual-in_err-create.ensures.1 (fails_then _ _ _ c.in_err-create.ensures))
+    (gives_fault _ c.from_residual-in_err-create.result _ _ c.from_residual-in_err-create.ensures.1
+    (fails_then _ _ _ c.in_err-create.ensures))
 
 pub returns-in_err-modified : goal.returns-in_err-modified
 unfolding operand_read snake_of
 returns-in_err-modified c = rw (c.in_ok-version.ensures, c.in_ok-create.ensures)
-    (gives_fault _ c.from_residual-in_err-modified.result _ _ c.from_residual-in_err-modified.ensures.1 (fails_then _ _ _ c.in_err-modified.ensures))
+    (gives_fault _ c.from_residual-in_err-modified.result _ _ c.from_residual-in_err-modified.ensures.1
+    (fails_then _ _ _ c.in_err-modified.ensures))
 
 pub returns-in_err-value : goal.returns-in_err-value
 unfolding operand_read snake_of

@@ -13,4 +13,5 @@ pub returns-else-signs : goal.returns-else-signs
 returns-else-signs c =
     let padding = c.signs_of-signs.ensures.padding ∙ ap (list_any is_padding) c.as_bytes.ensures.value in
     let bare = sym (c.signs_of-signs.ensures.url ∙ ap (list_any is_url) c.as_bytes.ensures.value) ∙ c.if-signs.false in
-    rw (decoded-by c.args.text.now _ _ padding (c.as_bytes-else-signs.ensures.value ∙ sym (plain c.args.text.now bare))) c.decoded_with-else-signs.ensures
+    rw (decoded-by c.args.text.now _ _ padding (c.as_bytes-else-signs.ensures.value ∙ sym (plain c.args.text.now bare)))
+    c.decoded_with-else-signs.ensures

@@ -9,4 +9,5 @@ returns-in_err-object c = search rules
 
 pub returns : goal.returns
 unfolding kind_read snake_of
-returns c = rw (c.in_ok-object.ensures, ← c.given-range.ensures, ← c.given-put.ensures, ← c.given-delete.ensures, ← c.given-inner.ensures) c.only_kind.ensures
+returns c = rw (c.in_ok-object.ensures, ← c.given-range.ensures, ← c.given-put.ensures, ← c.given-delete.ensures, ← c.given-inner.ensures)
+    c.only_kind.ensures
