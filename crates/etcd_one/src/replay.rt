@@ -15,7 +15,7 @@ ghost use Rattle.etcd_one.specs.Faults.{is_read, is_write};
 use crate::fault::Fault;
 use crate::script::{Lines, line_events};
 use json_gateway::{
-    Expiry, Ids, Outcome, Refusal, Settled, WireEvent, WireOutcome, WireRun, run_wire,
+    Expiry, Ids, Outcome, Settled, Unexpired, WireEvent, WireOutcome, WireRun, run_wire,
 };
 use std::alloc::{AllocError, Global};
 use std::io;
@@ -183,7 +183,7 @@ fn write_outcome<W: Write>(
         WireOutcome::Posted(posted) => write_posted(w, event, posted),
         WireOutcome::Clock(clock) => write_clock(w, *clock),
         WireOutcome::Expiry(Ok(expiry)) => write_expiry(w, *expiry),
-        WireOutcome::Expiry(Err(refusal)) => write_unexpired(w, event, *refusal),
+        WireOutcome::Expiry(Err(why)) => write_unexpired(w, event, *why),
     }
 }
 
@@ -236,15 +236,14 @@ fn write_expired<W: Write>(w: &mut W, id: i64, revision: u64) -> io::Result<()>
     writeln!(w, "expired {id} revision {revision}")
 }
 
-/// Writes why a step of expiry was refused.
-fn write_unexpired<W: Write>(w: &mut W, event: &WireEvent<'_>, refusal: Refusal) -> io::Result<()>
+/// Writes why a lease that is due was not revoked.
+fn write_unexpired<W: Write>(w: &mut W, event: &WireEvent<'_>, why: Unexpired) -> io::Result<()>
     ensures { OnOk result (Appends (W.contents w.old) (W.contents w.new)
-        (spec.outcome_line (event_view event.now) (expiry_outcome (Err refusal)))) }
+        (spec.outcome_line (event_view event.now) (expiry_outcome (Err why)))) }
 {
-    if refusal == Refusal::Memory {
-        write_out_of_memory(w, event)
-    } else {
-        w.write_all(b"revisions are spent\n")
+    match why {
+        Unexpired::Memory => write_out_of_memory(w, event),
+        Unexpired::RevisionsSpent => w.write_all(b"revisions are spent\n"),
     }
 }
 

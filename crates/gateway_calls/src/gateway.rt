@@ -2,9 +2,8 @@
 use gateway_read::read;
 use json_gateway::commands::{perform, post, text};
 use json_gateway::outcome::{Outcome, Settled};
-use json_gateway::wire::{WireEvent, WireOutcome, WireRun, run_wire};
+use json_gateway::wire::{Unexpired, WireEvent, WireOutcome, WireRun, run_wire};
 use kv_model::ids::Ids;
-use kv_model::refusal::Refusal;
 use request_core::answer::{Answer, Expiry};
 use request_core::store::Core;
 use std::alloc::Global;
@@ -96,7 +95,7 @@ fn a_put_a_range_and_a_delete_as_bytes(rt: HostRuntime) {
 }
 
 /// What a step of expiry did, where the outcome at this place is that of one.
-fn expired(run: &WireRun, place: usize) -> Option<Result<Expiry, Refusal>> {
+fn expired(run: &WireRun, place: usize) -> Option<Result<Expiry, Unexpired>> {
     match run.outcomes.get(place) {
         Some(WireOutcome::Expiry(step)) => Some(*step),
         _ => None,
@@ -115,7 +114,7 @@ fn clock(run: &WireRun, place: usize) -> Option<u64> {
 type Ended = (
     usize,
     Option<Told>,
-    [Option<Result<Expiry, Refusal>>; 2],
+    [Option<Result<Expiry, Unexpired>>; 2],
     Option<u64>,
 );
 

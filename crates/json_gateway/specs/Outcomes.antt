@@ -1,12 +1,14 @@
 -- What outcomes say, in the definitions' terms.
-use Rattle.std.specs.Prelude.{◌≡◌, ℕ, Bool, true, false, Option, ⊤}
+use Rattle.std.specs.Prelude.{◌≡◌, ℕ, ◌+◌, ◌%◌, ◌^◌, ◌==◌, ◌||◌, nat_lt, Bool, true, false, Option, None, Result, Ok, Err, ⊤}
 use Rattle.kv_model.specs.declared.refusal.Refusal.{Refusal}
 use Rattle.kv_model.specs.declared.refusal.Refusal.TheVariants as refusal
 use Rattle.kv_model.specs.Answers.{Response, Fault, refused, fault_of, lost_fault, fault_of_bad}
 use Rattle.kv_model.specs.Requests as requests
-use Rattle.kv_model.specs.World.{World}
+use Rattle.kv_model.specs.Calls.{Call}
+use Rattle.kv_model.specs.World.{World, revision}
 use Rattle.kv_model.specs.Stands.{StandsFor}
-use Rattle.kv_model.specs.Wire.{Loss, raised, number_made}
+use Rattle.kv_model.specs.Step.{Made, made_in}
+use Rattle.kv_model.specs.Wire.{Loss, raised, number_made, changes_beside}
 use Rattle.gateway_read.specs.declared.bad.Bad.{Bad}
 use Rattle.gateway_read.specs.declared.bad.Bad.TheVariants.{NotJson, BadField, BadBase64, NoPath, TooLong, Memory}
 use Rattle.gateway_read.specs.Fields.{snake_of}
@@ -25,6 +27,30 @@ abbrev pub shown : Settled → Response
 shown (settled.Reply r) = response_of r
 shown settled.Memory = refused (fault_of refusal.Memory)
 shown (settled.Lost revision) = refused lost_fault
+
+-- The command was accepted: it was answered with status 200, or its answer was lost. Else nothing was done.
+abbrev pub is_accepted : Settled → Bool
+is_accepted (settled.Reply r) = r.status == 200
+is_accepted settled.Memory = false
+is_accepted (settled.Lost revision) = true
+
+-- where nothing was done, no revision rose and no watch was made
+abbrev pub IsBare : Outcome → Type 0
+IsBare o = is_accepted o.settled ≡ false → (o.raised ≡ None) × (o.watch ≡ None)
+
+-- an accepted command changes the world, in its history or beside it
+abbrev pub is_change : World → Call → Made → Bool
+is_change w call (Ok made) = nat_lt (revision w) (revision made.1) || changes_beside w call
+is_change w call (Err e) = false
+
+abbrev pub is_change_by : World → Result Call requests.Bad → Bool
+is_change_by w (Ok call) = is_change w call (made_in w call)
+is_change_by w (Err e) = false
+
+-- a change is one changing call, and where nothing has changed the core is as it was
+abbrev pub IsCounted : Bool → CoreState → CoreState → Type 0
+IsCounted true old new = new.stamp ≡ (old.stamp + 1) % 2 ^ 64
+IsCounted false old new = new ≡ old
 
 -- An accepted command ends with this answer, or, where no memory was found for it, by whether it changed the store, which
 -- is at this revision since.

@@ -1,7 +1,6 @@
 -- What events and outcomes of a run say, in the definitions' terms.
-use Rattle.std.specs.Prelude.{ℕ, Option, Result, Ok, Err, if◌then◌else◌}
+use Rattle.std.specs.Prelude.{ℕ, Option, Result, Ok, Err, ⊤}
 use Rattle.kv_model.specs.declared.ids.Ids.{Ids}
-use Rattle.kv_model.specs.declared.refusal.Refusal.{Refusal}
 use Rattle.kv_model.specs.Told as told
 use Rattle.kv_model.specs.World.{World}
 use Rattle.kv_model.specs.Stands.{StandsFor}
@@ -9,7 +8,7 @@ use Rattle.kv_model.specs.Follows as follows
 use Rattle.kv_model.specs.Wire as model
 use Rattle.kv_model.specs.Wire.{WireTold, wire_step, is_free, takes_memory, MayLose}
 use Rattle.request_core.specs.State.{CoreState}
-use Rattle.request_core.specs.Answers.{is_memory, expiry_view}
+use Rattle.request_core.specs.Answers.{expiry_view}
 use Rattle.request_core.specs.declared.answer.Expiry.{Expiry}
 use Rattle.json_gateway.specs.declared.outcome.Settled.{Settled}
 use Rattle.json_gateway.specs.declared.outcome.Settled.TheVariants as settled
@@ -18,7 +17,9 @@ use Rattle.json_gateway.specs.declared.wire.WireEvent.{WireEvent}
 use Rattle.json_gateway.specs.declared.wire.WireEvent.TheVariants as event
 use Rattle.json_gateway.specs.declared.wire.WireOutcome.{WireOutcome}
 use Rattle.json_gateway.specs.declared.wire.WireOutcome.TheVariants as outcome
-use Rattle.json_gateway.specs.Outcomes.{response_of}
+use Rattle.json_gateway.specs.declared.wire.Unexpired.{Unexpired}
+use Rattle.json_gateway.specs.declared.wire.Unexpired.TheVariants as unexpired
+use Rattle.json_gateway.specs.Outcomes.{response_of, IsBare}
 
 abbrev pub event_view : WireEvent → model.WireEvent
 event_view (event.Moment m) = model.WireEvent.moment m
@@ -34,15 +35,25 @@ ending_view (settled.Lost revision) up watch = follows.Outcome.lost (record { re
 abbrev pub command_view : Outcome → model.WireOutcome
 command_view o = ending_view o.settled o.raised o.watch
 
--- what a step of expiry did: it is refused without memory, or since the revisions are spent
-abbrev pub expiry_outcome : Result Expiry Refusal → model.WireOutcome
+-- a step of expiry is refused without memory, or since the revisions are spent
+abbrev pub unexpired_view : Unexpired → model.WireOutcome
+unexpired_view unexpired.Memory = follows.Outcome.memory
+unexpired_view unexpired.RevisionsSpent = follows.Outcome.said (WireTold.expiry told.Expiry.spent)
+
+-- what a step of expiry did
+abbrev pub expiry_outcome : Result Expiry Unexpired → model.WireOutcome
 expiry_outcome (Ok e) = follows.Outcome.said (WireTold.expiry (expiry_view e))
-expiry_outcome (Err e) = if is_memory e then follows.Outcome.memory else follows.Outcome.said (WireTold.expiry told.Expiry.spent)
+expiry_outcome (Err e) = unexpired_view e
 
 abbrev pub outcome_view : WireOutcome → model.WireOutcome
 outcome_view (outcome.Posted o) = command_view o
 outcome_view (outcome.Clock clock) = follows.Outcome.said (WireTold.clock clock)
 outcome_view (outcome.Expiry made) = expiry_outcome made
+
+-- where a request was not accepted, no revision rose and no watch was made
+abbrev pub IsBareIn : WireOutcome → Type 0
+IsBareIn (outcome.Posted o) = IsBare o
+IsBareIn _ = ⊤
 
 -- the outcome is the model's for this event, and the core then stands for the world after it
 pub record Steps (ids : Ids) (w : World) (e : model.WireEvent) (o : model.WireOutcome) (new : CoreState) : Type 0 where

@@ -1,5 +1,5 @@
 //! One command or one request on a core, from bytes to bytes.
-ghost use Rattle.std.specs.Prelude.{◌≡◌, map, IfOk};
+ghost use Rattle.std.specs.Prelude.{◌≡◌, true, false, None, map, IfOk};
 ghost use Rattle.kv_model.specs.Answers.{Response, answered, response_to};
 ghost use Rattle.kv_model.specs.Calls.{call_of};
 ghost use Rattle.kv_model.specs.Requests.{request_of};
@@ -9,7 +9,7 @@ ghost use Rattle.kv_model.specs.Wire.{IsChange, IsChangeBy, reply_to};
 ghost use Rattle.kv_model.specs.World.{World};
 ghost use Rattle.gateway_text.specs.Views.{wording_view};
 ghost use Rattle.request_core.specs.Answers.{IsReadable, answer_of, answer_view, has_changed, time_left_view};
-ghost use Rattle.json_gateway.specs.Outcomes.{Declines, Dismisses, Ends, Settles, fault_of_reading};
+ghost use Rattle.json_gateway.specs.Outcomes.{Declines, Dismisses, Ends, IsBare, IsCounted, Settles, fault_of_reading, is_accepted, is_change, is_change_by};
 
 use crate::outcome::{Outcome, Reply, Settled};
 use gateway_read::bad::Bad;
@@ -29,11 +29,17 @@ use std::alloc::{AllocError, Global};
 /// Does one command on a core, and gives its outcome.
 ///
 /// The answer is written after the command is done: where no memory is found for it and the command changed the
-/// store, the outcome is `Lost`, and where it changed nothing, `Memory`.
+/// store, the outcome is `Lost`, and where it changed nothing, `Memory`. At `Memory` and at each refusal, whose status is not 200,
+/// the core is as it was, and neither a revision nor a watch is told; so it is where an accepted command changes nothing. A change
+/// adds one to the core's stamp.
 pub fn perform(alloc: Global, core: &mut Core, command: &Command, ids: &Ids) -> Outcome
-    ensures { (w : World) → StandsFor core.old.store w → Ends result core.old core.new w
+    ensures ends { (w : World) → StandsFor core.old.store w → Ends result core.old core.new w
         (response_to ids.now (perform_in w (call_of command.now)).0) (perform_in w (call_of command.now)).1
         (λ l. IsChange w (call_of command.now) l (made_in w (call_of command.now))) }
+    ensures unchanged { is_accepted result.settled ≡ false → core.new ≡ core.old }
+    ensures bare { IsBare result }
+    ensures counted { (w : World) → StandsFor core.old.store w → is_accepted result.settled ≡ true
+        → IsCounted (is_change w (call_of command.now) (made_in w (call_of command.now))) core.old core.new }
 {
     match core.apply(command) {
         Ok(receipt) => Outcome {
@@ -49,11 +55,16 @@ pub fn perform(alloc: Global, core: &mut Core, command: &Command, ids: &Ids) -> 
     }
 }
 
-/// Does what a request asks on a core, and gives its outcome.
+/// Does what a request asks on a core, and gives its outcome. A request that is not read is refused, and all that `perform` says of
+/// a refusal holds of it.
 pub fn post(alloc: Global, core: &mut Core, path: &[u8], body: &[u8], ids: &Ids) -> Outcome
-    ensures { (w : World) → StandsFor core.old.store w → Ends result core.old core.new w
+    ensures ends { (w : World) → StandsFor core.old.store w → Ends result core.old core.new w
         (reply_to ids.now w path.now body.now).0 (reply_to ids.now w path.now body.now).1
         (λ l. IsChangeBy w l (request_of path.now body.now)) }
+    ensures unchanged { is_accepted result.settled ≡ false → core.new ≡ core.old }
+    ensures bare { IsBare result }
+    ensures counted { (w : World) → StandsFor core.old.store w → is_accepted result.settled ≡ true
+        → IsCounted (is_change_by w (request_of path.now body.now)) core.old core.new }
 {
     match read(alloc, path, body) {
         Ok(command) => perform(alloc, core, &command, ids),

@@ -11,4 +11,4 @@ pub use kv_model::ids::Ids;
 pub use kv_model::refusal::Refusal;
 pub use outcome::{Outcome, Reply, Settled};
 pub use request_core::answer::Expiry;
-pub use wire::{WireEvent, WireOutcome, WireRun, run_wire};
+pub use wire::{Unexpired, WireEvent, WireOutcome, WireRun, run_wire};

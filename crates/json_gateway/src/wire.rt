@@ -1,7 +1,10 @@
 //! Runs of events, from bytes to bytes.
-ghost use Rattle.std.specs.Prelude.{◌≡◌, map, IfOk};
+ghost use Rattle.std.specs.List.{AllByRecursion};
+ghost use Rattle.std.specs.Prelude.{◌≡◌, map, IfOk, if◌then◌else◌};
+ghost use Rattle.kv_model.specs.declared.ids.Ids.{Ids};
+ghost use Rattle.request_core.specs.Answers.{is_memory};
 ghost use Rattle.kv_model.specs.Stands.{StandsFor};
-ghost use Rattle.kv_model.specs.Wire.{Follows, post as model_post};
+ghost use Rattle.kv_model.specs.Wire.{Follows, expire as model_expire, post as model_post};
 ghost use Rattle.kv_model.specs.World.{World};
 
 use crate::commands::post;
@@ -30,9 +33,17 @@ pub enum WireOutcome {
     Posted(Outcome),
     /// The store's clock, in milliseconds: the greatest moment so far, at most 2^62.
     Clock(u64),
-    /// What a step of expiry did. `RevisionsSpent` where the lease has keys and no revision is left to delete them in, and
-    /// `Memory` where no memory was found; nothing has changed then. No other refusal comes.
-    Expiry(Result<Expiry, Refusal>),
+    /// What a step of expiry did, or why it did nothing.
+    Expiry(Result<Expiry, Unexpired>),
+}
+
+/// Why a lease that is due was not revoked. Nothing has changed then.
+#[derive(Clone, Copy, Debug, PartialEq, Eq)]
+pub enum Unexpired {
+    /// No memory was found.
+    Memory,
+    /// The lease has keys, and no revision is left to delete them in.
+    RevisionsSpent,
 }
 
 /// The outcomes of a run, one for each event, in order.
@@ -41,15 +52,17 @@ pub struct WireRun {
     pub outcomes: Vec<WireOutcome>,
 }
 
-ghost use Rattle.json_gateway.specs.Runs.{Steps, event_view, outcome_view};
+ghost use Rattle.json_gateway.specs.Runs.{IsBareIn, Steps, event_view, outcome_view};
 
 /// Runs events on a fresh store. **Each outcome's bytes are those of the model of the whole history**, whatever the
 /// events are: `Follows` of the model says so.
 ///
 /// An event that found no memory counts as not made, and an answer may be lost only where its change stands; a moment finds
-/// its memory always. `AllocError` comes before the first event, where there is no room for the outcomes.
+/// its memory always. An outcome without an answer, and a refusal, tell neither a revision nor a watch. `AllocError` comes before
+/// the first event, where there is no room for the outcomes.
 pub fn run_wire(alloc: Global, events: &[WireEvent<'_>], ids: &Ids) -> Result<WireRun, AllocError>
-    ensures { IfOk result (λ run. Follows ids.now (map event_view events.now) (map outcome_view run.outcomes.items)) }
+    ensures follows { IfOk result (λ run. Follows ids.now (map event_view events.now) (map outcome_view run.outcomes.items)) }
+    ensures bare { IfOk result (λ run. AllByRecursion IsBareIn run.outcomes.items) }
 {
     let mut outcomes = Vec::with_capacity(alloc, events.len())?;
     let mut core = Core::new(alloc);
@@ -62,18 +75,41 @@ pub fn run_wire(alloc: Global, events: &[WireEvent<'_>], ids: &Ids) -> Result<Wi
 
 /// One event on a core.
 fn step(alloc: Global, core: &mut Core, event: &WireEvent<'_>, ids: &Ids) -> WireOutcome
-    ensures { (w : World) → StandsFor core.old.store w → Steps ids.now w (event_view event.now) (outcome_view result) core.new }
+    ensures bare { IsBareIn result }
+    ensures steps { (w : World) → StandsFor core.old.store w → Steps ids.now w (event_view event.now) (outcome_view result) core.new }
 {
     match event {
         WireEvent::Moment(now) => WireOutcome::Clock(core.moment(*now)),
         WireEvent::Post { path, body } => step_post(alloc, core, path, body, ids),
-        WireEvent::Expire => WireOutcome::Expiry(core.expire()),
+        WireEvent::Expire => step_expire(core),
     }
 }
 
 /// A request on a core, as an event of a run.
 fn step_post(alloc: Global, core: &mut Core, path: &[u8], body: &[u8], ids: &Ids) -> WireOutcome
-    ensures { (w : World) → StandsFor core.old.store w → Steps ids.now w (model_post path.now body.now) (outcome_view result) core.new }
+    ensures bare { IsBareIn result }
+    ensures steps { (w : World) → StandsFor core.old.store w → Steps ids.now w (model_post path.now body.now) (outcome_view result) core.new }
 {
     WireOutcome::Posted(post(alloc, core, path, body, ids))
+}
+
+/// A step of expiry on a core, as an event of a run.
+fn step_expire(core: &mut Core) -> WireOutcome
+    ensures bare { IsBareIn result }
+    ensures steps { (ids : Ids) (w : World) → StandsFor core.old.store w → Steps ids w model_expire (outcome_view result) core.new }
+{
+    match core.expire() {
+        Ok(expiry) => WireOutcome::Expiry(Ok(expiry)),
+        Err(refusal) => WireOutcome::Expiry(Err(why_unexpired(refusal))),
+    }
+}
+
+/// Why a lease was not revoked, by the core's refusal, which is one of these two.
+fn why_unexpired(refusal: Refusal) -> Unexpired
+    ensures { result ≡ (if is_memory refusal then Unexpired.Memory else Unexpired.RevisionsSpent) }
+{
+    match refusal {
+        Refusal::Memory => Unexpired::Memory,
+        _ => Unexpired::RevisionsSpent,
+    }
 }

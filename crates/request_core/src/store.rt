@@ -63,7 +63,7 @@ impl Core {
     ghost use Rattle.range_view.specs.Stored.{blank_at};
     ghost use Rattle.request_core.specs.Answers.{Accepts, IsRefusal, IsReadable, answer_view, answer_of, first_refusal, has_changed, is_beside, is_free, is_memory, takes_memory};
 
-    /// The store before the first event. Takes no memory.
+    /// The store before the first event, and before the first changing call. Takes no memory.
     pub fn new(alloc: Global) -> Self
         ensures stands { StandsFor result.store opening }
         ensures stamp { result.stamp ≡ 0 }
@@ -86,7 +86,8 @@ impl Core {
         }
     }
 
-    /// How many changing calls came, wrapping.
+    /// How many changing calls came, wrapping: accepted commands that changed something, moments, and steps of expiry that revoked
+    /// a lease. No other call counts. Takes no memory.
     pub fn stamp(&self) -> u64
         ensures { result ≡ self.now.stamp }
     {
@@ -108,7 +109,8 @@ impl Core {
         }
     }
 
-    /// Does one command, on what the core stands for. A refused command leaves the core as it was.
+    /// Does one command, on what the core stands for. A refused command leaves the core as it was, and so does an accepted one whose
+    /// receipt says that nothing has changed; where something has, the stamp is one more.
     ///
     /// The refusals come in the order of the etcd documentation's checks of a request: `NoKey` where the key is empty; of a
     /// Range, `Compacted` and `Future` where its revision is below the last compaction or above the present one; of a Put,

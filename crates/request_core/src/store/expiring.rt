@@ -16,7 +16,7 @@ impl Core {
     ghost use Rattle.request_core.specs.Answers.{expiry_view, has_expired};
 
     /// Hands in the present moment, in milliseconds, and answers the clock: the greatest moment so far. An earlier one leaves
-    /// the clock, and one above 2^62 counts as 2^62. Takes no memory. Constant time.
+    /// the clock, and one above 2^62 counts as 2^62. Either is a changing call. Takes no memory. Constant time.
     pub fn moment(&mut self, now: u64) -> u64
         ensures clock { result ≡ self.new.store.clock }
         ensures made { self.new ≡ after_moment self.old now }
@@ -26,10 +26,12 @@ impl Core {
         self.book.moment(now)
     }
 
-    /// One step of expiry: revokes the lease that is due first, by deadline and then by ID, and deletes its keys in one revision.
+    /// One step of expiry: revokes the lease that is due first, by deadline and then by ID, and deletes its keys in one revision. That
+    /// is a changing call, whether it has keys or not. Where no lease is due, the core is left as it was, its stamp too, so that an
+    /// answer that was asked for before may still be read.
     ///
-    /// Refused as `RevisionsSpent` where the lease has keys and no revision comes after the present one, and as `Memory`; the
-    /// core is then as it was. Finding that no lease is due takes constant time; else the cost is that of a revoke.
+    /// Refused as `RevisionsSpent` where the lease has keys and no revision comes after the present one, and as `Memory`, and as
+    /// nothing else; the core is then as it was. Finding that no lease is due takes constant time; else the cost is that of a revoke.
     pub fn expire(&mut self) -> Result<Expiry, Refusal>
         ensures expired { IfOk result (λ e. (w : World) → StandsFor self.old.store w → (expiry_view e ≡ (expire w).0) × StandsFor self.new.store (expire w).1) }
         ensures unchanged { IfOk result (λ e. has_expired e ≡ false → self.new ≡ self.old) }

@@ -1,6 +1,8 @@
 use Rattle.std.proofs.Common.{◌≡◌, ◌+◌, List, [], ◌∷◌, ◌++◌, true, is_ok, vec_len, map, drop, sym, ap, subst, arith}
 use Rattle.json_gateway.specs.declared.wire.WireOutcome.{WireOutcome}
-use Rattle.json_gateway.specs.Runs.{event_view, outcome_view}
+use Rattle.std.specs.List.{AllByRecursion}
+use Rattle.kv_model.proofs.PlaceLaws.{each-append}
+use Rattle.json_gateway.specs.Runs.{IsBareIn, event_view, outcome_view}
 use Rattle.json_gateway.proofs.Events.{RunsOn, run_more, run_end}
 use Rattle.json_gateway.proofs.wire.run_wire.Goals as goal
 
@@ -13,9 +15,11 @@ loop-event-preserved c =
       count = let long : vec_len c.push.new.self ≡ vec_len c.loop-event.outcomes + 1 = rw pushed at c.push.ensures.len in omega (arith, long, c.loop-event.invariant.count);
       run = subst (λ (os : List WireOutcome). RunsOn c.args.ids.now (map event_view c.args.events.now) (map outcome_view os) (map event_view (drop (c.loop-event.event-index + 1) c.args.events.now)) c.step-outcome.new.core)
           (sym items) (run_more c.args.ids.now (map event_view c.args.events.now) c.args.events.now c.loop-event.outcomes.items c.loop-event.event-index _ c.step-outcome.result
-          c.loop-event.core c.step-outcome.new.core c.loop-event-test.true c.loop-event.invariant.run c.step-outcome.ensures);
+          c.loop-event.core c.step-outcome.new.core c.loop-event-test.true c.loop-event.invariant.run c.step-outcome.ensures.steps);
+      bare = subst (AllByRecursion IsBareIn) (sym items)
+          (each-append IsBareIn c.loop-event.outcomes.items (c.step-outcome.result ∷ []) c.loop-event.invariant.bare (c.step-outcome.ensures.bare, tt));
     }
 
-pub returns : goal.returns
-returns c = run_end c.args.ids.now (map event_view c.args.events.now) c.args.events.now (map outcome_view c.loop-event.outcomes.items) c.loop-event.event-index c.loop-event.core
+pub returns-clause-follows : goal.returns-clause-follows
+returns-clause-follows c = run_end c.args.ids.now (map event_view c.args.events.now) c.args.events.now (map outcome_view c.loop-event.outcomes.items) c.loop-event.event-index c.loop-event.core
     c.loop-event-test.false c.loop-event.invariant.run

@@ -1,0 +1,9 @@
+use Rattle.std.proofs.Common.{sym, subst}
+use Rattle.json_gateway.specs.declared.wire.WireEvent.{WireEvent}
+use Rattle.json_gateway.specs.Runs.{Steps, event_view, outcome_view}
+use Rattle.json_gateway.proofs.wire.step.Goals as goal
+
+pub returns-in-Expire-clause-steps : goal.returns-in-Expire-clause-steps
+returns-in-Expire-clause-steps c = λ w h.
+    subst (λ (e : WireEvent). Steps c.args.ids.now w (event_view e) (outcome_view c.step_expire.result) c.step_expire.new.core) (sym c.in-Expire.is)
+    (c.step_expire.ensures.steps c.args.ids.now w h)
