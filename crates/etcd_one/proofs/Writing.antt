@@ -1,11 +1,8 @@
 -- The replies of all lines, by the events among them.
 use Rattle.std.proofs.Common.{◌≡◌, ℕ, List, [], ◌∷◌, ◌++◌, map, Option, None, Some, IfSome, Result, Ok, Err, OnOk, IfErr, Bool, true, false, codes, refl, ap, subst}
 use Rattle.std.specs.Io.KnownBytes.{Appends}
-use Rattle.kv_model.specs.declared.refusal.Refusal.{Refusal}
-use Rattle.kv_model.specs.declared.refusal.Refusal.TheVariants.{Memory}
 use Rattle.kv_model.specs.Wire.{Follows, WireEvent, WireOutcome}
 use Rattle.json_gateway.specs.Runs.{event_view}
-use Rattle.txn_core.specs.Planning.{is_memory}
 use Rattle.etcd_one.specs.declared.script.Lines.{Lines}
 use Rattle.etcd_one.specs.Lines.{AreLines, are_events, line_by, replies_by}
 use Rattle.etcd_one.specs.Script.{line_events}
@@ -60,7 +57,3 @@ pub answered_front : {A E : Type 0} (r : Result A E) (P : E → Type 0) (known b
     → IfErr r (λ e. P e → IfSome known (λ script. (x : List ℕ) × IsAnswered script x × AppendsFront before after x))
 answered_front (Ok a) P known before after text lines os same are follows p = tt
 answered_front (Err e) P known before after text lines os same are follows p = λ _. answered_by known text lines os (AppendsFront before after) same are follows p
-
-pub not_memory : (e : Refusal) → (e ≡ Memory → ⊥) → is_memory e ≡ false
-not_memory Memory n = absurd (n refl)
-not_memory _ n = refl

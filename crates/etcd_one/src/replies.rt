@@ -13,7 +13,7 @@ use crate::fault::Fault;
 use crate::pieces::{write_bytes, write_pieces};
 use crate::script::Lines;
 use itoa::Buffer;
-use json_gateway::{Expiry, Outcome, Refusal, Settled, WireEvent, WireOutcome};
+use json_gateway::{Expiry, Outcome, Settled, Unexpired, WireEvent, WireOutcome};
 use std::io;
 use std::io::Write;
 
@@ -93,7 +93,7 @@ fn write_outcome<W: Write>(
         WireOutcome::Posted(posted) => write_posted(w, event, posted),
         WireOutcome::Clock(clock) => write_clock(w, *clock),
         WireOutcome::Expiry(Ok(expiry)) => write_expiry(w, *expiry),
-        WireOutcome::Expiry(Err(refusal)) => write_unexpired(w, event, *refusal),
+        WireOutcome::Expiry(Err(why)) => write_unexpired(w, event, *why),
     }
 }
 
@@ -151,13 +151,13 @@ fn write_expired<W: Write>(w: &mut W, id: i64, revision: u64) -> io::Result<()>
 }
 
 /// Writes why a step of expiry was refused.
-fn write_unexpired<W: Write>(w: &mut W, event: &WireEvent<'_>, refusal: Refusal) -> io::Result<()>
+fn write_unexpired<W: Write>(w: &mut W, event: &WireEvent<'_>, why: Unexpired) -> io::Result<()>
     ensures { Writes result (W.contents w.old) (W.contents w.new)
-        (spec.outcome_line (event_view event.now) (expiry_outcome (Err refusal))) }
+        (spec.outcome_line (event_view event.now) (expiry_outcome (Err why))) }
 {
-    match refusal {
-        Refusal::Memory => write_out_of_memory(w, event),
-        _ => write_bytes(w, b"revisions are spent\n"),
+    match why {
+        Unexpired::Memory => write_out_of_memory(w, event),
+        Unexpired::RevisionsSpent => write_bytes(w, b"revisions are spent\n"),
     }
 }
 
