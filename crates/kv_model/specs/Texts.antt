@@ -1,5 +1,5 @@
 -- Worked requests, as bytes.
-use Rattle.std.specs.Prelude.{◌≡◌, refl, ⊤, ℕ, List, [], ◌∷◌, codes}
+use Rattle.std.specs.Prelude.{◌≡◌, refl, ⊤, ℕ, ℤ, pos, List, [], ◌∷◌, map, true, false, unwrap_or, codes}
 use Rattle.serde_json.proofs.OnLiterals.{serde_json_on_literals}
 use Rattle.std.specs.Str.{is_utf8, chars}
 use Rattle.std.specs.Fmt.{digits}
@@ -8,8 +8,11 @@ use Rattle.base64.specs.Decode.{groups_error, groups_bytes, scan_steps}
 use Rattle.kv_model.specs.World.{World, opening}
 use Rattle.kv_model.specs.Requests.{request_of, range_query, put_request, delete_request, compare_request, txn_request, grant_request, time_to_live_request, decoded}
 use Rattle.kv_model.specs.declared.ids.Ids.{Ids}
-use Rattle.kv_model.specs.Answers.{Response, bytes_text, header, key_value_text, range_text, put_text, delete_text, txn_text, short_header, response, responses, header_alone, result_text, lease_text, reply_text, fault_text}
+use Rattle.kv_model.specs.Answers.{Response, bytes_text, header, key_value_text, range_text, put_text, delete_text, txn_text, short_header, response, responses, header_alone, result_text, lease_text, reply_text, fault_text, created_text, tombstone_text, event_text, events_text, cancelled_text, response_to, message_text}
 use Rattle.kv_model.specs.Wire.{WireEvent, wire_step, reply_to}
+use Rattle.kv_model.specs.Told.{Event, Told}
+use Rattle.kv_model.specs.Step.{told_by}
+use Rattle.kv_model.specs.Samples.{a, one, two, put_event, delete_event, watch_event, compact_event}
 use Rattle.kv_model.specs.OnLiterals.{model_on_literals}
 
 abbrev pub ones : Ids
@@ -17,7 +20,7 @@ ones = record { cluster = 1; member = 1 }
 
 -- an `unfolding` line that names this opens the definitions of requests and answers
 unfoldable pub wire_on_literals : ⊤
-unfolding request_of range_query put_request delete_request compare_request txn_request grant_request time_to_live_request decoded bytes_text header key_value_text range_text put_text delete_text txn_text short_header response responses header_alone result_text lease_text reply_text fault_text
+unfolding request_of range_query put_request delete_request compare_request txn_request grant_request time_to_live_request decoded bytes_text header key_value_text range_text put_text delete_text txn_text short_header response responses header_alone result_text lease_text reply_text fault_text created_text tombstone_text event_text events_text cancelled_text
 wire_on_literals = tt
 
 -- what is answered to requests in turn
@@ -155,3 +158,50 @@ pub a_lease : run_wired opening (Wired.moment 1000
     ∷ Said.reply (record { status = 404; body = codes "{\"code\":5,\"error\":\"etcdserver: requested lease not found\",\"message\":\"etcdserver: requested lease not found\"}" }) ∷ []
 unfolding model_on_literals wire_on_literals serde_json_on_literals is_utf8 chars digits encode_symbols groups_error groups_bytes scan_steps
 a_lease = refl
+
+-- ---- compactions and watches, whose requests no path takes yet: the texts of what they are told
+
+-- what is written of an answer, or of a delivery to a watch that its client gave this number
+abbrev pub text_of : ℤ → Told → List ℕ
+text_of id (Told.answer r) = (response_to ones r).body
+text_of id (Told.delivery d now) = unwrap_or (message_text ones now id d) []
+text_of id _ = []
+
+-- a watch is created and told; a compaction that it does not miss lets it stand
+pub a_watch : map (text_of (pos 0)) (told_by opening (put_event a one ∷ watch_event a (pos 2) false ∷ Event.deliver 1
+    ∷ Event.deliver 1 ∷ compact_event (pos 2) ∷ Event.deliver 1 ∷ put_event a two ∷ Event.deliver 1 ∷ []))
+    ≡ codes "{\"header\":{\"cluster_id\":\"1\",\"member_id\":\"1\",\"raft_term\":\"1\",\"revision\":\"2\"}}"
+    ∷ codes "{\"result\":{\"created\":true,\"header\":{\"cluster_id\":\"1\",\"member_id\":\"1\",\"raft_term\":\"1\",\"revision\":\"2\"}}}"
+    ∷ codes "{\"result\":{\"events\":[{\"kv\":{\"create_revision\":\"2\",\"key\":\"YQ==\",\"mod_revision\":\"2\",\"value\":\"MQ==\",\"version\":\"1\"}}],\"header\":{\"cluster_id\":\"1\",\"member_id\":\"1\",\"raft_term\":\"1\",\"revision\":\"2\"}}}"
+    ∷ []
+    ∷ codes "{\"header\":{\"cluster_id\":\"1\",\"member_id\":\"1\",\"raft_term\":\"1\",\"revision\":\"2\"}}"
+    ∷ []
+    ∷ codes "{\"header\":{\"cluster_id\":\"1\",\"member_id\":\"1\",\"raft_term\":\"1\",\"revision\":\"3\"}}"
+    ∷ codes "{\"result\":{\"events\":[{\"kv\":{\"create_revision\":\"2\",\"key\":\"YQ==\",\"mod_revision\":\"3\",\"value\":\"Mg==\",\"version\":\"2\"}}],\"header\":{\"cluster_id\":\"1\",\"member_id\":\"1\",\"raft_term\":\"1\",\"revision\":\"3\"}}}" ∷ []
+unfolding model_on_literals wire_on_literals serde_json_on_literals is_utf8 chars digits encode_symbols groups_error groups_bytes scan_steps
+a_watch = refl
+
+-- a delete at the compaction is told without its previous value; a watch from below the compaction is cancelled
+pub a_watch_behind : map (text_of (pos 5)) (told_by opening (put_event a one ∷ delete_event a ∷ compact_event (pos 3)
+    ∷ watch_event a (pos 3) true ∷ Event.deliver 1 ∷ watch_event a (pos 2) false ∷ Event.deliver 2 ∷ []))
+    ≡ codes "{\"header\":{\"cluster_id\":\"1\",\"member_id\":\"1\",\"raft_term\":\"1\",\"revision\":\"2\"}}"
+    ∷ codes "{\"deleted\":\"1\",\"header\":{\"cluster_id\":\"1\",\"member_id\":\"1\",\"raft_term\":\"1\",\"revision\":\"3\"}}"
+    ∷ codes "{\"header\":{\"cluster_id\":\"1\",\"member_id\":\"1\",\"raft_term\":\"1\",\"revision\":\"3\"}}"
+    ∷ codes "{\"result\":{\"created\":true,\"header\":{\"cluster_id\":\"1\",\"member_id\":\"1\",\"raft_term\":\"1\",\"revision\":\"3\"}}}"
+    ∷ codes "{\"result\":{\"events\":[{\"kv\":{\"key\":\"YQ==\",\"mod_revision\":\"3\"},\"type\":\"DELETE\"}],\"header\":{\"cluster_id\":\"1\",\"member_id\":\"1\",\"raft_term\":\"1\",\"revision\":\"3\"},\"watch_id\":\"5\"}}"
+    ∷ codes "{\"result\":{\"created\":true,\"header\":{\"cluster_id\":\"1\",\"member_id\":\"1\",\"raft_term\":\"1\",\"revision\":\"3\"}}}"
+    ∷ codes "{\"result\":{\"canceled\":true,\"compact_revision\":\"3\",\"header\":{\"cluster_id\":\"1\",\"member_id\":\"1\",\"raft_term\":\"1\",\"revision\":\"3\"},\"watch_id\":\"5\"}}" ∷ []
+unfolding model_on_literals wire_on_literals serde_json_on_literals is_utf8 chars digits encode_symbols groups_error groups_bytes scan_steps
+a_watch_behind = refl
+
+-- an event with its previous value, and the refusal of what is compacted
+pub a_previous_value : map (text_of (pos 0)) (told_by opening (put_event a one ∷ put_event a two
+    ∷ watch_event a (pos 3) true ∷ Event.deliver 1 ∷ compact_event (pos 3) ∷ compact_event (pos 3) ∷ []))
+    ≡ codes "{\"header\":{\"cluster_id\":\"1\",\"member_id\":\"1\",\"raft_term\":\"1\",\"revision\":\"2\"}}"
+    ∷ codes "{\"header\":{\"cluster_id\":\"1\",\"member_id\":\"1\",\"raft_term\":\"1\",\"revision\":\"3\"}}"
+    ∷ codes "{\"result\":{\"created\":true,\"header\":{\"cluster_id\":\"1\",\"member_id\":\"1\",\"raft_term\":\"1\",\"revision\":\"3\"}}}"
+    ∷ codes "{\"result\":{\"events\":[{\"kv\":{\"create_revision\":\"2\",\"key\":\"YQ==\",\"mod_revision\":\"3\",\"value\":\"Mg==\",\"version\":\"2\"},\"prev_kv\":{\"create_revision\":\"2\",\"key\":\"YQ==\",\"mod_revision\":\"2\",\"value\":\"MQ==\",\"version\":\"1\"}}],\"header\":{\"cluster_id\":\"1\",\"member_id\":\"1\",\"raft_term\":\"1\",\"revision\":\"3\"}}}"
+    ∷ codes "{\"header\":{\"cluster_id\":\"1\",\"member_id\":\"1\",\"raft_term\":\"1\",\"revision\":\"3\"}}"
+    ∷ codes "{\"code\":11,\"error\":\"etcdserver: mvcc: required revision has been compacted\",\"message\":\"etcdserver: mvcc: required revision has been compacted\"}" ∷ []
+unfolding model_on_literals wire_on_literals serde_json_on_literals is_utf8 chars digits encode_symbols groups_error groups_bytes scan_steps
+a_previous_value = refl
