@@ -6,3 +6,4 @@ pub mod TrimmingLaws
 pub mod Laws
 pub mod Growth
 pub mod PlanLaws
+pub mod ByRule

@@ -1,4 +1,5 @@
 //! Laws of trimming, each the contract of a function that does nothing.
+ghost use Rattle.store_laws.specs.ByRule.{RuleMakesRun};
 ghost use Rattle.store_laws.specs.TrimmingLaws.{SettledIsLeast, LeastIsOne, SettledIsCertified, PassingIsLeast, TrimmedStepsWell, DoneIsTrimmed, TrimmingStartsOver, TrimmingGoesOn, GoodStaysGood};
 
 /// What answers as the whole history does, and has nothing left to take out, is a least list.
@@ -45,4 +46,9 @@ pub fn trimming_goes_on()
 /// What answers from a compaction on answers from a later one on.
 pub fn good_stays_good()
     ensures { GoodStaysGood }
+{}
+
+/// Events that find memory, with trimming by the rule, make a run.
+pub fn rule_makes_run()
+    ensures { RuleMakesRun }
 {}
