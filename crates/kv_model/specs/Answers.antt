@@ -1,7 +1,6 @@
 -- The texts of answers (etcd: the JSON gateway): names in byte order, a field at its default left out.
-use Rattle.std.specs.Prelude.{
-  ℕ, ℤ, pos, List, [], ◌∷◌, ◌++◌, map, Bool, true, ◌==◌, if◌then◌else◌, Option, None, Some, option_map, Result, Ok, Err,
-  codes, decimal}
+use Rattle.std.specs.Prelude.{ℕ, ℤ, pos, List, [], ◌∷◌, ◌++◌, map, Bool, true, ◌==◌, if◌then◌else◌, Option, None, Some}
+use Rattle.std.specs.Prelude.{option_map, Result, Ok, Err, codes, decimal}
 use Rattle.std.specs.Fmt.{signed_decimal}
 use Rattle.std.specs.Ordering.{int_eq}
 use Rattle.serde_json.specs.Data.{Num, Data, Items, Members}
@@ -12,9 +11,11 @@ use Rattle.kv_model.specs.declared.version.Version.{Version}
 use Rattle.kv_model.specs.declared.version.Body.{Body}
 use Rattle.kv_model.specs.declared.version.Body.TheVariants.{Put, Gone}
 use Rattle.kv_model.specs.declared.refusal.Refusal.{Refusal}
-use Rattle.kv_model.specs.declared.refusal.Refusal.TheVariants.{
-  Memory, Compacted, Future, NoKey, TooManyOps, DuplicateKey, ValueGiven, LeaseGiven, TooDeep, KeyMissing, LeaseMissing,
-  LeaseExists, TtlTooLarge, TooManyLeases, TooManyWatches, NoWatch, RevisionsSpent, NoPlace}
+use Rattle.kv_model.specs.declared.refusal.Refusal.TheVariants.{Memory, Compacted, Future, NoKey, TooManyOps}
+use Rattle.kv_model.specs.declared.refusal.Refusal.TheVariants.{DuplicateKey, ValueGiven, LeaseGiven, TooDeep}
+use Rattle.kv_model.specs.declared.refusal.Refusal.TheVariants.{KeyMissing, LeaseMissing, LeaseExists, TtlTooLarge}
+use Rattle.kv_model.specs.declared.refusal.Refusal.TheVariants.{TooManyLeases, TooManyWatches, NoWatch, RevisionsSpent}
+use Rattle.kv_model.specs.declared.refusal.Refusal.TheVariants.{NoPlace}
 use Rattle.kv_model.specs.declared.ids.Ids.{Ids}
 use Rattle.kv_model.specs.Lists.{is_empty}
 use Rattle.kv_model.specs.History.{KeyValue, key_value}
@@ -165,8 +166,10 @@ events_text h id es = result_text (object ((codes "events", list_field (map even
     ∷ (codes "watch_id", int_field id) ∷ []))
 
 unfoldable pub cancelled_text : Data → ℤ → ℕ → Data
-cancelled_text h id c = result_text (object ((codes "canceled", truth_field true) ∷ (codes "compact_revision",
-    nat_field c) ∷ (codes "header", Some h) ∷ (codes "watch_id", int_field id) ∷ []))
+cancelled_text h id c = result_text (object ((codes "canceled", truth_field true) ∷ (
+  codes "compact_revision",
+  nat_field c,
+) ∷ (codes "header", Some h) ∷ (codes "watch_id", int_field id) ∷ []))
 
 -- ---- refusals: status, code and text
 

@@ -1,7 +1,6 @@
 -- Certificates: a dump of the versions that are kept, a need for each, and what a check of the two finds.
-use Rattle.std.specs.Prelude.{
-  ◌≡◌, ℕ, max, List, [], ◌∷◌, find, filter_map, count_by, Bool, not, ◌&&◌, ◌==◌, nat_lt, nat_le, if◌then◌else◌, Option,
-  None, Some, option_map, ⊤}
+use Rattle.std.specs.Prelude.{◌≡◌, ℕ, max, List, [], ◌∷◌, find, filter_map, count_by, Bool, not, ◌&&◌, ◌==◌, nat_lt}
+use Rattle.std.specs.Prelude.{nat_le, if◌then◌else◌, Option, None, Some, option_map, ⊤}
 use Rattle.std.specs.Option.{option_or}
 use Rattle.kv_model.specs.declared.version.Rev.{Rev}
 use Rattle.kv_model.specs.declared.version.Version.{Version}

@@ -1,7 +1,6 @@
 -- What a run keeps: each change adds, and trimming takes out what no least list needs.
-use Rattle.std.specs.Prelude.{
-  ◌≡◌, ℕ, List, [], ◌∷◌, ◌++◌, length, filter, Bool, nat_lt, nat_le, if◌then◌else◌, MatchBool, MatchOption, Option,
-  None, Some, ⊤}
+use Rattle.std.specs.Prelude.{◌≡◌, ℕ, List, [], ◌∷◌, ◌++◌, length, filter, Bool, nat_lt, nat_le, if◌then◌else◌}
+use Rattle.std.specs.Prelude.{MatchBool, MatchOption, Option, None, Some, ⊤}
 use Rattle.kv_model.specs.declared.version.Version.{Version}
 use Rattle.kv_model.specs.declared.ids.Ids.{Ids}
 use Rattle.kv_model.specs.Lists.{IsIn}

@@ -1,7 +1,6 @@
 -- Range: the live keys of an interval at a place, filtered, sorted and cut (etcd: RangeRequest).
-use Rattle.std.specs.Prelude.{
-  ℕ, zero, suc, ℤ, pos, negsuc, List, [], ◌∷◌, length, map, take, filter, filter_map, Bool, false, ◌&&◌, ◌||◌, nat_lt,
-  int_le, if◌then◌else◌, Option, None, Some, Result, Ok, Err}
+use Rattle.std.specs.Prelude.{ℕ, zero, suc, ℤ, pos, negsuc, List, [], ◌∷◌, length, map, take, filter, filter_map, Bool}
+use Rattle.std.specs.Prelude.{false, ◌&&◌, ◌||◌, nat_lt, int_le, if◌then◌else◌, Option, None, Some, Result, Ok, Err}
 use Rattle.std.specs.Option.{option_or}
 use Rattle.std.specs.declared.cmp.Ordering.{Ordering}
 use Rattle.std.specs.Ordering.{nat_cmp, int_eq, match_ordering, is_gt, ordering_reverse}
@@ -103,8 +102,12 @@ reply_from q now kvs =
     let hits = sorted q.order q.target (filter (passes_filters q) kvs) in
     if q.count_only
     then record { kvs = []; count = length kvs; more = false; revision = now }
-    else record { kvs = map (stripped q.keys_only) (first_few q.limit hits); count = length kvs;
-    more = nat_lt (length (first_few q.limit hits)) (length hits); revision = now }
+    else record {
+      kvs = map (stripped q.keys_only) (first_few q.limit hits);
+      count = length kvs;
+      more = nat_lt (length (first_few q.limit hits)) (length hits);
+      revision = now;
+    }
 
 abbrev pub refuse_if : Bool → Refusal → Option Refusal
 refuse_if test e = if test then Some e else None

@@ -1,9 +1,11 @@
 -- The numbers of refusals.
 use Rattle.std.specs.Prelude.{ℕ}
 use Rattle.kv_model.specs.declared.refusal.Refusal.{Refusal}
-use Rattle.kv_model.specs.declared.refusal.Refusal.TheVariants.{
-  Memory, Compacted, Future, NoKey, TooManyOps, DuplicateKey, ValueGiven, LeaseGiven, TooDeep, KeyMissing, LeaseMissing,
-  LeaseExists, TtlTooLarge, TooManyLeases, TooManyWatches, NoWatch, RevisionsSpent, NoPlace}
+use Rattle.kv_model.specs.declared.refusal.Refusal.TheVariants.{Memory, Compacted, Future, NoKey, TooManyOps}
+use Rattle.kv_model.specs.declared.refusal.Refusal.TheVariants.{DuplicateKey, ValueGiven, LeaseGiven, TooDeep}
+use Rattle.kv_model.specs.declared.refusal.Refusal.TheVariants.{KeyMissing, LeaseMissing, LeaseExists, TtlTooLarge}
+use Rattle.kv_model.specs.declared.refusal.Refusal.TheVariants.{TooManyLeases, TooManyWatches, NoWatch, RevisionsSpent}
+use Rattle.kv_model.specs.declared.refusal.Refusal.TheVariants.{NoPlace}
 
 -- each refusal has a number, which stays whatever is added
 abbrev pub number_of : Refusal → ℕ

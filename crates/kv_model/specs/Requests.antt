@@ -1,8 +1,7 @@
 -- What a request asks, read from its path and from the JSON value of its body (etcd: the JSON gateway).
-use Rattle.std.specs.Prelude.{
-  ℕ, zero, suc, ◌+◌, ◌-◌, ◌*◌, ◌^◌, ℤ, pos, neg_ℤ, List, [], ◌∷◌, length, map, fold, slice_get, Bool, true, false, not,
-  ◌&&◌, ◌==◌, nat_lt, int_le, int_lt, if◌then◌else◌, Option, None, Some, option_map, option_and_then, Result, Ok, Err,
-  codes}
+use Rattle.std.specs.Prelude.{ℕ, zero, suc, ◌+◌, ◌-◌, ◌*◌, ◌^◌, ℤ, pos, neg_ℤ, List, [], ◌∷◌, length, map, fold}
+use Rattle.std.specs.Prelude.{slice_get, Bool, true, false, not, ◌&&◌, ◌==◌, nat_lt, int_le, int_lt, if◌then◌else◌}
+use Rattle.std.specs.Prelude.{Option, None, Some, option_map, option_and_then, Result, Ok, Err, codes}
 use Rattle.std.specs.Option.{option_or}
 use Rattle.std.specs.List.{list_any, list_all}
 use Rattle.std.specs.Result.{result_ok}
@@ -225,8 +224,14 @@ put_request ms = do
   prev_kv ← truth_field (codes "prev_kv") ms
   ignore_value ← truth_field (codes "ignore_value") ms
   ignore_lease ← truth_field (codes "ignore_lease") ms
-  Ok (record { key = key; value = value; lease = lease; prev_kv = prev_kv; ignore_value = ignore_value;
-      ignore_lease = ignore_lease })
+  Ok (record {
+    key = key;
+    value = value;
+    lease = lease;
+    prev_kv = prev_kv;
+    ignore_value = ignore_value;
+    ignore_lease = ignore_lease;
+  })
 
 unfoldable pub delete_request : Members → Read DeleteRequest
 delete_request ms = do
@@ -254,8 +259,11 @@ compare_request d = do
   modified ← integer_field (codes "mod_revision") ms
   value ← bytes_field (codes "value") ms
   lease ← integer_field (codes "lease") ms
-  Ok (record { range = record { key = key; end = end }; relation = result;
-      operand = operand_of target version create modified value lease })
+  Ok (record {
+    range = record { key = key; end = end };
+    relation = result;
+    operand = operand_of target version create modified value lease;
+  })
 
 -- the message under this name
 abbrev pub message : {X : Type 0} → List ℕ → (Members → Read X) → Data → Read X
@@ -311,8 +319,12 @@ watch_create ms = do
   fs ← each filter_request items
   prev_kv ← truth_field (codes "prev_kv") ms
   id ← integer_field (codes "watch_id") ms
-  Ok (Call.watch (record { range = record { key = key; end = end }; no_put = list_any drops_puts fs;
-      no_delete = list_any (λ f. not (drops_puts f)) fs; prev_kv = prev_kv }) start id)
+  Ok (Call.watch (record {
+    range = record { key = key; end = end };
+    no_put = list_any drops_puts fs;
+    no_delete = list_any (λ f. not (drops_puts f)) fs;
+    prev_kv = prev_kv;
+  }) start id)
 
 unfoldable pub watch_request : Members → Read Call
 watch_request ms = do

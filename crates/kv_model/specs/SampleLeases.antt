@@ -8,8 +8,8 @@ use Rattle.kv_model.specs.World.{opening}
 use Rattle.kv_model.specs.Told.{Reply, Expiry, Event, Told}
 use Rattle.kv_model.specs.Step.{told_by}
 use Rattle.kv_model.specs.OnLiterals.{model_on_literals}
-use Rattle.kv_model.specs.Samples.{
-  a, b, c, one, two, put_of, put_event, range_event, told, refused, put_reply, kv_of, found, told_after}
+use Rattle.kv_model.specs.Samples.{a, b, c, one, two, put_of, put_event, range_event, told, refused, put_reply, kv_of}
+use Rattle.kv_model.specs.Samples.{found, told_after}
 
 abbrev pub grant_event : ℤ → ℤ → Event
 grant_event ttl id = Event.command (Call.grant ttl id)
@@ -30,7 +30,7 @@ granted = refl
 
 pub lease_runs_out : told_after leased
     (Event.command (Call.time_to_live (pos 7) true) ∷ Event.moment 10999 ∷ Event.expire ∷ Event.moment 11000
-        ∷ Event.expire
+    ∷ Event.expire
     ∷ Event.command (Call.keep_alive (pos 7)) ∷ Event.command (Call.time_to_live (pos 7) false)
     ∷ Event.command (Call.revoke (pos 7)) ∷ [])
     ≡ told 5 (Reply.time_to_live (pos 7) (pos 10) 10 (a ∷ c ∷ [])) ∷ Told.clock 10999 ∷ Told.expiry Expiry.nothing

@@ -10,9 +10,9 @@ use Rattle.kv_model.specs.World.{World, opening}
 use Rattle.kv_model.specs.Told.{Reply, Event}
 use Rattle.kv_model.specs.Step.{told_by}
 use Rattle.kv_model.specs.OnLiterals.{model_on_literals}
-use Rattle.kv_model.specs.Samples.{
-  a, b, c, one, two, put_of, put_event, delete_event, range_event, all_query, compact_event, told, refused, put_reply,
-  kv_of, found, told_after, rev_at, puts, put_delete_put}
+use Rattle.kv_model.specs.Samples.{a, b, c, one, two, put_of, put_event, delete_event, range_event, all_query}
+use Rattle.kv_model.specs.Samples.{compact_event, told, refused, put_reply, kv_of, found, told_after, rev_at, puts}
+use Rattle.kv_model.specs.Samples.{put_delete_put}
 
 pub put_and_read : told_by opening (put_event (codes "foo") (codes "bar") ∷ range_event (plain_range (codes "foo") 0)
     ∷ [])
@@ -37,8 +37,11 @@ pub limited : told_after puts (range_event (record all_query { limit = pos 1 }) 
 unfolding model_on_literals
 limited = refl
 
-pub by_version_down : told_after puts (range_event (record all_query { order = Descend; target = ByVersion;
-    keys_only = true }) ∷ [])
+pub by_version_down : told_after puts (range_event (record all_query {
+  order = Descend;
+  target = ByVersion;
+  keys_only = true;
+}) ∷ [])
     ≡ found 5 (kv_of b [] 3 5 2 ∷ kv_of a [] 2 2 1 ∷ kv_of c [] 4 4 1 ∷ []) 3 false ∷ []
 unfolding model_on_literals
 by_version_down = refl
@@ -50,8 +53,10 @@ empty_interval = refl
 
 -- the count is taken before the filters, and the limit after them
 pub modified_from_four : told_after puts
-    (range_event (record all_query { min_mod = pos 4 }) ∷ range_event (record all_query { min_mod = pos 4;
-        limit = pos 1 }) ∷ range_event (record all_query { count_only = true }) ∷ [])
+    (range_event (record all_query { min_mod = pos 4 }) ∷ range_event (record all_query {
+      min_mod = pos 4;
+      limit = pos 1;
+    }) ∷ range_event (record all_query { count_only = true }) ∷ [])
     ≡ found 5 (kv_of b two 3 5 2 ∷ kv_of c one 4 4 1 ∷ []) 3 false ∷ found 5 (kv_of b two 3 5 2 ∷ []) 3 true
     ∷ found 5 [] 3 false ∷ []
 unfolding model_on_literals
@@ -81,7 +86,7 @@ deleted_once = refl
 -- a delete of an interval is one revision; the state before it can still be read; a put that keeps the value
 pub delete_with_values : told_after puts
     (Event.command (Call.delete (record { range = record { key = a; end = c }; prev_kv = true }))
-        ∷ range_event (record all_query { count_only = true; revision = pos 5 })
+    ∷ range_event (record all_query { count_only = true; revision = pos 5 })
     ∷ Event.command (Call.put (record (put_of c []) { prev_kv = true; ignore_value = true })) ∷ range_event all_query
     ∷ [])
     ≡ told 6 (Reply.delete 2 (kv_of a one 2 2 1 ∷ kv_of b two 3 5 2 ∷ [])) ∷ found 6 [] 3 false

@@ -14,8 +14,8 @@ use Rattle.kv_model.specs.World.{opening}
 use Rattle.kv_model.specs.Told.{Reply, Event}
 use Rattle.kv_model.specs.Step.{told_by}
 use Rattle.kv_model.specs.OnLiterals.{model_on_literals}
-use Rattle.kv_model.specs.Samples.{
-  a, x, y, one, two, put_of, put_event, range_event, all_query, told, refused, put_reply, kv_of, found}
+use Rattle.kv_model.specs.Samples.{a, x, y, one, two, put_of, put_event, range_event, all_query, told, refused}
+use Rattle.kv_model.specs.Samples.{put_reply, kv_of, found}
 
 abbrev pub txn_event : List Compare → Ops → Ops → Event
 txn_event cs s f = Event.command (Call.txn cs s f)
@@ -30,7 +30,7 @@ pub reads_within : told_by opening
     (Ops.range all_query (Ops.put (put_of y two) (Ops.range all_query Ops.no_ops)))) Ops.no_ops ∷ [])
     ≡ told 2 (Reply.txn true (Replies.put None (Replies.range (all_found (kv_of x one 2 2 1 ∷ []) 1)
     (Replies.put None (Replies.range (all_found (kv_of x one 2 2 1 ∷ kv_of y two 2 2 1 ∷ []) 2) Replies.no_replies)))))
-        ∷ []
+    ∷ []
 unfolding model_on_literals
 reads_within = refl
 

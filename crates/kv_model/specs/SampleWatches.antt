@@ -9,9 +9,8 @@ use Rattle.kv_model.specs.World.{opening}
 use Rattle.kv_model.specs.Told.{Reply, Event, Told}
 use Rattle.kv_model.specs.Step.{told_by}
 use Rattle.kv_model.specs.OnLiterals.{model_on_literals}
-use Rattle.kv_model.specs.Samples.{
-  a, b, one, two, put_event, delete_event, watch_event, compact_event, told, refused, put_reply, kv_of, told_events,
-  told_after, put_version, gone_version, put_delete_put}
+use Rattle.kv_model.specs.Samples.{a, b, one, two, put_event, delete_event, watch_event, compact_event, told, refused}
+use Rattle.kv_model.specs.Samples.{put_reply, kv_of, told_events, told_after, put_version, gone_version, put_delete_put}
 
 -- ---- a quiet watch outlives a Compact that passes it
 
@@ -20,8 +19,10 @@ five_puts = put_event b one ∷ put_event b one ∷ put_event b one ∷ put_even
 
 pub quiet_watch : told_by opening (put_event a one ∷ watch_event a (pos 2) false ∷ Event.deliver 1 ∷ Event.deliver 1
     ∷ [])
-    ≡ put_reply 2 ∷ told 2 (Reply.watch (pos 0) 1) ∷ told_events 2 (record { version = put_version 2 a 2 1 one;
-    before = None } ∷ []) ∷ Told.delivery Delivery.nothing 2 ∷ []
+    ≡ put_reply 2 ∷ told 2 (Reply.watch (pos 0) 1) ∷ told_events 2 (record {
+      version = put_version 2 a 2 1 one;
+      before = None;
+    } ∷ []) ∷ Told.delivery Delivery.nothing 2 ∷ []
 unfolding model_on_literals
 quiet_watch = refl
 
@@ -55,8 +56,10 @@ deletes_of_a = record { range = one_key a; no_put = true; no_delete = false; pre
 
 pub deletes_alone : told_after put_delete_put (Event.command (Call.watch deletes_of_a (pos 2) (pos 5)) ∷ Event.deliver 1
     ∷ Event.deliver 1 ∷ Event.close 1 ∷ Event.close 1 ∷ [])
-    ≡ told 4 (Reply.watch (pos 5) 1) ∷ told_events 4 (record { version = gone_version 3 a;
-    before = Some (kv_of a one 2 2 1) } ∷ []) ∷ Told.delivery Delivery.nothing 4
+    ≡ told 4 (Reply.watch (pos 5) 1) ∷ told_events 4 (record {
+      version = gone_version 3 a;
+      before = Some (kv_of a one 2 2 1);
+    } ∷ []) ∷ Told.delivery Delivery.nothing 4
     ∷ Told.closed true ∷ Told.closed false ∷ []
 unfolding model_on_literals
 deletes_alone = refl

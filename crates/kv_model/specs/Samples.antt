@@ -58,8 +58,12 @@ abbrev pub all_query : RangeQuery
 all_query = record (plain_range a 0) { range = all_keys }
 
 abbrev pub watch_event : List ℕ → ℤ → Bool → Event
-watch_event k start prev = Event.command (Call.watch (record { range = one_key k; no_put = false; no_delete = false;
-    prev_kv = prev }) start (pos 0))
+watch_event k start prev = Event.command (Call.watch (record {
+  range = one_key k;
+  no_put = false;
+  no_delete = false;
+  prev_kv = prev;
+}) start (pos 0))
 
 abbrev pub compact_event : ℤ → Event
 compact_event r = Event.command (Call.compact r false)
@@ -76,8 +80,14 @@ abbrev pub put_reply : ℕ → Told
 put_reply r = told r (Reply.put None)
 
 abbrev pub kv_of : List ℕ → List ℕ → ℕ → ℕ → ℕ → KeyValue
-kv_of k v create modified version = record { key = k; value = v; create = create; modified = modified;
-    version = version; lease = pos 0 }
+kv_of k v create modified version = record {
+  key = k;
+  value = v;
+  create = create;
+  modified = modified;
+  version = version;
+  lease = pos 0;
+}
 
 abbrev pub found : ℕ → List KeyValue → ℕ → Bool → Told
 found r kvs count more = told r (Reply.range (record { kvs = kvs; count = count; more = more; revision = r }))

@@ -1,7 +1,7 @@
 -- One event of the store: its reply, and the world after it.
-use Rattle.std.specs.Prelude.{
-  ℕ, zero, suc, ◌+◌, ◌-◌, ◌^◌, ℤ, pos, negsuc, List, [], ◌∷◌, ◌++◌, length, map, Bool, false, not, ◌||◌, ◌==◌, nat_lt,
-  nat_le, if◌then◌else◌, Option, None, Some, is_some, Result, Ok, Err}
+use Rattle.std.specs.Prelude.{ℕ, zero, suc, ◌+◌, ◌-◌, ◌^◌, ℤ, pos, negsuc, List, [], ◌∷◌, ◌++◌, length, map, Bool}
+use Rattle.std.specs.Prelude.{false, not, ◌||◌, ◌==◌, nat_lt, nat_le, if◌then◌else◌, Option, None, Some, is_some}
+use Rattle.std.specs.Prelude.{Result, Ok, Err}
 use Rattle.std.specs.Option.{option_or}
 use Rattle.kv_model.specs.declared.version.KeyRange.{KeyRange}
 use Rattle.kv_model.specs.declared.call.RangeQuery.{RangeQuery}
@@ -9,19 +9,18 @@ use Rattle.kv_model.specs.declared.call.PutRequest.{PutRequest}
 use Rattle.kv_model.specs.declared.call.DeleteRequest.{DeleteRequest}
 use Rattle.kv_model.specs.declared.call.Watched.{Watched}
 use Rattle.kv_model.specs.declared.refusal.Refusal.{Refusal}
-use Rattle.kv_model.specs.declared.refusal.Refusal.TheVariants.{
-  NoKey, Compacted, Future, LeaseMissing, LeaseExists, TtlTooLarge, TooManyLeases, TooManyWatches, RevisionsSpent}
+use Rattle.kv_model.specs.declared.refusal.Refusal.TheVariants.{NoKey, Compacted, Future, LeaseMissing, LeaseExists}
+use Rattle.kv_model.specs.declared.refusal.Refusal.TheVariants.{TtlTooLarge, TooManyLeases, TooManyWatches}
+use Rattle.kv_model.specs.declared.refusal.Refusal.TheVariants.{RevisionsSpent}
 use Rattle.kv_model.specs.Lists.{is_empty}
 use Rattle.kv_model.specs.Keys.{zero_byte}
 use Rattle.kv_model.specs.History.{Mutation, value_at, end_of}
 use Rattle.kv_model.specs.Ranges.{range_refusal, range_reply, live, refuse_if}
 use Rattle.kv_model.specs.Calls.{Call, Ops}
-use Rattle.kv_model.specs.Txns.{
-  Path, put_fault, put_refusal, static_fault, run_refusal, path_of, effect, replies_of, delete_changes, deletes_of,
-  put_change, previous_value, if_asked}
-use Rattle.kv_model.specs.Leases.{
-  Lease, is_granted, lease_at, insert_lease, without_lease, id_asked, ttl_asked, deadline_of, seconds_left, renewed,
-  keys_of_lease, due, most_leases, longest_ttl}
+use Rattle.kv_model.specs.Txns.{Path, put_fault, put_refusal, static_fault, run_refusal, path_of, effect, replies_of}
+use Rattle.kv_model.specs.Txns.{delete_changes, deletes_of, put_change, previous_value, if_asked}
+use Rattle.kv_model.specs.Leases.{Lease, is_granted, lease_at, insert_lease, without_lease, id_asked, ttl_asked}
+use Rattle.kv_model.specs.Leases.{deadline_of, seconds_left, renewed, keys_of_lease, due, most_leases, longest_ttl}
 use Rattle.kv_model.specs.World.{World, Watch, revision, versions, changed, at_moment, watch_at, without_watch}
 use Rattle.kv_model.specs.Watches.{Delivery, deliver}
 use Rattle.kv_model.specs.Told.{Reply, Answer, Expiry, Event, Told}
@@ -81,7 +80,7 @@ run_path w path =
     let ms = effect (versions w) (revision w + 1) 0 path in
     refused_or (run_refusal (is_granted w.leases) w.compacted (revision w) (versions w) 0 path)
     (commit (Reply.txn (succeeded path) (replies_of (versions (changed w ms)) w.compacted (revision w) 0
-        (inner_path path))) w ms)
+    (inner_path path))) w ms)
 
 unfoldable pub txn_in : World → Ops → Made
 txn_in w ops = refused_or (static_fault ops) (run_path w (path_of (versions w) (revision w) ops))
@@ -97,8 +96,10 @@ at_least_zero (pos n) = n
 at_least_zero (negsuc n) = 0
 
 unfoldable pub compact_in : World → ℤ → Made
-compact_in w r = refused_or (compact_refusal w.compacted (revision w) r) (Ok (Reply.compact,
-    record w { compacted = at_least_zero r }))
+compact_in w r = refused_or (compact_refusal w.compacted (revision w) r) (Ok (
+  Reply.compact,
+  record w { compacted = at_least_zero r },
+))
 
 abbrev pub most_watches : ℕ
 most_watches = 1024
@@ -125,8 +126,13 @@ new_watch w watched start id = record {
 unfoldable pub watch_in : World → Watched → ℤ → ℤ → Made
 watch_in w watched start id = refused_or (refuse_if (nat_le most_watches (length w.watches)
     || nat_le last_main w.made) TooManyWatches)
-    (Ok (Reply.watch id (w.made + 1), record w { watches = w.watches ++ new_watch w watched start id ∷ [];
-        made = w.made + 1 }))
+    (Ok (
+      Reply.watch id (w.made + 1),
+      record w {
+        watches = w.watches ++ new_watch w watched start id ∷ [];
+        made = w.made + 1;
+      },
+    ))
 
 abbrev pub grant_refusal : World → ℤ → ℤ → Option Refusal
 grant_refusal w ttl id = option_or (refuse_if (nat_lt longest_ttl (ttl_asked ttl)) TtlTooLarge)
@@ -135,8 +141,11 @@ grant_refusal w ttl id = option_or (refuse_if (nat_lt longest_ttl (ttl_asked ttl
 
 unfoldable pub grant_in : World → ℤ → ℤ → Made
 grant_in w ttl id =
-    let l : Lease = record { id = id_asked w.leases id; ttl = ttl_asked ttl;
-            deadline = deadline_of w.clock (ttl_asked ttl) } in
+    let l : Lease = record {
+      id = id_asked w.leases id;
+      ttl = ttl_asked ttl;
+      deadline = deadline_of w.clock (ttl_asked ttl);
+    } in
     refused_or (grant_refusal w ttl id) (Ok (Reply.grant l.id l.ttl, record w { leases = insert_lease l w.leases }))
 
 abbrev pub lease_changes : World → ℤ → List Mutation
@@ -152,8 +161,11 @@ keep_alive_in w id (Some l) = Ok (Reply.keep_alive id l.ttl, record w { leases =
 
 unfoldable pub time_to_live_in : World → ℤ → Bool → Option Lease → Made
 time_to_live_in w id asked None = Ok (Reply.time_to_live id (negsuc 0) 0 [], w)
-time_to_live_in w id asked (Some l) = Ok (Reply.time_to_live id (pos (seconds_left w.clock l)) l.ttl
-    (if_asked asked (keys_of_lease (versions w) (revision w) id)), w)
+time_to_live_in w id asked (Some l) = Ok (
+  Reply.time_to_live id (pos (seconds_left w.clock l)) l.ttl
+      (if_asked asked (keys_of_lease (versions w) (revision w) id)),
+  w,
+)
 
 abbrev pub made_in : World → Call → Made
 made_in w (Call.range q) = range_in w q
@@ -213,8 +225,10 @@ abbrev pub step : World → Event → Told × World
 step w (Event.moment m) = (Told.clock (at_moment w m).clock, at_moment w m)
 step w (Event.command call) = tell_answer (perform w call)
 step w (Event.deliver n) = tell_delivery (revision w) (deliver w n)
-step w (Event.close n) = (Told.closed (is_some (watch_at w.watches n)),
-    record w { watches = without_watch n w.watches })
+step w (Event.close n) = (
+  Told.closed (is_some (watch_at w.watches n)),
+  record w { watches = without_watch n w.watches },
+)
 step w Event.expire = tell_expiry (expire w)
 step w Event.trim = (Told.untold, w)
 step w Event.certify = (Told.untold, w)

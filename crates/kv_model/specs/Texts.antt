@@ -6,9 +6,13 @@ use Rattle.std.specs.Fmt.{digits}
 use Rattle.base64.specs.Rfc4648.{encode_symbols}
 use Rattle.base64.specs.Decode.{groups_error, groups_bytes, scan_steps}
 use Rattle.kv_model.specs.World.{World, opening}
-use Rattle.kv_model.specs.Requests.{request_of, range_query, put_request, delete_request, compare_request, txn_request, grant_request, time_to_live_request, decoded}
+use Rattle.kv_model.specs.Requests.{request_of, range_query, put_request, delete_request, compare_request, txn_request}
+use Rattle.kv_model.specs.Requests.{grant_request, time_to_live_request, decoded}
 use Rattle.kv_model.specs.declared.ids.Ids.{Ids}
-use Rattle.kv_model.specs.Answers.{Response, bytes_text, header, key_value_text, range_text, put_text, delete_text, txn_text, short_header, response, responses, header_alone, result_text, lease_text, reply_text, fault_text, created_text, tombstone_text, event_text, events_text, cancelled_text, response_to, message_text}
+use Rattle.kv_model.specs.Answers.{Response, bytes_text, header, key_value_text, range_text, put_text, delete_text}
+use Rattle.kv_model.specs.Answers.{txn_text, short_header, response, responses, header_alone, result_text, lease_text}
+use Rattle.kv_model.specs.Answers.{reply_text, fault_text, created_text, tombstone_text, event_text, events_text}
+use Rattle.kv_model.specs.Answers.{cancelled_text, response_to, message_text}
 use Rattle.kv_model.specs.Wire.{WireEvent, wire_step, reply_to}
 use Rattle.kv_model.specs.Told.{Event, Told}
 use Rattle.kv_model.specs.Step.{told_by}

@@ -1,7 +1,7 @@
 -- Transactions: what is refused, which branch runs, and what it changes (etcd: TxnRequest).
-use Rattle.std.specs.Prelude.{
-  ℕ, zero, suc, ◌+◌, ◌-◌, ℤ, pos, List, [], ◌∷◌, ◌++◌, length, map, Bool, true, false, not, ◌&&◌, ◌||◌, nat_lt, nat_le,
-  if◌then◌else◌, Option, None, Some, is_none, option_map, unwrap_or}
+use Rattle.std.specs.Prelude.{ℕ, zero, suc, ◌+◌, ◌-◌, ℤ, pos, List, [], ◌∷◌, ◌++◌, length, map, Bool, true, false, not}
+use Rattle.std.specs.Prelude.{◌&&◌, ◌||◌, nat_lt, nat_le, if◌then◌else◌, Option, None, Some, is_none, option_map}
+use Rattle.std.specs.Prelude.{unwrap_or}
 use Rattle.std.specs.Option.{option_or}
 use Rattle.std.specs.List.{list_any, list_all}
 use Rattle.std.specs.declared.cmp.Ordering.{Ordering}
@@ -20,8 +20,8 @@ use Rattle.kv_model.specs.declared.call.Relation.TheVariants.{IsEqual, IsGreater
 use Rattle.kv_model.specs.declared.call.Operand.{Operand}
 use Rattle.kv_model.specs.declared.call.Operand.TheVariants.{OfVersion, OfCreate, OfMod, OfValue, OfLease}
 use Rattle.kv_model.specs.declared.refusal.Refusal.{Refusal}
-use Rattle.kv_model.specs.declared.refusal.Refusal.TheVariants.{
-  NoKey, TooDeep, TooManyOps, ValueGiven, LeaseGiven, KeyMissing, LeaseMissing, DuplicateKey}
+use Rattle.kv_model.specs.declared.refusal.Refusal.TheVariants.{NoKey, TooDeep, TooManyOps, ValueGiven, LeaseGiven}
+use Rattle.kv_model.specs.declared.refusal.Refusal.TheVariants.{KeyMissing, LeaseMissing, DuplicateKey}
 use Rattle.kv_model.specs.Lists.{is_empty}
 use Rattle.kv_model.specs.Keys.{key_cmp, same_key, in_range}
 use Rattle.kv_model.specs.History.{Mutation, Action, KeyValue, value_at, end_of, value_now}
@@ -187,8 +187,11 @@ put_action p held = Action.put (if p.ignore_value then unwrap_or (option_map (λ
     (if p.ignore_lease then unwrap_or (option_map (λ kv. kv.lease) held) (pos 0) else p.lease)
 
 abbrev pub put_change : List Version → ℕ → ℕ → PutRequest → Mutation
-put_change vs main sub p = record { rev = record { main = main; sub = sub }; key = p.key;
-    action = put_action p (value_now vs p.key) }
+put_change vs main sub p = record {
+  rev = record { main = main; sub = sub };
+  key = p.key;
+  action = put_action p (value_now vs p.key);
+}
 
 -- one delete for each of the keys, numbered on
 abbrev pub deletes_of : ℕ → ℕ → List (List ℕ) → List Mutation
@@ -236,7 +239,7 @@ run_refusal granted c now vs sub (Path.delete d rest) =
 run_refusal granted c now vs sub (Path.txn b inner rest) =
     let ms = effect vs (now + 1) sub inner in
     option_or (run_refusal granted c now vs sub inner) (run_refusal granted c now (extend_all vs ms) (sub + length ms)
-        rest)
+    rest)
 
 -- ---- what they answer, read in the versions after the whole at the place that each stands at
 

@@ -1,7 +1,6 @@
 -- From bytes to bytes: the events of a run, and what they are answered.
-use Rattle.std.specs.Prelude.{
-  ◌≡◌, ℕ, ℤ, pos, List, Bool, true, false, IsTrue, ◌||◌, ◌&&◌, nat_lt, if◌then◌else◌, is_some, is_none, Option, None,
-  Some, Result, Ok, Err}
+use Rattle.std.specs.Prelude.{◌≡◌, ℕ, ℤ, pos, List, Bool, true, false, IsTrue, ◌||◌, ◌&&◌, nat_lt, if◌then◌else◌}
+use Rattle.std.specs.Prelude.{is_some, is_none, Option, None, Some, Result, Ok, Err}
 use Rattle.kv_model.specs.declared.version.Rev.{Rev}
 use Rattle.kv_model.specs.Calls.{Call}
 use Rattle.kv_model.specs.World.{World, Watch, revision, watch_at, without_watch, at_moment}
@@ -86,10 +85,14 @@ tell_message false None = WireTold.no_watch
 abbrev pub wire_step : Ids → World → WireEvent → WireTold × World
 wire_step ids w (WireEvent.moment m) = (WireTold.clock (at_moment w m).clock, at_moment w m)
 wire_step ids w (WireEvent.post path body) = tell_reply w (reply_to ids w path body)
-wire_step ids w (WireEvent.deliver n) = (tell_message (is_some (watch_at w.watches n)) (message_to ids w n),
-    (delivered w n).1)
-wire_step ids w (WireEvent.close n) = (WireTold.closed (is_some (watch_at w.watches n)),
-    record w { watches = without_watch n w.watches })
+wire_step ids w (WireEvent.deliver n) = (
+  tell_message (is_some (watch_at w.watches n)) (message_to ids w n),
+  (delivered w n).1,
+)
+wire_step ids w (WireEvent.close n) = (
+  WireTold.closed (is_some (watch_at w.watches n)),
+  record w { watches = without_watch n w.watches },
+)
 wire_step ids w WireEvent.expire = (WireTold.expiry (expired w).0, (expired w).1)
 wire_step ids w WireEvent.trim = (WireTold.untold, w)
 wire_step ids w WireEvent.certify = (WireTold.untold, w)

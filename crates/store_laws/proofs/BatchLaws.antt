@@ -1,7 +1,6 @@
 -- The changes of one command behind a history: what they add to its versions, and why a good part stays good with them.
-use Rattle.std.proofs.Common.{
-  ◌≡◌, ◌≤◌, ◌<◌, ◌≢◌, ◌⊎◌, inl, inr, ℕ, ◌+◌, ◌-◌, List, [], ◌∷◌, ◌++◌, Bool, true, false, ◌&&◌, cond, Option, None, filter, map, refl, sym,
-  ◌∙◌, ap, subst, arith, append_assoc}
+use Rattle.std.proofs.Common.{◌≡◌, ◌≤◌, ◌<◌, ◌≢◌, ◌⊎◌, inl, inr, ℕ, ◌+◌, ◌-◌, List, [], ◌∷◌, ◌++◌, Bool, true, false, ◌&&◌, cond, Option}
+use Rattle.std.proofs.Common.{None, filter, map, refl, sym, ◌∙◌, ap, subst, arith, append_assoc}
 use Rattle.std.specs.Prelude.{◌==◌}
 use Rattle.std.specs.List.{AllByRecursion}
 use Rattle.std.proofs.lemmas.List.{append-nil}
@@ -13,8 +12,8 @@ use Rattle.kv_model.specs.declared.version.Version.{Version}
 use Rattle.kv_model.specs.declared.version.KeyRange.{KeyRange}
 use Rattle.kv_model.specs.declared.call.Watched.{Watched}
 use Rattle.kv_model.specs.Lists.{IsPart, nothing, keep, leave}
-use Rattle.kv_model.specs.History.{
-  Mutation, IsBefore, IsHistory, IsBatch, now, now_after, dress, value_at, value_now, end_of, rev_le, KeyValue}
+use Rattle.kv_model.specs.History.{Mutation, IsBefore, IsHistory, IsBatch, now, now_after, dress, value_at, value_now, end_of, rev_le}
+use Rattle.kv_model.specs.History.{KeyValue}
 use Rattle.kv_model.specs.Ranges.{live}
 use Rattle.kv_model.specs.Events.{WatchEvent, matches, event_of, events_of, before_is_kept}
 use Rattle.kv_model.specs.Txns.{extend, extend_all, next_body, next_version, added_by}
@@ -22,9 +21,8 @@ use Rattle.kv_model.specs.Questions.{Question, IsQuestion, IsKept, Answered, ans
 use Rattle.store_laws.proofs.KeyLaws.{live-same}
 use Rattle.store_laws.proofs.GrowthLaws.{dress-extend_all}
 use Rattle.store_laws.proofs.Compacting.{same_ranges}
-use Rattle.store_laws.proofs.PlaceLaws.{
-  AreBehind, each-map, each-append, each-part, each-dressed, mains-by, now-above, rev_le-after, rev_lt-mains, value_at-by, value_at-behind,
-  value_at-grows, value_now-grows}
+use Rattle.store_laws.proofs.PlaceLaws.{AreBehind, each-map, each-append, each-part, each-dressed, mains-by, now-above, rev_le-after}
+use Rattle.store_laws.proofs.PlaceLaws.{rev_lt-mains, value_at-by, value_at-behind, value_at-grows, value_now-grows}
 use Rattle.store_laws.proofs.GoodLaws.{dressed-before, good-value_at, good-value_now}
 
 -- ---- what changes add
@@ -38,8 +36,11 @@ pub added_by-same : (vs ws : List Version) (us : List Mutation) → ((k : List �
     ≡ added_by ws us
 added_by-same vs ws [] h = refl
 added_by-same vs ws (u ∷ us) h =
-    let next : next_version vs u ≡ next_version ws u = λ i. record { rev = u.rev; key = u.key;
-            body = next_body u.rev.main u.action (h u.key i) } in
+    let next : next_version vs u ≡ next_version ws u = λ i. record {
+      rev = u.rev;
+      key = u.key;
+      body = next_body u.rev.main u.action (h u.key i);
+    } in
     let same : extend vs u ≡ vs ++ next_version ws u ∷ [] = ap (λ (v : Version). vs ++ v ∷ []) next in
     λ i. next i ∷ (ap (λ xs. added_by xs us) same ∙ added_by-same (vs ++ next_version ws u
     ∷ []) (extend ws u) us (λ k. value_now-grows vs ws (next_version ws u ∷ []) k (h k))) i
@@ -81,12 +82,16 @@ pub history-grows : (ms us : List Mutation) (r : ℕ) → IsHistory ms → AllBy
 history-grows [] us r h a b = b.history
 history-grows (m ∷ ms) us r h a b =
     let by : m.rev.main ≤ r = a.0 in
-    let after : (u : Mutation) → u.rev.main ≡ r + 1 → IsBefore m u = λ u e. (let lt : m.rev.main < u.rev.main = omega arith
-                                                                                     in rev_lt-mains m.rev u.rev lt,
-                                                                                     λ (f : m.rev.main ≡ u.rev.main). absurd (omega arith))
-                                                                                     in
-    (h.0, each-append (IsBefore m) ms us h.1 (each-map (λ u. u.rev.main ≡ r + 1) (IsBefore m) after us b.at),
-        history-grows ms us r h.2 a.1 b)
+    let after : (u : Mutation) → u.rev.main ≡ r + 1 → IsBefore m u = λ u e. (
+      let lt : m.rev.main < u.rev.main = omega arith
+          in rev_lt-mains m.rev u.rev lt,
+      λ (f : m.rev.main ≡ u.rev.main). absurd (omega arith),
+    )
+    in (
+      h.0,
+      each-append (IsBefore m) ms us h.1 (each-map (λ u. u.rev.main ≡ r + 1) (IsBefore m) after us b.at),
+      history-grows ms us r h.2 a.1 b,
+    )
 
 pub history-more : (ms us : List Mutation) → IsHistory ms → IsBatch (now ms + 1) us → IsHistory (ms ++ us)
 history-more ms us h b = history-grows ms us (now ms) h (mains-by ms h) b
@@ -165,8 +170,11 @@ told-main r w v h = by (v.rev.main == r) refl h
 pub event-same : (vs ws : List Version) (c : ℕ) (w : Watched) (v : Version) → value_at vs (end_of (v.rev.main - 1)) v.key
     ≡ value_at ws (end_of (v.rev.main - 1)) v.key
     → event_of vs c w v ≡ event_of ws c w v
-event-same vs ws c w v e = ap (λ (o : Option KeyValue). record { version = v; before = cond (before_is_kept c v.rev.main
-    && w.prev_kv) o None }) e
+event-same vs ws c w v e = ap (λ (o : Option KeyValue). record {
+  version = v;
+  before = cond (before_is_kept c v.rev.main
+      && w.prev_kv) o None;
+}) e
 
 -- versions of other revisions are not told of
 pub events-append : (vs t : List Version) (c r n : ℕ) (w : Watched) → AllByRecursion (λ v. v.rev.main ≡ n) t → r < n
@@ -221,9 +229,12 @@ grown-events vs t ms c r w g h f one kept last at = by (cases_lt (now ms) r)
         same v e =
             let is : v.rev.main - 1 ≡ now ms = (let m : v.rev.main ≡ r = told-main r w v e in omega arith) in
             event-same (vs ++ t) (dress ms ++ t) c w v (subst (λ n. value_at (vs ++ t) (end_of n) v.key
-                ≡ value_at (dress ms ++ t) (end_of n) v.key) (sym is) (grown-values vs t ms c (now ms) v.key g h f (now-above ms h) f))
-    by (inr l) = events-append vs t c r (now ms + 1) w at (omega arith) ∙ good-events vs ms c r w g (record { first = one; kept = kept;
-        past = l })
+            ≡ value_at (dress ms ++ t) (end_of n) v.key) (sym is) (grown-values vs t ms c (now ms) v.key g h f (now-above ms h) f))
+    by (inr l) = events-append vs t c r (now ms + 1) w at (omega arith) ∙ good-events vs ms c r w g (record {
+      first = one;
+      kept = kept;
+      past = l;
+    })
         ∙ sym (events-append (dress ms) t c r (now ms + 1) w at (omega arith))
 
 pub now-most : (ms us : List Mutation) → AllByRecursion (λ u. u.rev.main ≡ now ms + 1) us → now (ms ++ us) ≤ now ms + 1
@@ -261,4 +272,4 @@ good-grows vs ms us c g h f b = record {
     same (Question.watch w r) a =
         let last : now (ms ++ us) ≤ now ms + 1 = now-most ms us b.at in
         ap Answered.watch (grown-events vs (added_by (dress ms) us) ms c r w g h f a.first a.kept (omega arith) (each-added (λ p k. p.main
-            ≡ now ms + 1) (dress ms) us b.at))
+        ≡ now ms + 1) (dress ms) us b.at))

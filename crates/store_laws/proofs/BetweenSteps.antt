@@ -1,7 +1,6 @@
 -- What comes between trimming steps: later versions, and a later compaction.
-use Rattle.std.proofs.Common.{
-  ◌≡◌, ◌≤◌, ◌<◌, ◌⊎◌, ℕ, zero, suc, List, [], ◌∷◌, ◌++◌, map, filter, Bool, true, false, not, ◌&&◌, ◌||◌, None, option_and_then, refl, sym,
-  ◌∙◌, ap, inl, inr, arith}
+use Rattle.std.proofs.Common.{◌≡◌, ◌≤◌, ◌<◌, ◌⊎◌, ℕ, zero, suc, List, [], ◌∷◌, ◌++◌, map, filter, Bool, true, false, not, ◌&&◌, ◌||◌, None}
+use Rattle.std.proofs.Common.{option_and_then, refl, sym, ◌∙◌, ap, inl, inr, arith}
 use Rattle.std.specs.Prelude.{nat_lt, nat_le, ◌==◌}
 use Rattle.std.proofs.lemmas.Bool.{lt-leb}
 use Rattle.std.proofs.lemmas.List.{append-nil}
@@ -54,7 +53,7 @@ starts_over vs c = record {
 none-replace : (c : ℕ) (v : Version) (us : List Version) → AllByRecursion (λ u. c < u.rev.main) us → list_any (replaces c v) us ≡ false
 none-replace c v [] h = refl
 none-replace c v (u ∷ us) h = λ i. replaces-not c v u (λ p. let a : c < u.rev.main = h.0 in let b : u.rev.main ≤ c = p.by in omega arith) i
-                                                                                                    || none-replace c v us h.1 i
+    || none-replace c v us h.1 i
 
 or-false : (b : Bool) → (b || false) ≡ b
 or-false true = refl
@@ -78,7 +77,7 @@ pub goes_on : TrimmingGoesOn
 goes_on vs us p c high to = record {
   up_to = each-append (λ v. (rev_lt v.rev p && (nat_le v.rev.main c && is_trimmed (vs ++ us) c v)) ≡ false) vs us
       (each-map (λ v. (rev_lt v.rev p && (nat_le v.rev.main c && is_trimmed vs c v)) ≡ false) (λ v. (rev_lt v.rev p
-          && (nat_le v.rev.main c && is_trimmed (vs ++ us) c v)) ≡ false)
+      && (nat_le v.rev.main c && is_trimmed (vs ++ us) c v)) ≡ false)
       (λ v e. ap (λ b. rev_lt v.rev p && (nat_le v.rev.main c && b)) (trimmed-more vs us c v high) ∙ e) vs to)
       (each-map (λ u. c < u.rev.main) (λ v. (rev_lt v.rev p && (nat_le v.rev.main c && is_trimmed (vs ++ us) c v)) ≡ false)
       (λ v l. ap (λ b. rev_lt v.rev p && (b && is_trimmed (vs ++ us) c v)) (lt-leb v.rev.main c l) ∙ and-false (rev_lt v.rev p)) us high);
@@ -91,9 +90,12 @@ goes_on vs us p c high to = record {
 behind-none : (n : ℕ) (k : List ℕ) (vs : List Version) → AllSit n vs → AllByRecursion (λ v. (same_key v.key k && rev_le v.rev (end_of 0))
     ≡ false) vs
 behind-none n k [] s = tt
-behind-none n k (v ∷ vs) s = (ap (λ b. same_key v.key k && b) (rev_le-after v.rev (end_of 0) (let a : 1 < v.rev.main = s.0.above
-                                                                                                      in omega arith)) ∙ and-false (same_key
-                                                                                                      v.key k), behind-none n k vs s.1)
+behind-none n k (v ∷ vs) s = (
+  ap (λ b. same_key v.key k && b) (rev_le-after v.rev (end_of 0) (let a : 1 < v.rev.main = s.0.above
+      in omega arith)) ∙ and-false (same_key
+      v.key k),
+  behind-none n k vs s.1,
+)
 
 nothing_at_zero : (n : ℕ) (k : List ℕ) (vs : List Version) → AllSit n vs → value_at vs (end_of 0) k ≡ None
 unfolding value_at
@@ -111,7 +113,7 @@ all-values ms c vs h f g (suc r) k l = by (ranked (suc r) (now ms))
     by (inl a) = good-value_at vs ms c (suc r) k g h (record { first = omega arith; kept = l; past = a })
     by (inr a) =
         value_at-by vs (end_of (suc r)) k (each-part (λ v. rev_le v.rev (end_of (suc r))
-            ≡ true) g.part (dressed-before ms (suc r) h (omega arith)))
+        ≡ true) g.part (dressed-before ms (suc r) h (omega arith)))
         ∙ good-value_now vs ms c k g h f
         ∙ sym (value_at-by (dress ms) (end_of (suc r)) k (dressed-before ms (suc r) h (omega arith)))
 

@@ -1,7 +1,6 @@
 -- Where nothing is left to take out, each version has its need, and the certificate passes its check.
-use Rattle.std.proofs.Common.{
-  ◌≡◌, ◌≤◌, ◌≢◌, ℕ, ℤ, max, length, filter, List, [], ◌∷◌, find, filter_map, Bool, true, false, not, ◌&&◌, cond, Option, None, Some, refl,
-  sym, ◌∙◌, ap, subst, inl, inr, arith}
+use Rattle.std.proofs.Common.{◌≡◌, ◌≤◌, ◌≢◌, ℕ, ℤ, max, length, filter, List, [], ◌∷◌, find, filter_map, Bool, true, false, not, ◌&&◌, cond}
+use Rattle.std.proofs.Common.{Option, None, Some, refl, sym, ◌∙◌, ap, subst, inl, inr, arith}
 use Rattle.std.specs.Prelude.{option_map, nat_lt, ◌==◌}
 use Rattle.std.proofs.lemmas.Bool.{le-leb, le-ltb, eq-eqb, eqb-true}
 use Rattle.std.specs.Option.{option_or}
@@ -19,8 +18,8 @@ use Rattle.kv_model.specs.World.{World, IsSound, revision, versions}
 use Rattle.kv_model.specs.Questions.{Question, IsKept, answered, IsGood}
 use Rattle.kv_model.specs.Needs.{Need, HasNeed}
 use Rattle.kv_model.specs.Trimming.{is_tombstone, is_superseded}
-use Rattle.kv_model.specs.Certificates.{
-  Claim, need_of, claim_of, claims_of, is_met, is_asked, NeedFault, fall_after, first_fall, is_double, claims_fault, first_fault}
+use Rattle.kv_model.specs.Certificates.{Claim, need_of, claim_of, claims_of, is_met, is_asked, NeedFault, fall_after, first_fall, is_double}
+use Rattle.kv_model.specs.Certificates.{claims_fault, first_fault}
 use Rattle.kv_model.specs.Kept.{dump_of, AreNeeds}
 use Rattle.store_laws.specs.TrimmingLaws.{SettledIsCertified}
 use Rattle.store_laws.proofs.PartLaws.{in_whole}
@@ -78,22 +77,25 @@ module _ (w : World) (sound : IsSound w) (vs : List Version) (g : IsGood vs w.mu
           let s = stand v vs i in
           subst (λ us. is_superseded us r v ≡ false) (sym s.is)
           (not-replaced w.compacted s.before v s.after (subst AreRising s.is (rising-part g.part (rising-dress w.mutations sound.history)))
-              (subst (λ us. IsLeft us w.compacted v) s.is left))
+          (subst (λ us. IsLeft us w.compacted v) s.is left))
 
       needed : (us : List Version) → IsPart us (versions w) → (IsIn v us → ⊥)
           → answered us w.compacted (revision w) (Question.range (plain_range v.key r))
           ≢ answered (versions w) w.compacted (revision w) (Question.range (plain_range v.key r))
       needed us part out e = out (put-in us (versions w) v r (rising-dress w.mutations sound.history) part (in_whole g.part v i) live
           (same-value us (versions w) w.compacted (revision w) r v.key has_key kept e
-              ∙ put-shown w.mutations w.compacted sound.history sound.floor vs g v i left))
+          ∙ put-shown w.mutations w.compacted sound.history sound.floor vs g v i left))
 
   gone-need : v.body ≡ Gone → HasOwn w vs v
   gone-need b = record {
     need = Need.watch v.rev.main;
     listed = ap (need_of (dump_of w vs) v) b ∙ ap (λ t. cond t (Some (Need.watch v.rev.main)) None) (le-leb w.compacted v.rev.main
         kept.kept);
-    has = record { asked = kept; needed = λ us part out e. out (told-in before_is_kept us (versions w) w.compacted (revision w) v
-        (in_whole g.part v i) e) };
+    has = record {
+      asked = kept;
+      needed = λ us part out e. out (told-in before_is_kept us (versions w) w.compacted (revision w) v
+          (in_whole g.part v i) e);
+    };
     met = λ j. asked v.rev.main kept j && eq-eqb v.rev.main v.rev.main refl j;
   }
     where
@@ -127,10 +129,10 @@ matches_claims : (w : World) (vs us : List Version) → AllHaveOwn w vs us
 matches_claims w vs [] h = refl
 matches_claims w vs (u ∷ us) h =
     ap (λ (o : Option Claim). claims_fault (dump_of w vs) (u ∷ us) (cons_option o (filter_map (claim_of (dump_of w vs)) us)))
-        (claimed w vs u h.0)
+    (claimed w vs u h.0)
     ∙ (λ i. cond (eq-eqb u.rev.main u.rev.main refl i && eq-eqb u.rev.sub u.rev.sub refl i)
     (cond (h.0.met i) (claims_fault (dump_of w vs) us (filter_map (claim_of (dump_of w vs)) us)) (Some (NeedFault.need_unmet u.rev)))
-        (Some (NeedFault.no_need u.rev)))
+    (Some (NeedFault.no_need u.rev)))
     ∙ matches_claims w vs us h.1
 
 -- ---- a list that rises has no fault of its own
@@ -177,7 +179,7 @@ no-double : (vs us : List Version) → AreRising vs → find (is_double vs) us �
 no-double vs [] h = refl
 no-double vs (u ∷ us) h =
     ap (λ b. cond b (Some u) (find (is_double vs) us)) (ap (nat_lt 1) (sym (length-filter (is_twin u) vs))
-        ∙ le-ltb 1 (length (filter (is_twin u) vs)) (one-twin u vs h)) ∙ no-double vs us h
+    ∙ le-ltb 1 (length (filter (is_twin u) vs)) (one-twin u vs h)) ∙ no-double vs us h
 
 -- ---- the certificate
 

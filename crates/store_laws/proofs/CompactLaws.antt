@@ -1,6 +1,6 @@
 -- A Compact asks for less, so a good part stays good behind it.
-use Rattle.std.proofs.Common.{
-  ◌≡◌, ◌≤◌, ℕ, ◌-◌, ℤ, List, [], ◌∷◌, Bool, true, false, ◌&&◌, ◌||◌, cond, Option, None, Some, Ok, map, filter, refl, sym, ◌∙◌, ap, arith}
+use Rattle.std.proofs.Common.{◌≡◌, ◌≤◌, ℕ, ◌-◌, ℤ, List, [], ◌∷◌, Bool, true, false, ◌&&◌, ◌||◌, cond, Option, None, Some, Ok, map, filter}
+use Rattle.std.proofs.Common.{refl, sym, ◌∙◌, ap, arith}
 use Rattle.std.specs.Prelude.{pos, negsuc, nat_lt, nat_le, ◌==◌}
 use Rattle.std.specs.List.{AllByRecursion}
 use Rattle.std.proofs.lemmas.Bool.{ltb-false}
@@ -77,7 +77,7 @@ events-later vs ws c d r w h e =
     let each : map (event_of vs c w) gs ≡ map (event_of ws c w) gs = ap (map (event_of vs c w)) (sym same) ∙ e in
     ap (map (event_of vs d w)) same ∙ map-same (event_of vs d w) (event_of ws d w) gs
     (each-map (λ v. event_of vs c w v ≡ event_of ws c w v) (λ v. event_of vs d w v
-        ≡ event_of ws d w v) (λ v f. event-later vs ws c d w v h f) gs (map-pointwise (event_of vs c w) (event_of ws c w) gs each))
+    ≡ event_of ws d w v) (λ v f. event-later vs ws c d w v h f) gs (map-pointwise (event_of vs c w) (event_of ws c w) gs each))
 
 -- ---- a later floor
 
@@ -110,11 +110,15 @@ compact_stands s w h c l m =
     }
 
 pub compact_told : (s : Store) (w : World) → StandsFor s w → (r : ℤ) (physical : Bool)
-    → made_in w (Call.compact r physical) ≡ refused_or (compact_refusal s.compacted s.revision r) (Ok (Reply.compact,
-    record w { compacted = at_least_zero r }))
+    → made_in w (Call.compact r physical) ≡ refused_or (compact_refusal s.compacted s.revision r) (Ok (
+      Reply.compact,
+      record w { compacted = at_least_zero r },
+    ))
 unfolding compact_in
-compact_told s w h r physical = sym (λ i. refused_or (compact_refusal (h.compacted i) (h.revision_is i) r) (Ok (Reply.compact,
-    record w { compacted = at_least_zero r })))
+compact_told s w h r physical = sym (λ i. refused_or (compact_refusal (h.compacted i) (h.revision_is i) r) (Ok (
+  Reply.compact,
+  record w { compacted = at_least_zero r },
+)))
 
 -- what is not refused lies between the last Compact and the revision
 pub compact_within : (c n : ℕ) (r : ℤ) → compact_refusal c n r ≡ None → (c ≤ at_least_zero r) × (at_least_zero r ≤ n)

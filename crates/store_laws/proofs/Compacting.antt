@@ -1,7 +1,6 @@
 -- Which versions answer what is asked from a compaction on.
-use Rattle.std.proofs.Common.{
-  ◌≡◌, ℕ, zero, suc, ◌≤◌, pos, List, [], ◌∷◌, ◌++◌, length, Bool, true, false, ◌&&◌, cond, Option, None, Some, option_and_then, is_some, Ok,
-  Err, refl, sym, ◌∙◌, ap, subst, arith}
+use Rattle.std.proofs.Common.{◌≡◌, ℕ, zero, suc, ◌≤◌, pos, List, [], ◌∷◌, ◌++◌, length, Bool, true, false, ◌&&◌, cond, Option, None, Some}
+use Rattle.std.proofs.Common.{option_and_then, is_some, Ok, Err, refl, sym, ◌∙◌, ap, subst, arith}
 use Rattle.std.specs.Prelude.{codes, map, option_to_list, nat_lt}
 use Rattle.std.proofs.lemmas.Bool.{le-ltb}
 use Rattle.kv_model.specs.Keys.{one_key}
@@ -81,8 +80,16 @@ least : (us : List Version) → IsGood us put_delete_put 4 → 1 ≤ length us
 unfolding shown_count range_reply reply_from live dress value_at
 least [] g =
     let q : RangeQuery = plain_range (codes "b") 4 in
-    let asked : IsRangeAt 4 4 q = record { revision = 4; is = refl; kept = record { first = omega arith; kept = omega arith;
-            past = omega arith }; has_key = λ e. cc } in
+    let asked : IsRangeAt 4 4 q = record {
+      revision = 4;
+      is = refl;
+      kept = record {
+        first = omega arith;
+        kept = omega arith;
+        past = omega arith;
+      };
+      has_key = λ e. cc;
+    } in
     let same : ◌≡◌ {A = ℕ} 0 1 = ap shown_count (g.answers (Question.range q) asked) in cc
 least (u ∷ us) g = omega arith
 
@@ -167,7 +174,7 @@ pub plain_shows : (us : List Version) (c n r : ℕ) (x : ℕ) (k : List ℕ) →
 unfolding kvs_of range_reply reply_from
 plain_shows us c n r x k h =
     ap (λ o. kvs_of (Answered.range (unless_refused o (reply_from (plain_range (x ∷ k) r) n (live us (read_place (pos r) (end_of n))
-        (one_key (x ∷ k))))))) (not_refused c n r x k h)
+    (one_key (x ∷ k))))))) (not_refused c n r x k h)
     ∙ ap (λ p. (reply_from (plain_range (x ∷ k) r) n (live us p (one_key (x ∷ k)))).kvs) (place-asked r (end_of n) h.first)
     ∙ ap (λ kvs. (reply_from (plain_range (x ∷ k) r) n kvs).kvs) (live-one us (end_of r) (x ∷ k))
     ∙ plain_kvs n r (x ∷ k) (value_at us (end_of r) (x ∷ k))
@@ -184,4 +191,4 @@ pub good-values : (vs : List Version) (ms : List Mutation) (c r : ℕ) (x : ℕ)
 good-values vs ms c r x k g h =
     let asked : IsRangeAt c (now ms) (plain_range (x ∷ k) r) = record { revision = r; is = refl; kept = h; has_key = λ e. cc } in
     one_listed _ _ (sym (plain_shows vs c (now ms) r x k h) ∙ ap kvs_of (g.answers (Question.range (plain_range (x ∷ k) r)) asked)
-        ∙ plain_shows (dress ms) c (now ms) r x k h)
+    ∙ plain_shows (dress ms) c (now ms) r x k h)

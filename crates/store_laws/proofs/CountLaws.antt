@@ -1,7 +1,6 @@
 -- The changes that a path makes, counted in the versions after it: each operation finds in them, at its place, what those before it left.
-use Rattle.std.proofs.Common.{
-  ◌≡◌, ◌≤◌, ◌<◌, ℕ, zero, suc, ◌+◌, ◌-◌, List, [], ◌∷◌, ◌++◌, length, Bool, true, false, refl, sym, ◌∙◌, ap, subst, append_assoc, add-one,
-  arith, length-append}
+use Rattle.std.proofs.Common.{◌≡◌, ◌≤◌, ◌<◌, ℕ, zero, suc, ◌+◌, ◌-◌, List, [], ◌∷◌, ◌++◌, length, Bool, true, false, refl, sym, ◌∙◌, ap}
+use Rattle.std.proofs.Common.{subst, append_assoc, add-one, arith, length-append}
 use Rattle.std.specs.List.{AllByRecursion}
 use Rattle.std.specs.declared.cmp.Ordering.{Ordering}
 use Rattle.std.specs.declared.cmp.Ordering.TheVariants.{Less, Equal, Greater}
@@ -21,8 +20,8 @@ use Rattle.store_laws.proofs.PlaceLaws.{AreBy, AreBehind, each-map, each-append,
 use Rattle.store_laws.proofs.GoodLaws.{live_now-by}
 use Rattle.store_laws.proofs.BatchLaws.{extend_all-added, each-added}
 use Rattle.store_laws.proofs.TouchLaws.{AreClear}
-use Rattle.store_laws.proofs.PlanLaws.{
-  NoClash, inner-clear, clear-front, put-clear, delete-clear, live-taken, extend_all-append, effect-planned}
+use Rattle.store_laws.proofs.PlanLaws.{NoClash, inner-clear, clear-front, put-clear, delete-clear, live-taken, extend_all-append}
+use Rattle.store_laws.proofs.PlanLaws.{effect-planned}
 use Rattle.store_laws.proofs.PlanBatch.{deletes-length, planned-length}
 
 -- ---- the order of places, in numbers
@@ -90,7 +89,7 @@ effect-late main k sub vs (Path.range q rest) l = effect-late main k sub vs rest
 effect-late main k sub vs (Path.put p rest) l = (record { at = refl; from = l }, effect-late main k (suc sub) _ rest (omega arith))
 effect-late main k sub vs (Path.delete d rest) l =
     each-append (IsLate main k) (delete_changes vs main sub d) _ (deletes-late main k sub (keys_of (live_now vs d.range)) l)
-        (effect-late main k _ _ rest (omega arith))
+    (effect-late main k _ _ rest (omega arith))
 effect-late main k sub vs (Path.txn b inner rest) l =
     each-append (IsLate main k) (effect vs main sub inner) _ (effect-late main k sub vs inner l) (effect-late main k _ _ rest (omega arith))
 
@@ -100,8 +99,10 @@ put-early : (vs : List Version) (main : ℕ) (us : List Mutation) (p : PutReques
 put-early vs main us p h =
     let m : Mutation = put_change vs main (length us) p in
     let more : length (us ++ m ∷ []) ≡ length us + 1 = length-append us (m ∷ []) in
-    each-append (IsEarly main (length (us ++ m ∷ []))) us (m ∷ []) (early-less main (length us) (length (us ++ m ∷ [])) (omega (arith,
-        more)) us h) (record { at = refl; below = omega (arith, more) }, tt)
+    each-append (IsEarly main (length (us ++ m ∷ []))) us (m ∷ []) (early-less main (length us) (length (us ++ m ∷ [])) (omega (
+      arith,
+      more,
+    )) us h) (record { at = refl; below = omega (arith, more) }, tt)
 
 taken-more : (vs : List Version) (main : ℕ) (us : List Mutation) (r : KeyRange)
     → length (us ++ deletes_of main (length us) (still_live vs us r)) ≡ length us + length (still_live vs us r)
@@ -116,7 +117,7 @@ delete-early vs main us r h =
     let ws : List Mutation = deletes_of main (length us) ks in
     let more : length (us ++ ws) ≡ length us + length ks = taken-more vs main us r in
     each-append (IsEarly main (length (us ++ ws))) us ws (early-less main (length us) (length (us ++ ws)) (omega (arith, more)) us h)
-        (deletes-early main (length (us ++ ws)) (length us) ks (omega (arith, more)))
+    (deletes-early main (length (us ++ ws)) (length us) ks (omega (arith, more)))
 
 planned-early : (vs : List Version) (main : ℕ) (us : List Mutation) (q : Path) → AllByRecursion (IsEarly main (length us)) us
     → AllByRecursion (IsEarly main (length (planned vs main us q))) (planned vs main us q)
@@ -151,7 +152,7 @@ live-before-late : (vs : List Version) (n k : ℕ) (us ts : List Mutation) (r : 
     → live (extend_all vs (us ++ ts)) (place_before (n + 1) k) r ≡ live_now (extend_all vs us) r
 live-before-late vs n k us ts r a e l =
     live-same (extend_all vs (us ++ ts)) seen p r (λ key. ap (λ xs. value_at xs p key) grows
-        ∙ value_at-behind seen (added_by seen ts) p key behind) ∙ sym (live_now-by seen p r by)
+    ∙ value_at-behind seen (added_by seen ts) p key behind) ∙ sym (live_now-by seen p r by)
   where
     p : Rev
     p = place_before (n + 1) k
@@ -183,7 +184,7 @@ module _ (vs : List Version) (n : ℕ) (a : AreBy (end_of n) vs) (all : List Mut
       → AllByRecursion (IsLate (n + 1) (length us)) (effect (extend_all vs us) (n + 1) (length us) q ++ ts)
   behind-late us ts q l = each-append (IsLate (n + 1) (length us)) (effect (extend_all vs us) (n + 1) (length us) q) ts
       (effect-late (n + 1) (length us) (length us) (extend_all vs us) q (omega arith)) (late-more (n + 1) (length us)
-          (length (planned vs (n + 1) us q)) (planned-length vs (n + 1) us q) ts l)
+      (length (planned vs (n + 1) us q)) (planned-length vs (n + 1) us q) ts l)
 
   -- a delete finds what it takes
   found : (us ts : List Mutation) (r : KeyRange) (touches : List Touch) → AreClear us (Touch.each r ∷ touches)
@@ -207,7 +208,7 @@ module _ (vs : List Version) (n : ℕ) (a : AreBy (end_of n) vs) (all : List Mut
       let more : length (us ++ m ∷ []) ≡ suc (length us) = length-append us (m ∷ []) ∙ add-one (length us) in
       let later = counted (us ++ m ∷ []) ts rest (put-clear vs (n + 1) us p rest j c) c.1 (put-early vs (n + 1) us p h) e l in
       subst (λ k. length us + suc (changes_of (extend_all vs all) (n + 1) k rest) ≡ length (planned vs (n + 1) (us ++ m ∷ []) rest)) more
-          (omega (arith, more, later))
+      (omega (arith, more, later))
   counted us ts (Path.delete d rest) j c h e l =
       let ks : List (List ℕ) = still_live vs us d.range in
       let ws : List Mutation = deletes_of (n + 1) (length us) ks in
@@ -215,26 +216,28 @@ module _ (vs : List Version) (n : ℕ) (a : AreBy (end_of n) vs) (all : List Mut
       let later = counted (us ++ ws) ts rest (delete-clear vs (n + 1) us d rest j c) c.1 (delete-early vs (n + 1) us d.range h) e l in
       let takes : length (live (extend_all vs all) (place_before (n + 1) (length us)) d.range) ≡ length ks =
       found us (effect (extend_all vs us) (n + 1) (length us) (Path.delete d rest) ++ ts) d.range (path_touches rest) j h
-          (behind-path us ts (Path.delete d rest) j c e) (behind-late us ts (Path.delete d rest) l) in
+      (behind-path us ts (Path.delete d rest) j c e) (behind-late us ts (Path.delete d rest) l) in
       subst (λ k. length us + (k + changes_of (extend_all vs all) (n + 1) (length us + k) rest)
-          ≡ length (planned vs (n + 1) (us ++ ws) rest)) (sym takes)
+      ≡ length (planned vs (n + 1) (us ++ ws) rest)) (sym takes)
       (subst (λ k. length us + (length ks + changes_of (extend_all vs all) (n + 1) k rest) ≡ length (planned vs (n + 1) (us ++ ws) rest))
-          more (omega (arith, more, later)))
+      more (omega (arith, more, later)))
   counted us ts (Path.txn b inner rest) j c h e l =
       let mid : List Mutation = planned vs (n + 1) us inner in
       let clear : AreClear mid (path_touches rest) = inner-clear vs (n + 1) us b inner rest j c in
       let within = counted us (effect (extend_all vs mid) (n + 1) (length mid) rest
-              ++ ts) inner (clear-front us (path_touches inner) (path_touches rest) j) c.1 h (behind-path mid ts rest clear c.2 e)
-              (behind-late mid ts rest l) in
+      ++ ts) inner (clear-front us (path_touches inner) (path_touches rest) j) c.1 h (behind-path mid ts rest clear c.2 e)
+      (behind-late mid ts rest l) in
       let later = counted mid ts rest clear c.2 (planned-early vs (n + 1) us inner h) e l in
       subst (λ k. length us + (changes_of (extend_all vs all) (n + 1) (length us) inner + changes_of (extend_all vs all) (n + 1) k rest)
-          ≡ length (planned vs (n + 1) mid rest)) (sym within) (omega (arith, within, later))
+      ≡ length (planned vs (n + 1) mid rest)) (sym within) (omega (arith, within, later))
 
 -- the changes of a path without a clash, counted in the versions that they leave
 pub changes_counted : (vs : List Version) (n : ℕ) (q : Path) → AreBy (end_of n) vs → NoClash q
     → changes_of (extend_all vs (planned vs (n + 1) [] q)) (n + 1) 0 q ≡ length (planned vs (n + 1) [] q)
-changes_counted vs n q a c = omega (arith,
-    counted vs n a (planned vs (n + 1) [] q) [] [] q tt c tt (sym (append-nil (planned vs (n + 1) [] q))) tt)
+changes_counted vs n q a c = omega (
+  arith,
+  counted vs n a (planned vs (n + 1) [] q) [] [] q tt c tt (sym (append-nil (planned vs (n + 1) [] q))) tt,
+)
 
 -- a transaction makes the changes of its branch
 pub branch_changes : (vs : List Version) (main sub : ℕ) (b : Bool) (inner : Path) → changes_of vs main sub (Path.txn b inner Path.end)

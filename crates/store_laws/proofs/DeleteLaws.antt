@@ -1,7 +1,6 @@
 -- The deletes of live keys: the keys ascend and are not empty, so their deletes are the changes of one revision.
-use Rattle.std.proofs.Common.{
-  ◌≡◌, ◌≤◌, ◌<◌, ◌≢◌, ℕ, suc, ◌+◌, ◌^◌, List, [], ◌∷◌, length, Bool, true, false, ◌&&◌, cond, Option, None, Some, option_and_then, is_some,
-  filter, filter_map, refl, sym, ◌∙◌, ap, subst, arith}
+use Rattle.std.proofs.Common.{◌≡◌, ◌≤◌, ◌<◌, ◌≢◌, ℕ, suc, ◌+◌, ◌^◌, List, [], ◌∷◌, length, Bool, true, false, ◌&&◌, cond, Option, None}
+use Rattle.std.proofs.Common.{Some, option_and_then, is_some, filter, filter_map, refl, sym, ◌∙◌, ap, subst, arith}
 use Rattle.std.specs.Option.{option_or}
 use Rattle.std.specs.List.{AllByRecursion, cons_option}
 use Rattle.std.specs.declared.cmp.Ordering.{Ordering}
@@ -148,16 +147,19 @@ delete_at main sub k = record { rev = record { main = main; sub = sub }; key = k
 deletes-before : (main sub n : ℕ) (k : List ℕ) (ks : List (List ℕ)) → sub < n → AllAbove k ks
     → AllByRecursion (IsBefore (delete_at main sub k)) (deletes_of main n ks)
 deletes-before main sub n k [] l a = tt
-deletes-before main sub n k (j ∷ ks) l a =
-    ((rev_lt-subs (record { main = main; sub = sub }) (record { main = main; sub = n }) refl l, λ e. below-other k j a.0),
-        deletes-before main sub (suc n) k ks (omega arith) a.1)
+deletes-before main sub n k (j ∷ ks) l a = (
+  (rev_lt-subs (record { main = main; sub = sub }) (record { main = main; sub = n }) refl l, λ e. below-other k j a.0),
+  deletes-before main sub (suc n) k ks (omega arith) a.1,
+)
 
 deletes-history : (main sub : ℕ) (ks : List (List ℕ)) → IsAscending ks → AreGiven ks → 1 < main → sub + length ks ≤ 2 ^ 64
     → IsHistory (deletes_of main sub ks)
 deletes-history main sub [] a g o l = tt
-deletes-history main sub (k ∷ ks) a g o l =
-    (record { behind = o; number = omega arith; has_key = g.0 }, deletes-before main sub (suc sub) k ks (omega arith) a.0,
-        deletes-history main (suc sub) ks a.1 g.1 o (omega arith))
+deletes-history main sub (k ∷ ks) a g o l = (
+  record { behind = o; number = omega arith; has_key = g.0 },
+  deletes-before main sub (suc sub) k ks (omega arith) a.0,
+  deletes-history main (suc sub) ks a.1 g.1 o (omega arith),
+)
 
 deletes-at : (main sub : ℕ) (ks : List (List ℕ)) → AllByRecursion (λ u. u.rev.main ≡ main) (deletes_of main sub ks)
 deletes-at main sub [] = tt

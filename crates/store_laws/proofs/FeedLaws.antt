@@ -1,7 +1,6 @@
 -- What is published makes of the versions what the commands made of them, and a reader stores a part of it.
-use Rattle.std.proofs.Common.{
-  ◌≡◌, ◌⊎◌, ℕ, ◌≤◌, ℤ, pos, negsuc, List, [], ◌∷◌, ◌++◌, length, filter, Bool, true, false, not, cond, Option, None, Some, Ok, Err, refl,
-  sym, ◌∙◌, ap, subst, inl, inr, arith}
+use Rattle.std.proofs.Common.{◌≡◌, ◌⊎◌, ℕ, ◌≤◌, ℤ, pos, negsuc, List, [], ◌∷◌, ◌++◌, length, filter, Bool, true, false, not, cond, Option}
+use Rattle.std.proofs.Common.{None, Some, Ok, Err, refl, sym, ◌∙◌, ap, subst, inl, inr, arith}
 use Rattle.std.specs.Prelude.{fold, find, drop, ◌+◌, nat_lt, nat_le, ◌||◌, ◌==◌}
 use Rattle.std.proofs.lemmas.Bool.{le-ltb, lt-ltb, leb-false}
 use Rattle.std.proofs.lemmas.List.{append-nil}
@@ -19,9 +18,9 @@ use Rattle.kv_model.specs.Leases.{Lease, lease_at, due}
 use Rattle.kv_model.specs.World.{World, revision, versions}
 use Rattle.kv_model.specs.Txns.{Path, previous_value, put_change}
 use Rattle.kv_model.specs.Told.{Reply, Trimmed}
-use Rattle.kv_model.specs.Step.{
-  Made, made_in, perform, expire, world_of, commit, refused_or, last_main, compact_in, keep_alive_in, time_to_live_in, range_in, put_in,
-  delete_in, txn_in, run_path, watch_in, grant_in, revoke_in, expire_at, expiry_of}
+use Rattle.kv_model.specs.Step.{Made, made_in, perform, expire, world_of, commit, refused_or, last_main, compact_in, keep_alive_in}
+use Rattle.kv_model.specs.Step.{time_to_live_in, range_in, put_in, delete_in, txn_in, run_path, watch_in, grant_in, revoke_in, expire_at}
+use Rattle.kv_model.specs.Step.{expiry_of}
 use Rattle.kv_model.specs.Trimming.{TrimStep, trimmed, trimmed_next, visited, finished, without_rev, is_trimmed, is_at, place_after}
 use Rattle.kv_model.specs.Feed.{Published, Snapshot, Untrimmed, absorb, grow, blank, nothing_published, last_main_or}
 use Rattle.kv_model.specs.Changes.{untrimmed, change_between, batch_of, added}
@@ -79,7 +78,7 @@ Leads ms c ns d = fold grow (whole ms c) (cond (nat_lt c d) (Published.floor d �
 leads_on : (ms us : List Mutation) (c : ℕ) → Leads ms c (ms ++ us) c
 leads_on ms us c =
     ap (λ b. fold grow (whole ms c) (cond b (Published.floor c ∷ []) (batch_of (drop (length (dress ms)) (dress (ms ++ us))))))
-        (le-ltb c c (omega arith))
+    (le-ltb c c (omega arith))
     ∙ ap (λ vs. fold grow (whole ms c) (batch_of (drop (length (dress ms)) vs))) (dress-more ms us)
     ∙ ap (λ vs. fold grow (whole ms c) (batch_of vs)) (drop-append_seam (dress ms) (dress_after ms us))
     ∙ batch_grows ms us c
@@ -199,8 +198,11 @@ unfolding trimmed
 trimmed_part vs us p c h = next (find (λ v. not (rev_lt v.rev p)) vs)
   where
     visit : (v : Version) (b : Bool)
-        → IsPart (cond {A = TrimStep} b (record { told = Trimmed.removed v.rev; versions = without_rev (Some v.rev) vs;
-        place = place_after v.rev }) (record { told = Trimmed.kept v.rev; versions = vs; place = place_after v.rev })).versions us
+        → IsPart (cond {A = TrimStep} b (record {
+          told = Trimmed.removed v.rev;
+          versions = without_rev (Some v.rev) vs;
+          place = place_after v.rev;
+        }) (record { told = Trimmed.kept v.rev; versions = vs; place = place_after v.rev })).versions us
     visit v true = part-filter (λ u. not (is_at v.rev u)) h
     visit v false = h
 
@@ -219,11 +221,17 @@ record StoresOf (s : Snapshot) (u : Untrimmed) : Type 0 where
   revision : s.revision ≡ u.revision
 
 stores_one : (s : Snapshot) (u : Untrimmed) (op : Published) → StoresOf s u → StoresOf (absorb s op) (grow u op)
-stores_one s u (Published.batch vs) h = record { part = part-append vs h.part; compacted = h.compacted;
-    revision = ap (λ r. last_main_or r vs) h.revision }
+stores_one s u (Published.batch vs) h = record {
+  part = part-append vs h.part;
+  compacted = h.compacted;
+  revision = ap (λ r. last_main_or r vs) h.revision;
+}
 stores_one s u (Published.floor c) h = record { part = h.part; compacted = refl; revision = h.revision }
-stores_one s u Published.trim h = record { part = trimmed_part s.versions u.versions s.place s.compacted h.part; compacted = h.compacted;
-    revision = h.revision }
+stores_one s u Published.trim h = record {
+  part = trimmed_part s.versions u.versions s.place s.compacted h.part;
+  compacted = h.compacted;
+  revision = h.revision;
+}
 
 stores_all : (ops : List Published) (s : Snapshot) (u : Untrimmed) → StoresOf s u → StoresOf (fold absorb s ops) (fold grow u ops)
 stores_all [] s u h = h

@@ -1,7 +1,6 @@
 -- A good part holds, at every revision that is kept, what the whole history holds, and so answers every read as it does.
-use Rattle.std.proofs.Common.{
-  ◌≡◌, ◌≤◌, ◌≢◌, ℕ, zero, suc, ℤ, pos, negsuc, List, [], ◌∷◌, Bool, true, false, cond, Option, None, Some, filter_map, Ok, refl, sym, ◌∙◌,
-  ap, arith}
+use Rattle.std.proofs.Common.{◌≡◌, ◌≤◌, ◌≢◌, ℕ, zero, suc, ℤ, pos, negsuc, List, [], ◌∷◌, Bool, true, false, cond, Option, None, Some}
+use Rattle.std.proofs.Common.{filter_map, Ok, refl, sym, ◌∙◌, ap, arith}
 use Rattle.std.specs.Prelude.{nat_lt}
 use Rattle.std.proofs.lemmas.Bool.{ltb-false}
 use Rattle.std.specs.Option.{option_or}
@@ -15,15 +14,14 @@ use Rattle.kv_model.specs.declared.refusal.Refusal.TheVariants.{NoKey, Compacted
 use Rattle.kv_model.specs.Lists.{is_empty, IsPart}
 use Rattle.kv_model.specs.Keys.{same_key, in_range}
 use Rattle.kv_model.specs.History.{Mutation, IsChange, IsHistory, now, dress, value_at, value_now, end_of, rev_le}
-use Rattle.kv_model.specs.Ranges.{
-  keys, live, live_now, value_within, value_now_within, range_reply, reply_from, range_answer, range_refusal, revision_refusal, refuse_if,
-  unless_refused, read_place}
+use Rattle.kv_model.specs.Ranges.{keys, live, live_now, value_within, value_now_within, range_reply, reply_from, range_answer}
+use Rattle.kv_model.specs.Ranges.{range_refusal, revision_refusal, refuse_if, unless_refused, read_place}
 use Rattle.kv_model.specs.Questions.{IsKept, IsGood}
 use Rattle.store_laws.proofs.HistoryLaws.{same_key-eq}
 use Rattle.store_laws.proofs.KeyLaws.{live-same}
 use Rattle.store_laws.proofs.Compacting.{good-values}
-use Rattle.store_laws.proofs.PlaceLaws.{
-  AreBy, each-map, each-part, each-dressed, each-change, mains-by, now-above, rev_le-end, value_at-by, value_at-absent}
+use Rattle.store_laws.proofs.PlaceLaws.{AreBy, each-map, each-part, each-dressed, each-change, mains-by, now-above, rev_le-end, value_at-by}
+use Rattle.store_laws.proofs.PlaceLaws.{value_at-absent}
 
 -- ---- small steps
 
@@ -71,14 +69,14 @@ pub good-value_at : (vs : List Version) (ms : List Mutation) (c r : ℕ) (k : Li
     → value_at vs (end_of r) k ≡ value_at (dress ms) (end_of r) k
 good-value_at vs ms c r [] g h f =
     value_at-absent vs (end_of r) [] (each-part (λ v. same_key v.key [] ≡ false) g.part (no-empty ms h))
-        ∙ sym (value_at-absent (dress ms) (end_of r) [] (no-empty ms h))
+    ∙ sym (value_at-absent (dress ms) (end_of r) [] (no-empty ms h))
 good-value_at vs ms c r (x ∷ k) g h f = good-values vs ms c r x k g f
 
 pub good-value_now : (vs : List Version) (ms : List Mutation) (c : ℕ) (k : List ℕ) → IsGood vs ms c → IsHistory ms → c ≤ now ms
     → value_now vs k ≡ value_now (dress ms) k
 good-value_now vs ms c k g h f =
     sym (part-value_now vs ms k g.part h) ∙ good-value_at vs ms c (now ms) k g h (now-kept ms c h f)
-        ∙ value_at-by (dress ms) (end_of (now ms)) k (dressed-by ms h)
+    ∙ value_at-by (dress ms) (end_of (now ms)) k (dressed-by ms h)
 
 pub good-live : (vs : List Version) (ms : List Mutation) (c r : ℕ) (range : KeyRange) → IsGood vs ms c → IsHistory ms → IsKept c (now ms) r
     → live vs (end_of r) range ≡ live (dress ms) (end_of r) range
@@ -127,5 +125,5 @@ good-range_answer vs ms c q g h f = by (range_refusal c (now ms) q) refl
     by (Some e) is = refl
     by None is =
         let at : (r : ℕ) × IsKept c (now ms) r × (read_place q.revision (end_of (now ms)) ≡ end_of r) = read-kept c (now ms) q.revision
-                (now-kept ms c h f) (or-none (refuse_if (is_empty q.range.key) NoKey) _ is) in
+        (now-kept ms c h f) (or-none (refuse_if (is_empty q.range.key) NoKey) _ is) in
         ap (λ kvs. Ok (reply_from q (now ms) kvs)) (rw at.2 (good-live vs ms c at.0 q.range g h at.1))

@@ -1,7 +1,6 @@
 -- A version that is dressed by the one before it is the version that counting gives.
-use Rattle.std.proofs.Common.{
-  append_assoc, ◌≡◌, ℕ, ◌+◌, ℤ, List, [], ◌∷◌, ◌++◌, length, Bool, true, false, ◌&&◌, cond, Some, option_and_then, filter, refl, sym, ◌∙◌,
-  ap, arith, length-append}
+use Rattle.std.proofs.Common.{append_assoc, ◌≡◌, ℕ, ◌+◌, ℤ, List, [], ◌∷◌, ◌++◌, length, Bool, true, false, ◌&&◌, cond, Some}
+use Rattle.std.proofs.Common.{option_and_then, filter, refl, sym, ◌∙◌, ap, arith, length-append}
 use Rattle.std.specs.Option.{option_or}
 use Rattle.std.specs.List.{AllByRecursion, after_last}
 use Rattle.std.specs.Cmp.Lexicographic.{bytes_decides}
@@ -9,8 +8,8 @@ use Rattle.kv_model.specs.declared.version.Body.{Body}
 use Rattle.kv_model.specs.declared.version.Body.TheVariants.{Put}
 use Rattle.kv_model.specs.Lists.{last_that}
 use Rattle.kv_model.specs.Keys.{same_key}
-use Rattle.kv_model.specs.History.{
-  Mutation, Action, KeyValue, life, is_put, puts_key, deletes_key, first_main, body_of, dress, value_now, shown}
+use Rattle.kv_model.specs.History.{Mutation, Action, KeyValue, life, is_put, puts_key, deletes_key, first_main, body_of, dress, value_now}
+use Rattle.kv_model.specs.History.{shown}
 use Rattle.kv_model.specs.Txns.{next_body, extend, extend_all}
 use Rattle.std.proofs.lemmas.List.{append-nil}
 use Rattle.store_laws.proofs.HistoryLaws.{life-push, dress-push, held, value_now-dress}
@@ -41,8 +40,19 @@ last-put m (x ∷ xs) h = let r = last-put x xs h.1 in (r.0, ap (λ o. option_or
 
 shown-put : (main : ℕ) (k : List ℕ) (l : List Mutation) (a : Action) → is_put a ≡ true
     → (kv : KeyValue) × (shown main k (body_of l a) ≡ Some kv) × (kv.create ≡ first_main l) × (kv.version ≡ length l)
-shown-put main k l (Action.put value lease) e = (record { key = k; value = value; create = first_main l; modified = main;
-    version = length l; lease = lease }, refl, refl, refl)
+shown-put main k l (Action.put value lease) e = (
+  record {
+    key = k;
+    value = value;
+    create = first_main l;
+    modified = main;
+    version = length l;
+    lease = lease;
+  },
+  refl,
+  refl,
+  refl,
+)
 shown-put main k l Action.delete e = cc
 
 -- a life that is not over is seen in what the key holds

@@ -1,7 +1,6 @@
 -- Where nothing is left to take out, each version is needed, and so the list is the one least.
-use Rattle.std.proofs.Common.{
-  ◌≡◌, ◌≤◌, ◌<◌, ◌⊎◌, ℕ, ◌^◌, max, List, [], ◌∷◌, ◌++◌, map, filter, Bool, true, false, ◌&&◌, ◌||◌, cond, Option, None, Some,
-  option_and_then, refl, sym, ◌∙◌, ap, subst, inl, inr, arith}
+use Rattle.std.proofs.Common.{◌≡◌, ◌≤◌, ◌<◌, ◌⊎◌, ℕ, ◌^◌, max, List, [], ◌∷◌, ◌++◌, map, filter, Bool, true, false, ◌&&◌, ◌||◌, cond}
+use Rattle.std.proofs.Common.{Option, None, Some, option_and_then, refl, sym, ◌∙◌, ap, subst, inl, inr, arith}
 use Rattle.std.specs.Prelude.{nat_lt, nat_le, ◌==◌}
 use Rattle.std.proofs.lemmas.Bool.{le-leb, lt-ltb, eq-eqb}
 use Rattle.std.specs.Option.{option_or}
@@ -21,8 +20,8 @@ use Rattle.store_laws.proofs.Compacting.{latest-out}
 use Rattle.store_laws.proofs.HistoryLaws.{same_key-eq}
 use Rattle.store_laws.proofs.PlaceLaws.{rev_le-end}
 use Rattle.store_laws.proofs.GoodLaws.{good-value_at}
-use Rattle.store_laws.proofs.TrimLaws.{
-  same-refl, ranked, rev_lt-self, Precedes, AreRising, rising-dress, rising-part, rising-mid, Sits, sit-part, superseded-mid, low, last_seen}
+use Rattle.store_laws.proofs.TrimLaws.{same-refl, ranked, rev_lt-self, Precedes, AreRising, rising-dress, rising-part, rising-mid, Sits}
+use Rattle.store_laws.proofs.TrimLaws.{sit-part, superseded-mid, low, last_seen}
 use Rattle.store_laws.proofs.StepLaws.{settles}
 
 -- ---- elements
@@ -75,8 +74,10 @@ last-in {X} p (y ∷ ys) x e = by (last_that p ys) refl (p y) refl (last-in p ys
 
 pub once-rising : (vs : List Version) → AreRising vs → IsOnce vs
 once-rising [] h = tt
-once-rising (v ∷ vs) h = ((λ i. let e : true ≡ false = sym (each-in (Precedes v) vs v h.0 i).0 ∙ rev_lt-self v.rev in cc),
-                                        once-rising vs h.1)
+once-rising (v ∷ vs) h = (
+  (λ i. let e : true ≡ false = sym (each-in (Precedes v) vs v h.0 i).0 ∙ rev_lt-self v.rev in cc),
+  once-rising vs h.1,
+)
 
 pub one_at : (vs : List Version) (u v : Version) → AreRising vs → IsIn u vs → IsIn v vs → u.key ≡ v.key → u.rev.main ≡ v.rev.main → u ≡ v
 one_at [] u v h i j k m = absurd i
@@ -93,14 +94,30 @@ is_some_value : (v : Version) → is_tombstone v.body ≡ false → (kv : KeyVal
 is_some_value v e = by v.body e
   where
     by : (b : Body) → is_tombstone b ≡ false → (kv : KeyValue) × (shown v.rev.main v.key b ≡ Some kv) × (kv.modified ≡ v.rev.main)
-    by (Put create version lease value) e = (record { key = v.key; value = value; create = create; modified = v.rev.main; version = version;
-        lease = lease }, refl, refl)
+    by (Put create version lease value) e = (
+      record {
+        key = v.key;
+        value = value;
+        create = create;
+        modified = v.rev.main;
+        version = version;
+        lease = lease;
+      },
+      refl,
+      refl,
+    )
     by Gone e = cc
 
 shown-main : (main : ℕ) (k : List ℕ) (b : Body) (kv : KeyValue) → shown main k b ≡ Some kv → kv.modified ≡ main
-shown-main main k (Put create version lease value) kv e = let same : record { key = k; value = value; create = create; modified = main;
-                                                                  version = version; lease = lease } ≡ kv = cc
-                                                                  in sym (ap (λ x. x.modified) same)
+shown-main main k (Put create version lease value) kv e = let same : record {
+  key = k;
+  value = value;
+  create = create;
+  modified = main;
+  version = version;
+  lease = lease;
+} ≡ kv = cc
+    in sym (ap (λ x. x.modified) same)
 shown-main main k Gone kv e = cc
 
 pub put-in : (us vs : List Version) (v : Version) (r : ℕ) → AreRising vs → IsPart us vs → IsIn v vs → is_tombstone v.body ≡ false
@@ -160,7 +177,7 @@ pub told-in : (has_before : ℕ → ℕ → Bool) (us vs : List Version) (c n : 
     → IsIn v us
 told-in has_before us vs c n v i e =
     let same : filter (watch_test v) us ≡ filter (watch_test v) vs = sym (told-as has_before us c n v) ∙ ap versions_told e
-            ∙ told-as has_before vs c n v in
+    ∙ told-as has_before vs c n v in
     filter-in (watch_test v) us v (subst (IsIn v) (sym same) (in-filter (watch_test v) vs v (tells v) i))
 
 -- ---- what is left is needed
@@ -189,14 +206,14 @@ not-replaced c xs v ys h left = by (ranked v.rev.main c)
   where
     itself : (b : Bool) → is_superseded (xs ++ v ∷ ys) v.rev.main v ≡ b → b ≡ false
     itself true e = let below : v.rev.main < v.rev.main = low v.rev.main v ys (rising-mid xs v ys h).1
-                            (sym (superseded-mid xs v ys v.rev.main h) ∙ e) in absurd (omega arith)
+        (sym (superseded-mid xs v ys v.rev.main h) ∙ e) in absurd (omega arith)
     itself false e = refl
 
     by : (v.rev.main ≤ c) ⊎ (c < v.rev.main) → is_superseded (xs ++ v ∷ ys) (max v.rev.main c) v ≡ false
     by (inl a) = let same : max v.rev.main c ≡ c = omega arith in
         subst (λ r. is_superseded (xs ++ v ∷ ys) r v ≡ false) (sym same)
         (not-first (is_superseded (xs ++ v ∷ ys) c v) (is_tombstone v.body && nat_lt v.rev.main c) (ap (λ b. b
-            && is_trimmed (xs ++ v ∷ ys) c v) (sym (le-leb v.rev.main c a)) ∙ left))
+        && is_trimmed (xs ++ v ∷ ys) c v) (sym (le-leb v.rev.main c a)) ∙ left))
     by (inr a) = let same : max v.rev.main c ≡ v.rev.main = omega arith in
         subst (λ r. is_superseded (xs ++ v ∷ ys) r v ≡ false) (sym same) (itself (is_superseded (xs ++ v ∷ ys) v.rev.main v) refl)
 
@@ -211,7 +228,7 @@ tombstone-left vs c v gone left = by (ranked c v.rev.main)
     by : (c ≤ v.rev.main) ⊎ (v.rev.main < c) → c ≤ v.rev.main
     by (inl a) = a
     by (inr a) = let e : true ≡ false = sym (or-true (is_superseded vs c v)) ∙ (λ i. sym (le-leb v.rev.main c (omega arith)) i
-                         && (is_superseded vs c v || (sym gone i && sym (lt-ltb v.rev.main c a) i))) ∙ left in cc
+        && (is_superseded vs c v || (sym gone i && sym (lt-ltb v.rev.main c a) i))) ∙ left in cc
 
 -- the revisions that a version is needed for
 module _ (ms : List Mutation) (c : ℕ) (h : IsHistory ms) (f : c ≤ now ms) (vs : List Version) (g : IsGood vs ms c) (v : Version)
@@ -220,8 +237,11 @@ module _ (ms : List Mutation) (c : ℕ) (h : IsHistory ms) (f : c ≤ now ms) (v
   sits = each-in (λ u. Sits (now ms) u.rev u.key) vs v (sit-part vs ms g.part h) i
 
   pub put-kept : IsKept c (now ms) (max v.rev.main c)
-  put-kept = let a : 1 < v.rev.main = sits.above in let b : v.rev.main ≤ now ms = sits.by in record { first = omega arith;
-                                                            kept = omega arith; past = omega arith }
+  put-kept = let a : 1 < v.rev.main = sits.above in let b : v.rev.main ≤ now ms = sits.by in record {
+    first = omega arith;
+    kept = omega arith;
+    past = omega arith;
+  }
 
   pub put-shown : value_at (dress ms) (end_of (max v.rev.main c)) v.key ≡ key_value v
   put-shown =
@@ -229,9 +249,9 @@ module _ (ms : List Mutation) (c : ℕ) (h : IsHistory ms) (f : c ≤ now ms) (v
       sym (good-value_at vs ms c (max v.rev.main c) v.key g h put-kept)
       ∙ subst (λ us. value_at us (end_of (max v.rev.main c)) v.key ≡ key_value v) (sym s.is)
       (last-shown (max v.rev.main c) s.before v s.after (subst AreRising s.is (rising-part g.part (rising-dress ms h))) sits.number
-          (omega arith)
+      (omega arith)
       (not-replaced c s.before v s.after (subst AreRising s.is (rising-part g.part (rising-dress ms h))) (subst (λ us. IsLeft us c v) s.is
-          left)))
+      left)))
 
   pub tombstone-kept : is_tombstone v.body ≡ true → IsKept c (now ms) v.rev.main
   tombstone-kept gone = let a : 1 < v.rev.main = sits.above in let b : v.rev.main ≤ now ms = sits.by in
@@ -262,7 +282,7 @@ pub least-settled : (ms : List Mutation) (c : ℕ) (us vs : List Version) → Is
     → IsSettled vs c → us ≡ vs
 least-settled ms c us vs h f l g left =
     part_same l.good.part g.part (once-rising (dress ms) (rising-dress ms h)) (λ v i. stays-in ms c h f vs g v i (each-in (IsLeft vs c) vs v
-        left i) us l.good) (l.least vs g)
+    left i) us l.good) (l.least vs g)
 
 pub least-one : (ms : List Mutation) (c : ℕ) (us vs : List Version) → IsHistory ms → c ≤ now ms → IsLeast us ms c → IsLeast vs ms c → us
     ≡ vs

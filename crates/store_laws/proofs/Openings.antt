@@ -18,8 +18,16 @@ pub opening_sound : OpeningIsSound
 opening_sound = record { history = tt; floor = omega arith }
 
 pub blank_good : BlankStands
-blank_good = record { sound = opening_sound; good = nothing_good; revision_is = refl; compacted = refl; leases = refl; clock = refl;
-    made = refl; watches = tt }
+blank_good = record {
+  sound = opening_sound;
+  good = nothing_good;
+  revision_is = refl;
+  compacted = refl;
+  leases = refl;
+  clock = refl;
+  made = refl;
+  watches = tt;
+}
 
 pub feed_on : FeedGoesOn
 feed_on ops op = fold-append absorb blank ops (op ∷ [])

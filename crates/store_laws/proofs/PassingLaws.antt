@@ -1,7 +1,6 @@
 -- A certificate that passes its check: each listed version has its claimed need in the list, which is so the least of itself.
-use Rattle.std.proofs.Common.{
-  ◌≡◌, ◌≤◌, ◌<◌, ◌≢◌, ℕ, ◌^◌, suc, List, [], ◌∷◌, length, filter, find, Bool, true, false, not, ◌&&◌, cond, Option, None, Some, refl, sym,
-  ◌∙◌, ap, subst, inl, inr, arith}
+use Rattle.std.proofs.Common.{◌≡◌, ◌≤◌, ◌<◌, ◌≢◌, ℕ, ◌^◌, suc, List, [], ◌∷◌, length, filter, find, Bool, true, false, not, ◌&&◌, cond}
+use Rattle.std.proofs.Common.{Option, None, Some, refl, sym, ◌∙◌, ap, subst, inl, inr, arith}
 use Rattle.std.specs.Prelude.{⊤, option_map, nat_lt, nat_le, ◌==◌}
 use Rattle.std.proofs.lemmas.Bool.{leb-true, eq-eqb, eqb-true, ltb-false}
 use Rattle.std.specs.Option.{option_or}
@@ -15,8 +14,8 @@ use Rattle.kv_model.specs.History.{value_at, key_value, end_of, rev_lt}
 use Rattle.kv_model.specs.Questions.{Question, IsQuestion, IsKept, answered_by, IsGoodBy}
 use Rattle.kv_model.specs.Needs.{Need, question_of, HasNeedBy}
 use Rattle.kv_model.specs.Trimming.{is_tombstone, is_superseded, is_at}
-use Rattle.kv_model.specs.Certificates.{
-  Dump, Claim, NeedFault, is_asked, is_met, fall_after, first_fall, is_double, first_double, claims_fault, first_fault, AreNeedsBy}
+use Rattle.kv_model.specs.Certificates.{Dump, Claim, NeedFault, is_asked, is_met, fall_after, first_fall, is_double, first_double}
+use Rattle.kv_model.specs.Certificates.{claims_fault, first_fault, AreNeedsBy}
 use Rattle.store_laws.specs.TrimmingLaws.{IsLeastOfItself, PassingIsLeast}
 use Rattle.store_laws.proofs.PartLaws.{part_length}
 use Rattle.store_laws.proofs.PlaceLaws.{each-map}
@@ -42,7 +41,7 @@ ascending v (u ∷ us) e = by (rev_lt v.rev u.rev) refl e (ascending u us)
     by true d e rest =
         let r = rest e in
         let above = each-map (λ x. rev_lt u.rev x.rev ≡ true) (λ x. rev_lt v.rev x.rev ≡ true) (λ x f. rev_lt-trans v.rev u.rev x.rev d f)
-                us r.0 in
+        us r.0 in
         ((d, above), r)
     by false d e rest = cc
 
@@ -201,8 +200,10 @@ claimed has_before d (v ∷ vs) (claim ∷ claims) f e =
         → cond (a && b) (cond m (claims_fault d vs claims) (Some (NeedFault.need_unmet v.rev))) (Some (NeedFault.no_need v.rev)) ≡ None
         → (claims_fault d vs claims ≡ None → AreClaimed has_before d vs claims) → AreClaimed has_before d (v ∷ vs) (claim ∷ claims)
     by true g true h true k e rest =
-        let at : claim.rev ≡ v.rev = λ j. record { main = sym (eqb-true v.rev.main claim.rev.main g) j;
-                sub = sym (eqb-true v.rev.sub claim.rev.sub h) j } in
+        let at : claim.rev ≡ v.rev = λ j. record {
+          main = sym (eqb-true v.rev.main claim.rev.main g) j;
+          sub = sym (eqb-true v.rev.sub claim.rev.sub h) j;
+        } in
         let here = f v (inl refl) claim.need k in
         let r = rest e in
         record {
@@ -238,7 +239,7 @@ passing-least has_before d claims numbers e = record {
     up = rising d.versions
         (ascends d.versions
         (unmapped NeedFault.not_rising (first_fall d.versions) (or-none-first fall (option_or doubled (claims_fault d d.versions claims))
-            e)))
+        e)))
         (single d.versions
         (unmapped NeedFault.double_key (first_double d.versions) (or-none-first doubled (claims_fault d d.versions claims) rest)))
 

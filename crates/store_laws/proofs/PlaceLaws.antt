@@ -1,7 +1,6 @@
 -- What a place in the history sees of versions: those behind it count for nothing, and behind all of them it sees the last.
-use Rattle.std.proofs.Common.{
-  ◌≡◌, ◌≤◌, ◌<◌, ℕ, ◌-◌, ◌^◌, List, [], ◌∷◌, ◌++◌, Bool, true, false, ◌&&◌, cond, Option, None, Some, option_and_then, refl, sym, ◌∙◌, ap,
-  arith}
+use Rattle.std.proofs.Common.{◌≡◌, ◌≤◌, ◌<◌, ℕ, ◌-◌, ◌^◌, List, [], ◌∷◌, ◌++◌, Bool, true, false, ◌&&◌, cond, Option, None, Some}
+use Rattle.std.proofs.Common.{option_and_then, refl, sym, ◌∙◌, ap, arith}
 use Rattle.std.specs.Option.{option_or}
 use Rattle.std.specs.List.{AllByRecursion}
 use Rattle.std.specs.declared.cmp.Ordering.{Ordering}
@@ -12,9 +11,8 @@ use Rattle.kv_model.specs.declared.version.Rev.{Rev}
 use Rattle.kv_model.specs.declared.version.Version.{Version}
 use Rattle.kv_model.specs.Lists.{IsPart, nothing, keep, leave, last_that}
 use Rattle.kv_model.specs.Keys.{same_key}
-use Rattle.kv_model.specs.History.{
-  Mutation, IsChange, IsBefore, IsHistory, now, now_after, dress, dress_after, latest, value_at, value_now, key_value, rev_le, rev_lt,
-  end_of}
+use Rattle.kv_model.specs.History.{Mutation, IsChange, IsBefore, IsHistory, now, now_after, dress, dress_after, latest, value_at, value_now}
+use Rattle.kv_model.specs.History.{key_value, rev_le, rev_lt, end_of}
 use Rattle.store_laws.proofs.HistoryLaws.{last_that-append}
 
 -- ---- what holds of each element
@@ -66,7 +64,7 @@ latest-behind vs us p k h =
     last_that-append (λ v. same_key v.key k && rev_le v.rev p) vs us
     ∙ ap (λ o. option_or o (latest vs p k)) (last_that-none (λ v. same_key v.key k && rev_le v.rev p) us
     (each-map (λ v. rev_le v.rev p ≡ false) (λ v. (same_key v.key k && rev_le v.rev p) ≡ false) (λ v e. ap (λ b. same_key v.key k && b) e
-        ∙ and-false (same_key v.key k)) us h))
+    ∙ and-false (same_key v.key k)) us h))
 
 pub value_at-behind : (vs us : List Version) (p : Rev) (k : List ℕ) → AreBehind p us → value_at (vs ++ us) p k ≡ value_at vs p k
 unfolding value_at
@@ -77,7 +75,7 @@ pub value_at-by : (vs : List Version) (p : Rev) (k : List ℕ) → AreBy p vs �
 unfolding value_at value_now
 value_at-by vs p k h = ap (option_and_then key_value) (last_that-same (λ v. same_key v.key k && rev_le v.rev p) (λ v. same_key v.key k) vs
     (each-map (λ v. rev_le v.rev p ≡ true) (λ v. (same_key v.key k && rev_le v.rev p) ≡ same_key v.key k) (λ v e. ap (λ b. same_key v.key k
-        && b) e ∙ and-true (same_key v.key k)) vs h))
+    && b) e ∙ and-true (same_key v.key k)) vs h))
 
 or-same : (t : Option Version) (a b : Option Version) → option_and_then key_value a ≡ option_and_then key_value b
     → option_and_then key_value (option_or t a) ≡ option_and_then key_value (option_or t b)
@@ -91,7 +89,7 @@ unfolding value_at
 value_at-grows vs bs us p k e =
     let test : Version → Bool = λ v. same_key v.key k && rev_le v.rev p in
     ap (option_and_then key_value) (last_that-append test vs us) ∙ or-same (latest us p k) (latest vs p k) (latest bs p k) e
-        ∙ sym (ap (option_and_then key_value) (last_that-append test bs us))
+    ∙ sym (ap (option_and_then key_value) (last_that-append test bs us))
 
 pub value_now-grows : (vs bs us : List Version) (k : List ℕ) → value_now vs k ≡ value_now bs k → value_now (vs ++ us) k
     ≡ value_now (bs ++ us) k
@@ -99,7 +97,7 @@ unfolding value_now
 value_now-grows vs bs us k e =
     let test : Version → Bool = λ v. same_key v.key k in
     ap (option_and_then key_value) (last_that-append test vs us) ∙ or-same (last_that test us) (last_that test vs) (last_that test bs) e
-        ∙ sym (ap (option_and_then key_value) (last_that-append test bs us))
+    ∙ sym (ap (option_and_then key_value) (last_that-append test bs us))
 
 -- a key that no version has holds nothing
 pub value_at-absent : (vs : List Version) (p : Rev) (k : List ℕ) → AllByRecursion (λ v. same_key v.key k ≡ false) vs → value_at vs p k
@@ -107,7 +105,7 @@ pub value_at-absent : (vs : List Version) (p : Rev) (k : List ℕ) → AllByRecu
 unfolding value_at
 value_at-absent vs p k h = ap (option_and_then key_value) (last_that-none (λ v. same_key v.key k && rev_le v.rev p) vs
     (each-map (λ v. same_key v.key k ≡ false) (λ v. (same_key v.key k && rev_le v.rev p) ≡ false) (λ v e. ap (λ b. b && rev_le v.rev p) e)
-        vs h))
+    vs h))
 
 -- ---- the order of places, in numbers
 
@@ -192,9 +190,9 @@ now_after-above : (r : ℕ) (ms : List Mutation) → AllByRecursion (λ m. r ≤
 now_after-above r [] a h = (omega arith, tt)
 now_after-above r (m ∷ ms) a h =
     let later : AllByRecursion (λ n. m.rev.main ≤ n.rev.main) ms = each-map (IsBefore m) (λ n. m.rev.main ≤ n.rev.main)
-            (λ n b. rev_lt-main m.rev n.rev b.0) ms h.1 in
+    (λ n b. rev_lt-main m.rev n.rev b.0) ms h.1 in
     let rest : (m.rev.main ≤ now_after m.rev.main ms) × AllByRecursion (λ n. n.rev.main ≤ now_after m.rev.main ms) ms = now_after-above
-            m.rev.main ms later h.2 in
+    m.rev.main ms later h.2 in
     let first : r ≤ m.rev.main = a.0 in
     (omega arith, (rest.0, rest.1))
 

@@ -1,7 +1,6 @@
 -- A trimming step from a place on, over versions that rise.
-use Rattle.std.proofs.Common.{
-  ◌≡◌, ◌≤◌, ◌<◌, ◌⊎◌, ℕ, ◌+◌, ◌-◌, ◌^◌, List, [], ◌∷◌, ◌++◌, find, filter, Bool, true, false, not, ◌&&◌, cond, None, Some, refl, sym, ◌∙◌,
-  ap, inl, inr, arith}
+use Rattle.std.proofs.Common.{◌≡◌, ◌≤◌, ◌<◌, ◌⊎◌, ℕ, ◌+◌, ◌-◌, ◌^◌, List, [], ◌∷◌, ◌++◌, find, filter, Bool, true, false, not, ◌&&◌, cond}
+use Rattle.std.proofs.Common.{None, Some, refl, sym, ◌∙◌, ap, inl, inr, arith}
 use Rattle.std.specs.Prelude.{nat_le, ◌==◌}
 use Rattle.std.proofs.lemmas.Bool.{lt-leb, lt-ltb, le-ltb, eqb-true, eq-eqb}
 use Rattle.std.proofs.lemmas.List.Elements.{filter-append}
@@ -38,8 +37,10 @@ pub after-self : (p : Rev) → p.main < 2 ^ 63 → p.sub < 2 ^ 64 → rev_lt p (
 after-self p h g = by (ranked (2 ^ 64 - 1) p.sub)
   where
     by : (2 ^ 64 - 1 ≤ p.sub) ⊎ (p.sub < 2 ^ 64 - 1) → rev_lt p (place_after p) ≡ true
-    by (inl a) = rw (le-ltb p.sub (2 ^ 64 - 1) a, lt-ltb p.main (2 ^ 64 - 1) (omega arith)) (rev_lt-mains p (record { main = p.main + 1;
-        sub = 0 }) (omega arith))
+    by (inl a) = rw (le-ltb p.sub (2 ^ 64 - 1) a, lt-ltb p.main (2 ^ 64 - 1) (omega arith)) (rev_lt-mains p (record {
+      main = p.main + 1;
+      sub = 0;
+    }) (omega arith))
     by (inr a) = rw (lt-ltb p.sub (2 ^ 64 - 1) a) (rev_lt-subs p (record p { sub = p.sub + 1 }) refl (omega arith))
 
 -- and nothing stands between them
@@ -49,14 +50,26 @@ after-next p q h g k l = by (rev_lt q (place_after p)) refl
     no : (2 ^ 64 - 1 ≤ p.sub) ⊎ (p.sub < 2 ^ 64 - 1) → rev_lt q (place_after p) ≡ true → ⊥
     no (inl a) e =
         let f : rev_lt q (record { main = p.main + 1; sub = 0 })
-                ≡ true = (rw (le-ltb p.sub (2 ^ 64 - 1) a, lt-ltb p.main (2 ^ 64 - 1) (omega arith)) at e) in
-        elim (below-cases p q l) [ inl x ↦ elim (below-cases q (record { main = p.main + 1; sub = 0 }) f) [ inl y ↦ omega arith
-            | inr y ↦ omega arith ] | inr x ↦ omega arith ]
+        ≡ true = (rw (le-ltb p.sub (2 ^ 64 - 1) a, lt-ltb p.main (2 ^ 64 - 1) (omega arith)) at e) in
+        elim (below-cases p q l) [
+          | inl x ↦ elim (below-cases q (record { main = p.main + 1; sub = 0 }) f) [
+            | inl y ↦ omega arith
+            | inr y ↦ omega arith
+          ]
+          | inr x ↦ omega arith
+        ]
     no (inr a) e =
         let f : rev_lt q (record p { sub = p.sub + 1 }) ≡ true = (rw (lt-ltb p.sub (2 ^ 64 - 1) a) at e) in
-        elim (below-cases p q l) [ inl x ↦ elim (below-cases q (record p { sub = p.sub + 1 }) f) [ inl y ↦ omega arith
-            | inr y ↦ omega arith ] | inr x ↦ elim (below-cases q (record p { sub = p.sub + 1 }) f) [ inl y ↦ omega arith
-            | inr y ↦ omega arith ] ]
+        elim (below-cases p q l) [
+          | inl x ↦ elim (below-cases q (record p { sub = p.sub + 1 }) f) [
+            | inl y ↦ omega arith
+            | inr y ↦ omega arith
+          ]
+          | inr x ↦ elim (below-cases q (record p { sub = p.sub + 1 }) f) [
+            | inl y ↦ omega arith
+            | inr y ↦ omega arith
+          ]
+        ]
 
     by : (b : Bool) → rev_lt q (place_after p) ≡ b → b ≡ false
     by true e = absurd (no (ranked (2 ^ 64 - 1) p.sub) e)
@@ -78,10 +91,20 @@ first-from p v (u ∷ us) e = by (rev_lt u.rev p) refl (first-from p v us) e
   where
     by : (b : Bool) → rev_lt u.rev p ≡ b → (find (λ u. not (rev_lt u.rev p)) us ≡ Some v → First p v us)
         → cond (not b) (Some u) (find (λ u. not (rev_lt u.rev p)) us) ≡ Some v → First p v (u ∷ us)
-    by true f rest e = let r = rest e in record { before = u ∷ r.before; after = r.after; is = ap (λ xs. u ∷ xs) r.is;
-                               all_before = (f, r.all_before); from = r.from }
-    by false f rest e = let same : u ≡ v = cc in record { before = []; after = us; is = ap (λ w. w ∷ us) same; all_before = tt;
-                                from = sym (ap (λ w. rev_lt w.rev p) same) ∙ f }
+    by true f rest e = let r = rest e in record {
+      before = u ∷ r.before;
+      after = r.after;
+      is = ap (λ xs. u ∷ xs) r.is;
+      all_before = (f, r.all_before);
+      from = r.from;
+    }
+    by false f rest e = let same : u ≡ v = cc in record {
+      before = [];
+      after = us;
+      is = ap (λ w. w ∷ us) same;
+      all_before = tt;
+      from = sym (ap (λ w. rev_lt w.rev p) same) ∙ f;
+    }
 
 pub none-from : (p : Rev) (vs : List Version) → find (λ u. not (rev_lt u.rev p)) vs ≡ None → AllByRecursion (λ u. rev_lt u.rev p ≡ true) vs
 none-from p [] e = tt

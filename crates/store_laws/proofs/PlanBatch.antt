@@ -1,7 +1,6 @@
 -- The changes of a path without a clash are the changes of one revision.
-use Rattle.std.proofs.Common.{
-  ◌≡◌, ◌≤◌, ◌<◌, ◌≢◌, ℕ, suc, ◌+◌, ◌^◌, List, [], ◌∷◌, ◌++◌, length, Bool, true, false, not, ◌||◌, cond, is_some, refl, sym, ◌∙◌, ap, subst,
-  arith, length-append}
+use Rattle.std.proofs.Common.{◌≡◌, ◌≤◌, ◌<◌, ◌≢◌, ℕ, suc, ◌+◌, ◌^◌, List, [], ◌∷◌, ◌++◌, length, Bool, true, false, not, ◌||◌, cond}
+use Rattle.std.proofs.Common.{is_some, refl, sym, ◌∙◌, ap, subst, arith, length-append}
 use Rattle.std.specs.Prelude.{⊤}
 use Rattle.std.specs.List.{AllByRecursion, list_any}
 use Rattle.kv_model.specs.declared.version.Version.{Version}
@@ -30,9 +29,10 @@ history-join (u ∷ us) ns h g a = (h.0, each-append (IsBefore u) us ns h.1 a.0,
 all-swap : {X Y : Type 0} (R : X → Y → Type 0) (xs : List X) (ys : List Y) → AllByRecursion (λ y. AllByRecursion (λ x. R x y) xs) ys
     → AllByRecursion (λ x. AllByRecursion (λ y. R x y) ys) xs
 all-swap R [] ys h = tt
-all-swap R (x ∷ xs) ys h =
-    (each-map (λ y. AllByRecursion (λ z. R z y) (x ∷ xs)) (λ y. R x y) (λ y f. f.0) ys h,
-        all-swap R xs ys (each-map (λ y. AllByRecursion (λ z. R z y) (x ∷ xs)) (λ y. AllByRecursion (λ z. R z y) xs) (λ y f. f.1) ys h))
+all-swap R (x ∷ xs) ys h = (
+  each-map (λ y. AllByRecursion (λ z. R z y) (x ∷ xs)) (λ y. R x y) (λ y f. f.0) ys h,
+  all-swap R xs ys (each-map (λ y. AllByRecursion (λ z. R z y) (x ∷ xs)) (λ y. AllByRecursion (λ z. R z y) xs) (λ y f. f.1) ys h),
+)
 
 -- ---- changes that are numbered from 0 on
 
@@ -66,7 +66,7 @@ numbered-on main us ns h g = record {
   at = each-append (λ u. u.rev.main ≡ main) us ns h.at g.batch.at;
   below = subst (λ n. AllByRecursion (λ u. u.rev.sub < n) (us ++ ns)) (sym (length-append us ns))
       (each-append (λ u. u.rev.sub < length us + length ns) us ns (each-map (λ u. u.rev.sub < length us) (λ u. u.rev.sub < length us
-          + length ns) (λ u l. omega arith) us h.below) g.below);
+      + length ns) (λ u l. omega arith) us h.below) g.below);
 }
   where
     each-three : (xs : List Mutation) → AllByRecursion (λ u. u.rev.main ≡ main) xs → AllByRecursion (λ u. u.rev.sub < length us) xs
@@ -134,19 +134,19 @@ still_live-others vs main sub us r ts j = all-swap (λ u n. u.key ≢ n.key) us 
     (deletes-keys (λ k. AllByRecursion (λ u. u.key ≢ k) us) main sub (still_live vs us r)
     (each-map (λ k. (in_range r k ≡ true) × (is_deleted us k ≡ false)) (λ k. AllByRecursion (λ u. u.key ≢ k) us) at (still_live vs us r)
     (each-both (λ k. in_range r k ≡ true) (λ k. is_deleted us k ≡ false) (still_live vs us r) (still_live-in vs us r)
-        (still_live-not vs us r))))
+    (still_live-not vs us r))))
   where
     at : (k : List ℕ) → (in_range r k ≡ true) × (is_deleted us k ≡ false) → AllByRecursion (λ u. u.key ≢ k) us
     at k f = each-map (λ u. (collides (touch_of u) (Touch.each r) ≡ false) × (deletes_key k u ≡ false)) (λ u. u.key
         ≢ k) (λ u g. other-change u r k g.0 f.0 g.1) us
         (each-both (λ u. collides (touch_of u) (Touch.each r) ≡ false) (λ u. deletes_key k u ≡ false) us (clear-head us (Touch.each r) ts j)
-            (none-any (deletes_key k) us f.1))
+        (none-any (deletes_key k) us f.1))
 
 still_live-given : (vs : List Version) (us : List Mutation) (r : KeyRange) → AllByRecursion (λ v. v.key ≢ []) vs
     → AreGiven (still_live vs us r)
 still_live-given vs us r h = each-filter (λ k. k ≢ []) (λ k. not (is_deleted us k)) (keys_of (live_now vs r))
     (subst AreGiven (sym (live_now-keys vs r)) (each-filter (λ k. k ≢ []) (λ k. is_some (value_now_within vs r k)) (keys vs)
-        (given-keys vs h)))
+    (given-keys vs h)))
 
 delete-goes_on : (vs : List Version) (main : ℕ) (us : List Mutation) (d : DeleteRequest) (ts : List Touch) → AreClear us (Touch.each d.range
     ∷ ts) → AllByRecursion (λ v. v.key ≢ []) vs → 1 < main
@@ -175,13 +175,22 @@ unfolding planned
 planned-length vs main us Path.end = omega arith
 planned-length vs main us (Path.range r rest) = planned-length vs main us rest
 planned-length vs main us (Path.put p rest) =
-    let m : Mutation = put_change vs main (length us) p in omega (arith, planned-length vs main (us ++ m ∷ []) rest,
-            length-append us (m ∷ []))
+    let m : Mutation = put_change vs main (length us) p in omega (
+      arith,
+      planned-length vs main (us ++ m ∷ []) rest,
+      length-append us (m ∷ []),
+    )
 planned-length vs main us (Path.delete d rest) =
-    let ws : List Mutation = deletes_of main (length us) (still_live vs us d.range) in omega (arith, planned-length vs main (us ++ ws) rest,
-            length-append us ws)
-planned-length vs main us (Path.txn b inner rest) = omega (arith, planned-length vs main us inner,
-    planned-length vs main (planned vs main us inner) rest)
+    let ws : List Mutation = deletes_of main (length us) (still_live vs us d.range) in omega (
+      arith,
+      planned-length vs main (us ++ ws) rest,
+      length-append us ws,
+    )
+planned-length vs main us (Path.txn b inner rest) = omega (
+  arith,
+  planned-length vs main us inner,
+  planned-length vs main (planned vs main us inner) rest,
+)
 
 pub planned-numbered : (vs : List Version) (main : ℕ) (us : List Mutation) (q : Path) → AreClear us (path_touches q) → NoClash q → HasKeys q
     → AllByRecursion (λ v. v.key ≢ []) vs → 1 < main
@@ -193,19 +202,23 @@ planned-numbered vs main us (Path.put p rest) j n k g o l h =
     let m : Mutation = put_change vs main (length us) p in
     let room : length us < 2 ^ 64 = omega (arith, planned-length vs main (us ++ m ∷ []) rest, length-append us (m ∷ [])) in
     planned-numbered vs main (us ++ m ∷ []) rest (put-clear vs main us p rest j n) n.1 k.1 g o l (numbered-on main us (m
-        ∷ []) h (put-goes_on vs main us p (path_touches rest) j k.0 o room))
+    ∷ []) h (put-goes_on vs main us p (path_touches rest) j k.0 o room))
 planned-numbered vs main us (Path.delete d rest) j n k g o l h =
     let ks : List (List ℕ) = still_live vs us d.range in
     let ws : List Mutation = deletes_of main (length us) ks in
-    let room : length us + length ks ≤ 2 ^ 64 = omega (arith, planned-length vs main (us ++ ws) rest, length-append us ws,
-            deletes-length main (length us) ks) in
+    let room : length us + length ks ≤ 2 ^ 64 = omega (
+      arith,
+      planned-length vs main (us ++ ws) rest,
+      length-append us ws,
+      deletes-length main (length us) ks,
+    ) in
     planned-numbered vs main (us ++ ws) rest (delete-clear vs main us d rest j n) n.1 k g o l (numbered-on main us ws h
-        (delete-goes_on vs main us d (path_touches rest) j g o room))
+    (delete-goes_on vs main us d (path_touches rest) j g o room))
 planned-numbered vs main us (Path.txn b inner rest) j n k g o l h =
     let mid : List Mutation = planned vs main us inner in
     let room : length mid ≤ 2 ^ 64 = omega (arith, planned-length vs main mid rest) in
     planned-numbered vs main mid rest (inner-clear vs main us b inner rest j n) n.2 k.1 g o l (planned-numbered vs main us inner
-        (clear-front us (path_touches inner) (path_touches rest) j) n.1 k.0 g o room h)
+    (clear-front us (path_touches inner) (path_touches rest) j) n.1 k.0 g o room h)
 
 nothing-numbered : (main : ℕ) → IsNumbered main []
 nothing-numbered main = record { history = tt; at = tt; below = tt }
@@ -214,4 +227,4 @@ nothing-numbered main = record { history = tt; at = tt; below = tt }
 pub planned-batch : (vs : List Version) (main : ℕ) (q : Path) → NoClash q → HasKeys q → AllByRecursion (λ v. v.key ≢ []) vs → 1 < main
     → length (planned vs main [] q) ≤ 2 ^ 64 → IsBatch main (planned vs main [] q)
 planned-batch vs main q n k g o l = let h : IsNumbered main (planned vs main [] q) = planned-numbered vs main [] q tt n k g o l
-                                            (nothing-numbered main) in record { history = h.history; at = h.at }
+    (nothing-numbered main) in record { history = h.history; at = h.at }

@@ -1,6 +1,6 @@
 -- Where nothing clashes, the changes of a path and its first refusal are told from the state before it.
-use Rattle.std.proofs.Common.{
-  ◌≡◌, ℕ, suc, ◌+◌, ℤ, List, [], ◌∷◌, ◌++◌, length, Bool, false, ◌&&◌, ◌||◌, refl, sym, ◌∙◌, ap, subst, append_assoc, add-one, length-append}
+use Rattle.std.proofs.Common.{◌≡◌, ℕ, suc, ◌+◌, ℤ, List, [], ◌∷◌, ◌++◌, length, Bool, false, ◌&&◌, ◌||◌, refl, sym, ◌∙◌, ap, subst}
+use Rattle.std.proofs.Common.{append_assoc, add-one, length-append}
 use Rattle.std.specs.Prelude.{is_none, ⊤}
 use Rattle.std.specs.Option.{option_or}
 use Rattle.std.specs.List.{AllByRecursion}
@@ -13,14 +13,14 @@ use Rattle.kv_model.specs.declared.refusal.Refusal.TheVariants.{KeyMissing}
 use Rattle.kv_model.specs.Keys.{same_key}
 use Rattle.kv_model.specs.History.{Mutation, puts_key, value_now}
 use Rattle.kv_model.specs.Ranges.{keys_of, live_now, revision_refusal, refuse_if}
-use Rattle.kv_model.specs.Txns.{
-  Path, Touch, collides, extend, extend_all, put_change, put_action, put_refusal, put_lease_refusal, deletes_of, effect, run_refusal}
+use Rattle.kv_model.specs.Txns.{Path, Touch, collides, extend, extend_all, put_change, put_action, put_refusal, put_lease_refusal}
+use Rattle.kv_model.specs.Txns.{deletes_of, effect, run_refusal}
 use Rattle.store_laws.specs.Plans.{path_touches, still_live, planned, planned_refusal}
 use Rattle.store_laws.proofs.HistoryLaws.{AllByRecursion-split}
 use Rattle.store_laws.proofs.PlaceLaws.{each-map, each-append}
 use Rattle.store_laws.proofs.GoodLaws.{each-both}
-use Rattle.store_laws.proofs.TouchLaws.{
-  touch_of, IsClear, AreClear, clear-one, clear-each, value-after, value-untouched, live-after, still_live-in, deletes-clear}
+use Rattle.store_laws.proofs.TouchLaws.{touch_of, IsClear, AreClear, clear-one, clear-each, value-after, value-untouched, live-after}
+use Rattle.store_laws.proofs.TouchLaws.{still_live-in, deletes-clear}
 
 -- ---- nothing clashes
 
@@ -55,22 +55,22 @@ planned-clear vs main us (Path.put p rest) ts j n a =
     let all : List Touch = path_touches rest ++ ts in
     planned-clear vs main (us ++ m ∷ []) rest ts
     (each-append (λ u. IsClear (touch_of u) all) us (m ∷ []) (clear-tail us (Touch.one p.key) all j)
-        (each-append (λ t. collides (Touch.one p.key) t ≡ false) (path_touches rest) ts n.0 a.0, tt)) n.1 a.1
+    (each-append (λ t. collides (Touch.one p.key) t ≡ false) (path_touches rest) ts n.0 a.0, tt)) n.1 a.1
 planned-clear vs main us (Path.delete d rest) ts j n a =
     let ks : List (List ℕ) = still_live vs us d.range in
     let all : List Touch = path_touches rest ++ ts in
     planned-clear vs main (us ++ deletes_of main (length us) ks) rest ts
     (each-append (λ u. IsClear (touch_of u) all) us (deletes_of main (length us) ks) (clear-tail us (Touch.each d.range) all j)
     (deletes-clear main (length us) d.range ks all (still_live-in vs us d.range) (each-append (λ t. collides (Touch.each d.range) t
-        ≡ false) (path_touches rest) ts n.0 a.0))) n.1 a.1
+    ≡ false) (path_touches rest) ts n.0 a.0))) n.1 a.1
 planned-clear vs main us (Path.txn b inner rest) ts j n a =
     let parts : AllByRecursion (λ t. IsClear t ts) (path_touches inner) × AllByRecursion (λ t. IsClear t ts) (path_touches rest) =
-            AllByRecursion-split (λ t. IsClear t ts) (path_touches inner) (path_touches rest) a in
+    AllByRecursion-split (λ t. IsClear t ts) (path_touches inner) (path_touches rest) a in
     planned-clear vs main (planned vs main us inner) rest ts
     (planned-clear vs main us inner (path_touches rest
-        ++ ts) (subst (AreClear us) (append_assoc (path_touches inner) (path_touches rest) ts) j) n.1
+    ++ ts) (subst (AreClear us) (append_assoc (path_touches inner) (path_touches rest) ts) j) n.1
     (each-map (λ t. IsClear t (path_touches rest) × IsClear t ts) (λ t. IsClear t (path_touches rest
-        ++ ts)) (λ t c. each-append (λ s. collides t s ≡ false) (path_touches rest) ts c.0 c.1) (path_touches inner)
+    ++ ts)) (λ t c. each-append (λ s. collides t s ≡ false) (path_touches rest) ts c.0 c.1) (path_touches inner)
     (each-both (λ t. IsClear t (path_touches rest)) (λ t. IsClear t ts) (path_touches inner) n.0 parts.0))) n.2 parts.1
 
 -- the changes of a transaction's branch are clear of what follows it
@@ -86,7 +86,7 @@ pub held-put : (vs : List Version) (us : List Mutation) (k : List ℕ) (ts : Lis
     → value_now (extend_all vs us) k ≡ value_now vs k
 held-put vs us k ts j = value-untouched vs us k
     (each-map (λ u. collides (touch_of u) (Touch.one k) ≡ false) (λ u. same_key u.key k ≡ false) (λ u e. clear-one u k e) us
-        (clear-head us (Touch.one k) ts j))
+    (clear-head us (Touch.one k) ts j))
 
 pub put_change-before : (vs : List Version) (main sub : ℕ) (us : List Mutation) (p : PutRequest) (ts : List Touch)
     → AreClear us (Touch.one p.key ∷ ts)
@@ -99,7 +99,7 @@ pub live-taken : (vs : List Version) (us : List Mutation) (r : KeyRange) (ts : L
     → keys_of (live_now (extend_all vs us) r) ≡ still_live vs us r
 live-taken vs us r ts j = live-after vs us r (λ k i. value-after vs us k
     (each-map (λ u. collides (touch_of u) (Touch.each r) ≡ false) (λ u. puts_key k u ≡ false) (λ u e. clear-each u r k e i) us
-        (clear-head us (Touch.each r) ts j)))
+    (clear-head us (Touch.each r) ts j)))
 
 -- ---- changes in a row
 
@@ -113,7 +113,7 @@ pub effect-on : (vs : List Version) (main : ℕ) (us ws : List Mutation) (q : Pa
     ++ (ws ++ effect (extend_all (extend_all vs us) ws) main (length us + length ws) q)
 effect-on vs main us ws q =
     (λ i. (us ++ ws) ++ effect (extend_all-append vs us ws i) main (length-append us ws i) q)
-        ∙ append_assoc us ws (effect (extend_all (extend_all vs us) ws) main (length us + length ws) q)
+    ∙ append_assoc us ws (effect (extend_all (extend_all vs us) ws) main (length us + length ws) q)
 
 refusal-on : (granted : ℤ → Bool) (c now : ℕ) (vs : List Version) (us ws : List Mutation) (q : Path)
     → run_refusal granted c now (extend_all vs (us ++ ws)) (length (us ++ ws)) q
@@ -125,14 +125,14 @@ pub put-clear : (vs : List Version) (main : ℕ) (us : List Mutation) (p : PutRe
     → AreClear (us ++ put_change vs main (length us) p ∷ []) (path_touches rest)
 put-clear vs main us p rest j n =
     each-append (λ u. IsClear (touch_of u) (path_touches rest)) us (put_change vs main (length us) p
-        ∷ []) (clear-tail us (Touch.one p.key) (path_touches rest) j) (n.0, tt)
+    ∷ []) (clear-tail us (Touch.one p.key) (path_touches rest) j) (n.0, tt)
 
 pub delete-clear : (vs : List Version) (main : ℕ) (us : List Mutation) (d : DeleteRequest) (rest : Path)
     → AreClear us (path_touches (Path.delete d rest)) → NoClash (Path.delete d rest)
     → AreClear (us ++ deletes_of main (length us) (still_live vs us d.range)) (path_touches rest)
 delete-clear vs main us d rest j n =
     each-append (λ u. IsClear (touch_of u) (path_touches rest)) us (deletes_of main (length us) (still_live vs us d.range))
-        (clear-tail us (Touch.each d.range) (path_touches rest) j)
+    (clear-tail us (Touch.each d.range) (path_touches rest) j)
     (deletes-clear main (length us) d.range (still_live vs us d.range) (path_touches rest) (still_live-in vs us d.range) n.0)
 
 pub effect-planned : (vs : List Version) (main : ℕ) (us : List Mutation) (q : Path) → AreClear us (path_touches q) → NoClash q
@@ -171,23 +171,23 @@ refusal-planned granted c now vs us (Path.range r rest) j n = ap (option_or (rev
 refusal-planned granted c now vs us (Path.put p rest) j n =
     let m : Mutation = put_change vs (now + 1) (length us) p in
     (λ i. option_or (option_or (refuse_if ((p.ignore_value || p.ignore_lease) && is_none (held-put vs us p.key (path_touches rest) j i))
-        KeyMissing) (put_lease_refusal granted p))
+    KeyMissing) (put_lease_refusal granted p))
     (run_refusal granted c now (extend (extend_all vs us) (put_change-before vs (now + 1) (length us) us p (path_touches rest) j i))
-        (suc (length us)) rest))
+    (suc (length us)) rest))
     ∙ ap (option_or (put_refusal granted vs p)) (sym (refusal-on granted c now vs us (m ∷ []) rest
     ∙ ap (λ k. run_refusal granted c now (extend (extend_all vs us) m) k rest) (add-one (length us)))
     ∙ refusal-planned granted c now vs (us ++ m ∷ []) rest (put-clear vs (now + 1) us p rest j n) n.1)
 refusal-planned granted c now vs us (Path.delete d rest) j n =
     let ws : List Mutation = deletes_of (now + 1) (length us) (still_live vs us d.range) in
     ap (λ ks. run_refusal granted c now (extend_all (extend_all vs us) (deletes_of (now + 1) (length us) ks))
-        (length us + length (deletes_of (now + 1) (length us) ks)) rest) (live-taken vs us d.range (path_touches rest) j)
+    (length us + length (deletes_of (now + 1) (length us) ks)) rest) (live-taken vs us d.range (path_touches rest) j)
     ∙ sym (refusal-on granted c now vs us ws rest)
     ∙ refusal-planned granted c now vs (us ++ ws) rest (delete-clear vs (now + 1) us d rest j n) n.1
 refusal-planned granted c now vs us (Path.txn b inner rest) j n =
     let ms : List Mutation = effect (extend_all vs us) (now + 1) (length us) inner in
     let front : AreClear us (path_touches inner) = clear-front us (path_touches inner) (path_touches rest) j in
     ap (λ o. option_or o (run_refusal granted c now (extend_all (extend_all vs us) ms) (length us + length ms) rest))
-        (refusal-planned granted c now vs us inner front n.1)
+    (refusal-planned granted c now vs us inner front n.1)
     ∙ ap (option_or (planned_refusal granted c now vs inner)) (sym (refusal-on granted c now vs us ms rest)
     ∙ sym (ap (λ xs. run_refusal granted c now (extend_all vs xs) (length xs) rest) (effect-planned vs (now + 1) us inner front n.1))
     ∙ refusal-planned granted c now vs (planned vs (now + 1) us inner) rest (inner-clear vs (now + 1) us b inner rest j n) n.2)

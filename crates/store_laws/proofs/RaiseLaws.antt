@@ -1,7 +1,6 @@
 -- A command raises the revision by one, or leaves it.
-use Rattle.std.proofs.Common.{
-  ◌≡◌, ◌⊎◌, ℕ, ◌+◌, suc, ℤ, pos, negsuc, List, [], ◌∷◌, ◌++◌, length, Bool, true, false, cond, ◌||◌, ◌==◌, nat_lt, nat_le, Option, None,
-  Some, Ok, Err, refl, sym, ◌∙◌, ap, inl, inr, arith}
+use Rattle.std.proofs.Common.{◌≡◌, ◌⊎◌, ℕ, ◌+◌, suc, ℤ, pos, negsuc, List, [], ◌∷◌, ◌++◌, length, Bool, true, false, cond, ◌||◌, ◌==◌}
+use Rattle.std.proofs.Common.{nat_lt, nat_le, Option, None, Some, Ok, Err, refl, sym, ◌∙◌, ap, inl, inr, arith}
 use Rattle.std.specs.Prelude.{is_some}
 use Rattle.std.specs.List.{AllByRecursion}
 use Rattle.std.proofs.lemmas.Bool.{le-ltb, lt-ltb}
@@ -15,9 +14,9 @@ use Rattle.kv_model.specs.Leases.{Lease, lease_at, due}
 use Rattle.kv_model.specs.World.{World, revision, versions}
 use Rattle.kv_model.specs.Txns.{Path, previous_value, put_change, deletes_of, delete_changes, effect, extend, extend_all}
 use Rattle.kv_model.specs.Told.{Reply}
-use Rattle.kv_model.specs.Step.{
-  Made, made_in, perform, expire, world_of, commit, refused_or, last_main, compact_in, keep_alive_in, time_to_live_in, range_in, put_in,
-  delete_in, txn_in, run_path, watch_in, grant_in, revoke_in, expire_at, expiry_of}
+use Rattle.kv_model.specs.Step.{Made, made_in, perform, expire, world_of, commit, refused_or, last_main, compact_in, keep_alive_in}
+use Rattle.kv_model.specs.Step.{time_to_live_in, range_in, put_in, delete_in, txn_in, run_path, watch_in, grant_in, revoke_in, expire_at}
+use Rattle.kv_model.specs.Step.{expiry_of}
 use Rattle.kv_model.specs.Wire.{raised}
 use Rattle.store_laws.specs.Growth.{RaisesByOne, says_raised}
 use Rattle.store_laws.proofs.PlaceLaws.{each-append}

@@ -24,19 +24,22 @@ pub not-refused-reads : (granted : ℤ → Bool) (c n : ℕ) (vs : List Version)
     → ReadsKept c n q
 unfolding planned_refusal
 not-refused-reads granted c n vs Path.end e = tt
-not-refused-reads granted c n vs (Path.range q rest) e = (or-none-first (revision_refusal c n q.revision) _ e,
-    not-refused-reads granted c n vs rest (or-none (revision_refusal c n q.revision) _ e))
+not-refused-reads granted c n vs (Path.range q rest) e = (
+  or-none-first (revision_refusal c n q.revision) _ e,
+  not-refused-reads granted c n vs rest (or-none (revision_refusal c n q.revision) _ e),
+)
 not-refused-reads granted c n vs (Path.put p rest) e = not-refused-reads granted c n vs rest (or-none (put_refusal granted vs p) _ e)
 not-refused-reads granted c n vs (Path.delete d rest) e = not-refused-reads granted c n vs rest e
-not-refused-reads granted c n vs (Path.txn b inner rest) e =
-    (not-refused-reads granted c n vs inner (or-none-first (planned_refusal granted c n vs inner) _ e),
-        not-refused-reads granted c n vs rest (or-none (planned_refusal granted c n vs inner) _ e))
+not-refused-reads granted c n vs (Path.txn b inner rest) e = (
+  not-refused-reads granted c n vs inner (or-none-first (planned_refusal granted c n vs inner) _ e),
+  not-refused-reads granted c n vs rest (or-none (planned_refusal granted c n vs inner) _ e),
+)
 
 module _ (c n : ℕ) (us vs : List Version) (h : SeesSame c n us vs) (k : IsKept c n n) where
   -- the place before a change of the next revision
   pub same-before : (sub : ℕ) (key : List ℕ) → value_at us (place_before (n + 1) sub) key ≡ value_at vs (place_before (n + 1) sub) key
   same-before zero key = let e : n + 1 - 1 ≡ n = omega arith in subst (λ r. value_at us (end_of r) key ≡ value_at vs (end_of r) key) (sym e)
-                                 (h.kept n k key)
+      (h.kept n k key)
   same-before (suc sub) key = h.within sub key
 
   pub same-live : (sub : ℕ) (r : KeyRange) → live us (place_before (n + 1) sub) r ≡ live vs (place_before (n + 1) sub) r
@@ -63,11 +66,11 @@ module _ (c n : ℕ) (us vs : List Version) (h : SeesSame c n us vs) (k : IsKept
   same-changes_of sub (Path.put p rest) = ap suc (same-changes_of (suc sub) rest)
   same-changes_of sub (Path.delete d rest) =
       ap (λ kvs. length kvs + changes_of us (n + 1) (sub + length kvs) rest) (same-live sub d.range)
-          ∙ ap (λ m. length (live vs (place_before (n + 1) sub) d.range) + m)
-          (same-changes_of (sub + length (live vs (place_before (n + 1) sub) d.range)) rest)
+      ∙ ap (λ m. length (live vs (place_before (n + 1) sub) d.range) + m)
+      (same-changes_of (sub + length (live vs (place_before (n + 1) sub) d.range)) rest)
   same-changes_of sub (Path.txn b inner rest) =
       ap (λ m. m + changes_of us (n + 1) (sub + m) rest) (same-changes_of sub inner)
-          ∙ ap (λ m. changes_of vs (n + 1) sub inner + m) (same-changes_of (sub + changes_of vs (n + 1) sub inner) rest)
+      ∙ ap (λ m. changes_of vs (n + 1) sub inner + m) (same-changes_of (sub + changes_of vs (n + 1) sub inner) rest)
 
   -- so every operation is answered the same
   pub same-replies : (sub : ℕ) (q : Path) → ReadsKept c n q → replies_of us c n sub q ≡ replies_of vs c n sub q
@@ -90,7 +93,7 @@ module _ (c n : ℕ) (us vs : List Version) (h : SeesSame c n us vs) (k : IsKept
 next-by : (ms : List Mutation) (sub : ℕ) → IsHistory ms → AreBy (record { main = now ms + 1; sub = sub }) (dress ms)
 next-by ms sub h = each-dressed (λ p k. rev_le p (record { main = now ms + 1; sub = sub }) ≡ true) ms
     (each-map (λ m. m.rev.main ≤ now ms) (λ m. rev_le m.rev (record { main = now ms + 1; sub = sub })
-        ≡ true) (λ m l. rev_le-before m.rev (record { main = now ms + 1; sub = sub }) (omega arith)) ms (mains-by ms h))
+    ≡ true) (λ m l. rev_le-before m.rev (record { main = now ms + 1; sub = sub }) (omega arith)) ms (mains-by ms h))
 
 -- with the same versions behind them they see the same
 pub good-sees : (vs t : List Version) (ms : List Mutation) (c : ℕ) → IsGood vs ms c → IsHistory ms → c ≤ now ms → SeesSame c (now ms) (vs
@@ -99,6 +102,6 @@ good-sees vs t ms c g h f = record {
   kept = λ r a k. value_at-grows vs (dress ms) t (end_of r) k (good-value_at vs ms c r k g h a);
   within = λ sub k. value_at-grows vs (dress ms) t (record { main = now ms + 1; sub = sub }) k
       (value_at-by vs (record { main = now ms + 1; sub = sub }) k (each-part (λ v. rev_le v.rev (record { main = now ms + 1; sub = sub })
-          ≡ true) g.part (next-by ms sub h))
+      ≡ true) g.part (next-by ms sub h))
       ∙ good-value_now vs ms c k g h f ∙ sym (value_at-by (dress ms) (record { main = now ms + 1; sub = sub }) k (next-by ms sub h)));
 }

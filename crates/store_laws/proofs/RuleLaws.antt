@@ -1,7 +1,6 @@
 -- A trimming step by the rule is one that a run may make.
-use Rattle.std.proofs.Common.{
-  ◌≡◌, ◌≤◌, ◌<◌, ◌⊎◌, ℕ, ◌^◌, List, [], ◌∷◌, ◌++◌, length, find, filter, Bool, true, false, not, ◌&&◌, cond, Option, None, Some, refl, sym,
-  ◌∙◌, ap, subst, inl, inr, arith}
+use Rattle.std.proofs.Common.{◌≡◌, ◌≤◌, ◌<◌, ◌⊎◌, ℕ, ◌^◌, List, [], ◌∷◌, ◌++◌, length, find, filter, Bool, true, false, not, ◌&&◌, cond}
+use Rattle.std.proofs.Common.{Option, None, Some, refl, sym, ◌∙◌, ap, subst, inl, inr, arith}
 use Rattle.std.specs.Prelude.{⊤, nat_le, MatchOption}
 use Rattle.std.proofs.lemmas.Bool.{leb-true, le-leb, leb-false}
 use Rattle.std.proofs.lemmas.List.Elements.{filter-append}
@@ -13,8 +12,8 @@ use Rattle.kv_model.specs.History.{now, rev_lt}
 use Rattle.kv_model.specs.World.{World, IsSound}
 use Rattle.kv_model.specs.Told.{Trimmed}
 use Rattle.kv_model.specs.Questions.{IsGood}
-use Rattle.kv_model.specs.Trimming.{
-  TrimStep, trimmed, trimmed_next, visited, finished, without_rev, place_after, is_trimmed, IsSettled, IsTrimmedTo}
+use Rattle.kv_model.specs.Trimming.{TrimStep, trimmed, trimmed_next, visited, finished, without_rev, place_after, is_trimmed, IsSettled}
+use Rattle.kv_model.specs.Trimming.{IsTrimmedTo}
 use Rattle.kv_model.specs.Certificates.{Claim}
 use Rattle.kv_model.specs.Wire.{WireTold}
 use Rattle.kv_model.specs.Kept.{Keeping, IsInLeast, IsTrimmed, IsCertificate, Trims}
@@ -22,12 +21,12 @@ use Rattle.store_laws.specs.TrimmingLaws.{keeping, trim_told, IsOwn, StepsWell, 
 use Rattle.store_laws.proofs.PartLaws.{in_whole}
 use Rattle.store_laws.proofs.HistoryLaws.{AllByRecursion-split}
 use Rattle.store_laws.proofs.PlaceLaws.{each-map, each-append, rev_lt-main}
-use Rattle.store_laws.proofs.TrimLaws.{
-  Precedes, AreRising, rising-dress, rising-part, rising-mid, Sits, AllSit, sit-part, AreLeft, rev_lt-self}
+use Rattle.store_laws.proofs.TrimLaws.{Precedes, AreRising, rising-dress, rising-part, rising-mid, Sits, AllSit, sit-part, AreLeft}
+use Rattle.store_laws.proofs.TrimLaws.{rev_lt-self}
 use Rattle.store_laws.proofs.StepLaws.{settles, fewer, step-good}
 use Rattle.store_laws.proofs.LeastLaws.{each-in, IsLeft, stays-in, settled-least, least-settled}
-use Rattle.store_laws.proofs.PlaceSteps.{
-  rev_lt-trans, not-before, after-self, after-next, First, first-from, none-from, is_ahead, ahead-none, ahead-above, ahead-same, without-mid}
+use Rattle.store_laws.proofs.PlaceSteps.{rev_lt-trans, not-before, after-self, after-next, First, first-from, none-from, is_ahead}
+use Rattle.store_laws.proofs.PlaceSteps.{ahead-none, ahead-above, ahead-same, without-mid}
 use Rattle.store_laws.proofs.CertificateLaws.{settled-certified}
 
 -- ---- done
@@ -60,9 +59,14 @@ finishes w vs p certificate sound g to own e =
       good = g;
       up_to = to;
       trims = subst (λ (a : List Version). Trims w (record { kept = vs; ahead = a }) a (WireTold.done (length vs) certificate)
-          (record { kept = vs; ahead = a })) (sym e)
-          (record { number = refl; least = settled-least w.mutations w.compacted vs sound.history sound.floor g left;
-              certified = own-certificate w vs certificate sound g left own }, refl);
+          (record { kept = vs; ahead = a })) (sym e) (
+            record {
+              number = refl;
+              least = settled-least w.mutations w.compacted vs sound.history sound.floor g left;
+              certified = own-certificate w vs certificate sound g left own;
+            },
+            refl,
+          );
     }
 
 -- ---- a version is looked at
@@ -86,7 +90,7 @@ in-mid (x ∷ xs) v ys = inr (in-mid xs v ys)
 module _ (w : World) (xs : List Version) (v : Version) (ys : List Version) (p : Rev) (certificate : Option (List Claim)) (sound : IsSound w)
     (small : w.compacted < 2 ^ 63)
     (g : IsGood (xs ++ v ∷ ys) w.mutations w.compacted) (to : IsTrimmedTo (xs ++ v ∷ ys) p w.compacted) (all_before : AllByRecursion
-        (λ u. rev_lt u.rev p ≡ true) xs) (from : rev_lt v.rev p ≡ false) (low : v.rev.main ≤ w.compacted) where
+    (λ u. rev_lt u.rev p ≡ true) xs) (from : rev_lt v.rev p ≡ false) (low : v.rev.main ≤ w.compacted) where
   rising : AreRising (xs ++ v ∷ ys)
   rising = rising-part g.part (rising-dress w.mutations sound.history)
 
@@ -153,11 +157,17 @@ module _ (w : World) (xs : List Version) (v : Version) (ys : List Version) (p : 
 
   -- it goes, and no least list has it
   removes : is_trimmed (xs ++ v ∷ ys) w.compacted v ≡ true
-      → StepsWell w (xs ++ v ∷ ys) p certificate (record { told = Trimmed.removed v.rev; versions = without_rev (Some v.rev) (xs ++ v ∷ ys);
-      place = place_after v.rev })
+      → StepsWell w (xs ++ v ∷ ys) p certificate (record {
+        told = Trimmed.removed v.rev;
+        versions = without_rev (Some v.rev) (xs ++ v ∷ ys);
+        place = place_after v.rev;
+      })
   unfolding next
-  removes e = record { good = subst (λ us. IsGood us w.mutations w.compacted) (sym out) good;
-      up_to = subst (λ us. IsTrimmedTo us next w.compacted) (sym out) up_to; trims = trims }
+  removes e = record {
+    good = subst (λ us. IsGood us w.mutations w.compacted) (sym out) good;
+    up_to = subst (λ us. IsTrimmedTo us next w.compacted) (sym out) up_to;
+    trims = trims;
+  }
     where
       out : without_rev (Some v.rev) (xs ++ v ∷ ys) ≡ xs ++ ys
       out = without-mid xs v ys rising
@@ -172,23 +182,26 @@ module _ (w : World) (xs : List Version) (v : Version) (ys : List Version) (p : 
       up_to : IsTrimmedTo (xs ++ ys) next w.compacted
       up_to = each-append (λ u. (rev_lt u.rev next && (nat_le u.rev.main w.compacted && is_trimmed (xs ++ ys) w.compacted u)) ≡ false) xs ys
           (each-map (λ u. (nat_le u.rev.main w.compacted && is_trimmed (xs ++ v ∷ ys) w.compacted u) ≡ false) (λ u. (rev_lt u.rev next
-              && (nat_le u.rev.main w.compacted && is_trimmed (xs ++ ys) w.compacted u)) ≡ false)
+          && (nat_le u.rev.main w.compacted && is_trimmed (xs ++ ys) w.compacted u)) ≡ false)
           (λ u l. ap (λ b. rev_lt u.rev next && b) (fewer xs v ys w.compacted u l) ∙ and-false (rev_lt u.rev next)) xs left)
           (each-map (λ u. rev_lt u.rev next ≡ false) (λ u. (rev_lt u.rev next && (nat_le u.rev.main w.compacted
-              && is_trimmed (xs ++ ys) w.compacted u)) ≡ false)
+          && is_trimmed (xs ++ ys) w.compacted u)) ≡ false)
           (λ u l. ap (λ b. b && (nat_le u.rev.main w.compacted && is_trimmed (xs ++ ys) w.compacted u)) l) ys ys-behind)
 
       none : IsInLeast w v → ⊥
       none h =
           let s = settles w.mutations w.compacted (xs ++ ys) sound.history good in
           let same : h.0 ≡ s.settled = least-settled w.mutations w.compacted h.0 s.settled sound.history sound.floor h.1 s.good s.is_settled
-                  in
+          in
           mid-once xs v ys rising (in_whole s.part v (subst (IsIn v) same h.2))
 
       after : ◌≡◌ {A = Keeping} (keeping (without_rev (Some v.rev) (xs ++ v ∷ ys)) next w.compacted)
           (record { kept = without_rev (Some v.rev) (xs ++ v ∷ ys); ahead = rest })
-      after = λ i. record { kept = without_rev (Some v.rev) (xs ++ v ∷ ys); ahead = (ap (filter (is_ahead next w.compacted)) out
-          ∙ ahead-removed) i }
+      after = λ i. record {
+        kept = without_rev (Some v.rev) (xs ++ v ∷ ys);
+        ahead = (ap (filter (is_ahead next w.compacted)) out
+            ∙ ahead-removed) i;
+      }
 
       trims : Trims w (keeping (xs ++ v ∷ ys) p w.compacted) (keeping (xs ++ v ∷ ys) p w.compacted).ahead (WireTold.removed v.rev)
           (keeping (without_rev (Some v.rev) (xs ++ v ∷ ys)) next w.compacted)
@@ -216,7 +229,7 @@ module _ (w : World) (xs : List Version) (v : Version) (ys : List Version) (p : 
       up_to = each-append (λ u. (rev_lt u.rev next && (nat_le u.rev.main w.compacted && is_trimmed (xs ++ v ∷ ys) w.compacted u))
           ≡ false) xs (v ∷ ys)
           (each-map (IsLeft (xs ++ v ∷ ys) w.compacted) (λ u. (rev_lt u.rev next && (nat_le u.rev.main w.compacted
-              && is_trimmed (xs ++ v ∷ ys) w.compacted u)) ≡ false) drop_first xs left) (
+          && is_trimmed (xs ++ v ∷ ys) w.compacted u)) ≡ false) drop_first xs left) (
             drop_first v here,
             each-map (λ u. rev_lt u.rev next ≡ false) (λ u. (rev_lt u.rev next && (nat_le u.rev.main w.compacted
                 && is_trimmed (xs ++ v ∷ ys) w.compacted u)) ≡ false)
@@ -241,9 +254,15 @@ module _ (w : World) (xs : List Version) (v : Version) (ys : List Version) (p : 
   visits = by (is_trimmed (xs ++ v ∷ ys) w.compacted v) refl
     where
       by : (b : Bool) → is_trimmed (xs ++ v ∷ ys) w.compacted v ≡ b
-          → StepsWell w (xs ++ v ∷ ys) p certificate (cond {A = TrimStep} b (record { told = Trimmed.removed v.rev;
-          versions = without_rev (Some v.rev) (xs ++ v ∷ ys); place = place_after v.rev }) (record { told = Trimmed.kept v.rev;
-          versions = xs ++ v ∷ ys; place = place_after v.rev }))
+          → StepsWell w (xs ++ v ∷ ys) p certificate (cond {A = TrimStep} b (record {
+            told = Trimmed.removed v.rev;
+            versions = without_rev (Some v.rev) (xs ++ v ∷ ys);
+            place = place_after v.rev;
+          }) (record {
+            told = Trimmed.kept v.rev;
+            versions = xs ++ v ∷ ys;
+            place = place_after v.rev;
+          }))
       by true e = removes e
       by false e = stays e
 
@@ -263,10 +282,10 @@ steps-well w vs p certificate sound small g to own = by (find (λ u. not (rev_lt
         → StepsWell w vs p certificate (cond b (visited vs w.compacted v) (finished vs p))
     looked v f true e = subst (λ us. StepsWell w us p certificate (visited us w.compacted v)) (sym f.is)
         (visits w f.before v f.after p certificate sound small (subst (λ us. IsGood us w.mutations w.compacted) f.is g)
-            (subst (λ us. IsTrimmedTo us p w.compacted) f.is to) f.all_before f.from (leb-true v.rev.main w.compacted e))
+        (subst (λ us. IsTrimmedTo us p w.compacted) f.is to) f.all_before f.from (leb-true v.rev.main w.compacted e))
     looked v f false e = finishes w vs p certificate sound g to own (subst (λ us. filter (is_ahead p w.compacted) us ≡ []) (sym f.is)
         (none-ahead f.before v f.after p w.compacted (subst AreRising f.is (rising-part g.part (rising-dress w.mutations sound.history)))
-            f.all_before (leb-false v.rev.main w.compacted e)))
+        f.all_before (leb-false v.rev.main w.compacted e)))
 
     by : (o : Option Version) → find (λ u. not (rev_lt u.rev p)) vs ≡ o → StepsWell w vs p certificate (trimmed_next vs p w.compacted o)
     by None e = finishes w vs p certificate sound g to own (ahead-none p w.compacted vs (none-from p vs e))
@@ -275,7 +294,7 @@ steps-well w vs p certificate sound small g to own = by (find (λ u. not (rev_lt
 pub done-trimmed : DoneIsTrimmed
 done-trimmed w vs p n sound small g to e = by (keeping vs p w.compacted).ahead refl
     (subst (λ t. Trims w (keeping vs p w.compacted) (keeping vs p w.compacted).ahead (trim_told t None) after) e
-        (steps-well w vs p None sound small g to tt).trims)
+    (steps-well w vs p None sound small g to tt).trims)
   where
     after : Keeping
     after = keeping (trimmed vs p w.compacted).versions (trimmed vs p w.compacted).place w.compacted

@@ -1,7 +1,6 @@
 -- Events with trimming by the rule make a run.
-use Rattle.std.proofs.Common.{
-  ◌≡◌, ◌≤◌, ◌<◌, ◌⊎◌, ℕ, ◌+◌, ◌^◌, List, [], ◌∷◌, ◌++◌, length, filter, Bool, true, false, cond, Some, refl, sym, ◌∙◌, ap, subst, inl, inr,
-  arith}
+use Rattle.std.proofs.Common.{◌≡◌, ◌≤◌, ◌<◌, ◌⊎◌, ℕ, ◌+◌, ◌^◌, List, [], ◌∷◌, ◌++◌, length, filter, Bool, true, false, cond, Some, refl}
+use Rattle.std.proofs.Common.{sym, ◌∙◌, ap, subst, inl, inr, arith}
 use Rattle.std.specs.Prelude.{drop, nat_lt, nat_le}
 use Rattle.std.proofs.lemmas.Bool.{le-ltb, lt-ltb}
 use Rattle.std.proofs.lemmas.List.{append-nil, drop_all}
@@ -75,7 +74,7 @@ module _ (ms : List Mutation) (c : ℕ) (vs : List Version) (p : Rev) (g : IsGoi
 
       high : AllByRecursion (λ u. c < u.rev.main) (added_by (dress ms) us)
       high = each-map (λ v. v.rev.main ≡ now ms + 1) (λ v. c < v.rev.main) (λ v e. let f : c ≤ now ms = g.floor
-                                                                                           in omega arith) (added_by (dress ms) us)
+          in omega arith) (added_by (dress ms) us)
           (each-added (λ q k. q.main ≡ now ms + 1) (dress ms) us b.at)
 
       on : GoesOn vs (added_by (dress ms) us) p c
@@ -152,21 +151,31 @@ module _ (ids : Ids) where
       es)
       → IsGood s.versions w.mutations w.compacted
       × ((l : Keeping) × Changes (is_physical w e) w (wire_step ids w e).1 (keeping s.versions s.place w.compacted) l
-          × KeepsWell ids (wire_step ids w e).1 l es (by_rule ids (wire_step ids w e).1 (moved_on w (wire_step ids w e).1 s) es))
+      × KeepsWell ids (wire_step ids w e).1 l es (by_rule ids (wire_step ids w e).1 (moved_on w (wire_step ids w e).1 s) es))
   on w e s es g plain m rest =
       let u = (wire_step ids w e).1 in
-      let to = moves w u s g m in
-      (g.good, (keeping (moved_on w u s).versions (moved_on w u s).place u.compacted, changes w u s (is_physical w e) plain to,
-          rest to.going))
+      let to = moves w u s g m in (
+        g.good,
+        (
+          keeping (moved_on w u s).versions (moved_on w u s).place u.compacted,
+          changes w u s (is_physical w e) plain to,
+          rest to.going,
+        ),
+      )
 
   keeps_on : (es : List WireEvent) (w : World) (s : Trimming) → Going w s → AreMoves ids w es → Keeps w s es
   keeps_on [] w s g m = g.good
   keeps_on (WireEvent.trim ∷ es) w s g m =
       let t = trimmed s.versions s.place w.compacted in
-      let step = steps-well w s.versions s.place (Some (claims_of (dump_of w s.versions))) (sound w s g) g.fits g.good g.up_to refl in
-      (g.good, (keeping t.versions t.place w.compacted, step.trims,
-      keeps_on es w (record { versions = t.versions; place = t.place })
-      (record { history = g.history; floor = g.floor; fits = g.fits; good = step.good; up_to = step.up_to }) m.2))
+      let step = steps-well w s.versions s.place (Some (claims_of (dump_of w s.versions))) (sound w s g) g.fits g.good g.up_to refl in (
+        g.good,
+        (
+          keeping t.versions t.place w.compacted,
+          step.trims,
+          keeps_on es w (record { versions = t.versions; place = t.place })
+              (record { history = g.history; floor = g.floor; fits = g.fits; good = step.good; up_to = step.up_to }) m.2,
+        ),
+      )
   keeps_on (WireEvent.certify ∷ es) w s g m = (g.good, (keeping s.versions s.place w.compacted, (refl, refl), keeps_on es w s g m.2))
   keeps_on (WireEvent.moment n ∷ es) w s g m = on w (WireEvent.moment n) s es g m.0 m.1 (λ h. keeps_on es _ _ h m.2)
   keeps_on (WireEvent.post path body ∷ es) w s g m = on w (WireEvent.post path body) s es g m.0 m.1 (λ h. keeps_on es _ _ h m.2)

@@ -11,9 +11,8 @@ use Rattle.kv_model.specs.declared.refusal.Refusal.TheVariants.{KeyMissing}
 use Rattle.kv_model.specs.History.{Mutation, value_at, value_now, end_of}
 use Rattle.kv_model.specs.Ranges.{keys_of, revision_refusal, refuse_if}
 use Rattle.kv_model.specs.Calls.{Ops}
-use Rattle.kv_model.specs.Txns.{
-  Path, holds, holds_of, path_of, extend, extend_all, added_by, put_change, put_action, put_refusal, put_lease_refusal, delete_changes,
-  deletes_of, effect, run_refusal}
+use Rattle.kv_model.specs.Txns.{Path, holds, holds_of, path_of, extend, extend_all, added_by, put_change, put_action, put_refusal}
+use Rattle.kv_model.specs.Txns.{put_lease_refusal, delete_changes, deletes_of, effect, run_refusal}
 use Rattle.store_laws.proofs.KeyLaws.{live-same, live_now-same}
 use Rattle.store_laws.proofs.PlaceLaws.{value_now-grows}
 use Rattle.store_laws.proofs.BatchLaws.{extend_all-added, added_by-same}
@@ -25,7 +24,7 @@ HoldsSame vs ws = (k : List ℕ) → value_now vs k ≡ value_now ws k
 pub extend_all-same : (vs ws : List Version) (us : List Mutation) → HoldsSame vs ws → HoldsSame (extend_all vs us) (extend_all ws us)
 extend_all-same vs ws us h k =
     ap (λ xs. value_now xs k) (extend_all-added vs us ∙ ap (λ t. vs ++ t) (added_by-same vs ws us h))
-        ∙ value_now-grows vs ws (added_by ws us) k (h k)
+    ∙ value_now-grows vs ws (added_by ws us) k (h k)
     ∙ sym (ap (λ xs. value_now xs k) (extend_all-added ws us))
 
 pub put_change-same : (vs ws : List Version) (main sub : ℕ) (p : PutRequest) → HoldsSame vs ws → put_change vs main sub p
@@ -67,7 +66,7 @@ run_refusal-same granted c now vs ws sub (Path.range r rest) h = ap (option_or (
 run_refusal-same granted c now vs ws sub (Path.put p rest) h =
     let m : Mutation = put_change ws (now + 1) sub p in
     (λ i. option_or (put_refusal-same granted vs ws p h i) (run_refusal granted c now (extend vs (put_change-same vs ws (now + 1) sub p h
-        i)) (suc sub) rest))
+    i)) (suc sub) rest))
     ∙ ap (option_or (put_refusal granted ws p)) (run_refusal-same granted c now (extend vs m) (extend ws m) (suc sub) rest
     (extend_all-same vs ws (m ∷ []) h))
 run_refusal-same granted c now vs ws sub (Path.delete d rest) h =
@@ -77,7 +76,7 @@ run_refusal-same granted c now vs ws sub (Path.delete d rest) h =
 run_refusal-same granted c now vs ws sub (Path.txn b inner rest) h =
     let ms : List Mutation = effect ws (now + 1) sub inner in
     (λ i. option_or (run_refusal-same granted c now vs ws sub inner h i) (run_refusal granted c now
-        (extend_all vs (effect-same vs ws (now + 1) sub inner h i)) (sub + length (effect-same vs ws (now + 1) sub inner h i)) rest))
+    (extend_all vs (effect-same vs ws (now + 1) sub inner h i)) (sub + length (effect-same vs ws (now + 1) sub inner h i)) rest))
     ∙ ap (option_or (run_refusal granted c now ws sub inner)) (run_refusal-same granted c now (extend_all vs ms) (extend_all ws ms)
     (sub + length ms) rest (extend_all-same vs ws ms h))
 
@@ -101,4 +100,4 @@ path_of-same vs ws now (Ops.delete d rest) h = ap (Path.delete d) (path_of-same 
 path_of-same vs ws now (Ops.txn cs s f rest) h = λ i. cond (list_all-same (holds vs now) (holds ws now) (λ c. holds-same vs ws now c h) cs
     i)
     (Path.txn true (path_of-same vs ws now s h i) (path_of-same vs ws now rest h i)) (Path.txn false (path_of-same vs ws now f h i)
-        (path_of-same vs ws now rest h i))
+    (path_of-same vs ws now rest h i))

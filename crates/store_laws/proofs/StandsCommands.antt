@@ -1,6 +1,6 @@
 -- What a Range, a Put and a DeleteRange are answered and what they change, told over a store that stands for the world.
-use Rattle.std.proofs.Common.{
-  ◌≡◌, ◌≤◌, ◌<◌, ◌≢◌, ℕ, ◌+◌, ◌^◌, List, [], ◌∷◌, length, cond, Option, None, Some, Ok, Err, refl, sym, ◌∙◌, ap, arith}
+use Rattle.std.proofs.Common.{◌≡◌, ◌≤◌, ◌<◌, ◌≢◌, ℕ, ◌+◌, ◌^◌, List, [], ◌∷◌, length, cond, Option, None, Some, Ok, Err, refl, sym, ◌∙◌, ap}
+use Rattle.std.proofs.Common.{arith}
 use Rattle.std.specs.Option.{option_or}
 use Rattle.std.proofs.lemmas.Bool.{lt-ltb, le-ltb}
 use Rattle.kv_model.specs.declared.call.RangeQuery.{RangeQuery}
@@ -17,14 +17,13 @@ use Rattle.kv_model.specs.Told.{Reply}
 use Rattle.kv_model.specs.World.{World, revision, versions, changed}
 use Rattle.kv_model.specs.Step.{last_main, refused_or, commit_at, range_in, put_in, delete_in, made_in, answer_of, world_of, perform}
 use Rattle.store_laws.specs.Stands.{Store, StandsFor, grown_noted}
-use Rattle.store_laws.specs.Stores.{
-  refusal_of_range, reply_of_range, refusal_of_put, reply_of_put, changes_of_put, refusal_of_delete, reply_of_delete, changes_of_delete}
+use Rattle.store_laws.specs.Stores.{refusal_of_range, reply_of_range, refusal_of_put, reply_of_put, changes_of_put, refusal_of_delete}
+use Rattle.store_laws.specs.Stores.{reply_of_delete, changes_of_delete}
 use Rattle.store_laws.proofs.PlaceLaws.{now-above}
 use Rattle.std.proofs.lemmas.List.{length-map}
 use Rattle.store_laws.proofs.DeleteLaws.{live-ascends, live-given, deletes-batch}
-use Rattle.store_laws.proofs.StandsLaws.{
-  store-given, grown_revision, value_stands, live_stands, live_now_is, range_answer_stands, range_refusal_stands, put_refusal_stands,
-  put_change_stands, delete_changes_stands}
+use Rattle.store_laws.proofs.StandsLaws.{store-given, grown_revision, value_stands, live_stands, live_now_is, range_answer_stands}
+use Rattle.store_laws.proofs.StandsLaws.{range_refusal_stands, put_refusal_stands, put_change_stands, delete_changes_stands}
 use Rattle.store_laws.proofs.WatchLaws.{noted_stands}
 
 -- ---- Range
@@ -35,7 +34,7 @@ pub range_reply_stands : (s : Store) (w : World) → StandsFor s w → (q : Rang
     ≡ range_reply (versions w) w.compacted (revision w) (end_of (revision w)) q
 range_reply_stands s w h q e =
     let same : unless_refused None (range_reply s.versions s.compacted s.revision (end_of s.revision) q)
-            ≡ unless_refused None (range_reply (versions w) w.compacted (revision w) (end_of (revision w)) q)
+    ≡ unless_refused None (range_reply (versions w) w.compacted (revision w) (end_of (revision w)) q)
     = sym (ap (λ o. unless_refused o (range_reply s.versions s.compacted s.revision (end_of s.revision) q)) e) ∙ range_answer_stands s w h q
     ∙ ap (λ o. unless_refused o (range_reply (versions w) w.compacted (revision w) (end_of (revision w)) q))
     (sym (range_refusal_stands s w h q) ∙ e) in cc
@@ -45,14 +44,17 @@ pub range_made : (s : Store) (w : World) → StandsFor s w → (q : RangeQuery) 
 unfolding range_in
 range_made s w h q e =
     ap (λ o. refused_or o (Ok (Reply.range (range_reply (versions w) w.compacted (revision w) (end_of (revision w)) q), w)))
-        (sym (range_refusal_stands s w h q) ∙ e)
+    (sym (range_refusal_stands s w h q) ∙ e)
     ∙ ap (λ r. Ok (Reply.range r, w)) (sym (range_reply_stands s w h q e))
 
 pub range_refused : (s : Store) (w : World) → StandsFor s w → (q : RangeQuery) (e : Refusal) → refusal_of_range s q ≡ Some e
     → made_in w (Call.range q) ≡ Err e
 unfolding range_in
-range_refused s w h q e is = ap (λ o. refused_or o (Ok (Reply.range (range_reply (versions w) w.compacted (revision w) (end_of (revision w))
-    q), w))) (sym (range_refusal_stands s w h q) ∙ is)
+range_refused s w h q e is = ap (λ o. refused_or o (Ok (
+  Reply.range (range_reply (versions w) w.compacted (revision w) (end_of (revision w))
+      q),
+  w,
+))) (sym (range_refusal_stands s w h q) ∙ is)
 
 -- ---- Put
 
@@ -62,7 +64,7 @@ pub put_told : (s : Store) (w : World) → StandsFor s w → (p : PutRequest)
 unfolding put_in
 put_told s w h p = sym (λ i. refused_or (option_or (put_fault p) (put_refusal_stands s w h p i))
     (commit_at (h.revision_is i) (Reply.put (previous_value p.prev_kv (value_stands s w h p.key i))) w (put_change_stands s w h 0 p i
-        ∷ [])))
+    ∷ [])))
 
 pub put_refused : (s : Store) (w : World) → StandsFor s w → (p : PutRequest) (e : Refusal) → refusal_of_put s p ≡ Some e
     → made_in w (Call.put p) ≡ Err e
@@ -116,7 +118,7 @@ pub delete_told : (s : Store) (w : World) → StandsFor s w → (d : DeleteReque
 unfolding delete_in
 delete_told s w h d = sym (λ i. refused_or (refusal_of_delete d)
     (commit_at (h.revision_is i) (Reply.delete (length (live_stands s w h d.range i)) (if_asked d.prev_kv (live_stands s w h d.range i))) w
-        (delete_changes_is s w h d i)))
+    (delete_changes_is s w h d i)))
 
 pub delete_refused : (s : Store) (w : World) → StandsFor s w → (d : DeleteRequest) (e : Refusal) → refusal_of_delete d ≡ Some e
     → made_in w (Call.delete d) ≡ Err e
@@ -165,7 +167,7 @@ delete_batch s w h d l =
     let one : 1 ≤ s.revision = store-one s w h in
     let kvs : List KeyValue = live s.versions (end_of s.revision) d.range in
     deletes-batch (s.revision + 1) 0 (keys_of kvs) (live-ascends s.versions (end_of s.revision) d.range)
-        (live-given s.versions (end_of s.revision) d.range (store-given s w h)) (omega arith)
+    (live-given s.versions (end_of s.revision) d.range (store-given s w h)) (omega arith)
     (omega (arith, length-map kvs (λ (kv : KeyValue). kv.key)))
 
 -- the store goes on standing for the world after a delete
@@ -180,13 +182,17 @@ delete_stands s w h d l = noted_stands s w h (changes_of_delete s d) (delete_bat
 pub answer_made : (s : Store) (w : World) → StandsFor s w → (call : Call) (r : Reply) (us : List Mutation) → made_in w call
     ≡ Ok (r, changed w us)
     → perform w call ≡ (Ok (record { reply = r; revision = (grown_noted s us).revision }), changed w us)
-answer_made s w h call r us made = ap (λ m. (answer_of m, world_of w m)) made ∙ ap (λ n. (Ok (record { reply = r; revision = n }),
-    changed w us)) (sym (grown_revision s w h us))
+answer_made s w h call r us made = ap (λ m. (answer_of m, world_of w m)) made ∙ ap (λ n. (
+  Ok (record { reply = r; revision = n }),
+  changed w us,
+)) (sym (grown_revision s w h us))
 
 pub answer_refused : (w : World) (call : Call) (e : Refusal) → made_in w call ≡ Err e → perform w call ≡ (Err e, w)
 answer_refused w call e made = ap (λ m. (answer_of m, world_of w m)) made
 
 pub answer_read : (s : Store) (w : World) → StandsFor s w → (call : Call) (r : Reply) → made_in w call ≡ Ok (r, w) → perform w call
     ≡ (Ok (record { reply = r; revision = s.revision }), w)
-answer_read s w h call r made = ap (λ m. (answer_of m, world_of w m)) made ∙ ap (λ n. (Ok (record { reply = r; revision = n }),
-    w)) (sym h.revision_is)
+answer_read s w h call r made = ap (λ m. (answer_of m, world_of w m)) made ∙ ap (λ n. (
+  Ok (record { reply = r; revision = n }),
+  w,
+)) (sym h.revision_is)

@@ -17,8 +17,8 @@ use Rattle.kv_model.specs.Leases.{is_granted}
 use Rattle.kv_model.specs.World.{World, revision, versions, changed}
 use Rattle.store_laws.specs.Stands.{Store, StandsFor, grown_noted}
 use Rattle.store_laws.proofs.PlaceLaws.{AreBy, each-map, each-part, each-dressed, each-change, value_at-by}
-use Rattle.store_laws.proofs.GoodLaws.{
-  dressed-by, part-by, now-kept, good-value_at, good-value_now, good-live, good-range_answer, live_now-by}
+use Rattle.store_laws.proofs.GoodLaws.{dressed-by, part-by, now-kept, good-value_at, good-value_now, good-live, good-range_answer}
+use Rattle.store_laws.proofs.GoodLaws.{live_now-by}
 
 -- ---- what is read
 
@@ -30,7 +30,7 @@ store-by s w h = subst (λ r. AreBy (end_of r) s.versions) (sym h.revision_is) (
 pub store-given : (s : Store) (w : World) → StandsFor s w → AllByRecursion (λ v. v.key ≢ []) s.versions
 store-given s w h = each-part (λ v. v.key ≢ []) h.good.part
     (each-dressed (λ p k. k ≢ []) w.mutations (each-map IsChange (λ m. m.key ≢ []) (λ m c. c.has_key) w.mutations (each-change w.mutations
-        h.sound.history)))
+    h.sound.history)))
 
 -- what each key holds
 pub value_stands : (s : Store) (w : World) → StandsFor s w → (k : List ℕ) → value_at s.versions (end_of s.revision) k
@@ -82,8 +82,11 @@ put_refusal_stands s w h p = λ i. option_or (refuse_if ((p.ignore_value || p.ig
 
 pub put_change_stands : (s : Store) (w : World) → StandsFor s w → (sub : ℕ) (p : PutRequest) → put_change s.versions (s.revision + 1) sub p
     ≡ put_change (versions w) (revision w + 1) sub p
-put_change_stands s w h sub p = λ i. record { rev = record { main = h.revision_is i + 1; sub = sub }; key = p.key;
-    action = put_action p (value_now_stands s w h p.key i) }
+put_change_stands s w h sub p = λ i. record {
+  rev = record { main = h.revision_is i + 1; sub = sub };
+  key = p.key;
+  action = put_action p (value_now_stands s w h p.key i);
+}
 
 pub delete_changes_stands : (s : Store) (w : World) → StandsFor s w → (sub : ℕ) (d : DeleteRequest)
     → delete_changes s.versions (s.revision + 1) sub d ≡ delete_changes (versions w) (revision w + 1) sub d

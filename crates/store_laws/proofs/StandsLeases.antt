@@ -1,6 +1,6 @@
 -- What the calls of leases are answered and change, told over a store that stands for the world.
-use Rattle.std.proofs.Common.{
-  ◌≡◌, ◌≤◌, ℕ, ◌+◌, ◌^◌, ℤ, List, length, map, Bool, not, Option, None, Some, Ok, filter, refl, sym, ◌∙◌, ap, arith}
+use Rattle.std.proofs.Common.{◌≡◌, ◌≤◌, ℕ, ◌+◌, ◌^◌, ℤ, List, length, map, Bool, not, Option, None, Some, Ok, filter, refl, sym, ◌∙◌, ap}
+use Rattle.std.proofs.Common.{arith}
 use Rattle.std.specs.Prelude.{nat_lt, nat_le, pos, min, max}
 use Rattle.std.specs.Option.{option_or}
 use Rattle.std.specs.Ordering.{int_eq}
@@ -11,15 +11,13 @@ use Rattle.kv_model.specs.Ranges.{live, refuse_if}
 use Rattle.kv_model.specs.Txns.{deletes_of, if_asked}
 use Rattle.kv_model.specs.Calls.{Call}
 use Rattle.kv_model.specs.Told.{Reply}
-use Rattle.kv_model.specs.Leases.{
-  Lease, is_granted, lease_at, id_asked, ttl_asked, deadline_of, longest_ttl, most_leases, insert_lease, without_lease, keys_of_lease,
-  renewed, seconds_left, due}
+use Rattle.kv_model.specs.Leases.{Lease, is_granted, lease_at, id_asked, ttl_asked, deadline_of, longest_ttl, most_leases, insert_lease}
+use Rattle.kv_model.specs.Leases.{without_lease, keys_of_lease, renewed, seconds_left, due}
 use Rattle.kv_model.specs.World.{World, revision, versions, changed, at_moment}
 use Rattle.kv_model.specs.Step.{refused_or, commit_at, grant_in, revoke_in, keep_alive_in, time_to_live_in, made_in}
 use Rattle.store_laws.specs.Stands.{Store, StandsFor, grown_noted}
-use Rattle.store_laws.specs.Stores.{
-  with_leases, refusal_of_grant, granted_lease, refusal_of_revoke, changes_of_revoke, renewed_leases, reply_of_time_to_live,
-  reply_of_leases, at_store_moment}
+use Rattle.store_laws.specs.Stores.{with_leases, refusal_of_grant, granted_lease, refusal_of_revoke, changes_of_revoke, renewed_leases}
+use Rattle.store_laws.specs.Stores.{reply_of_time_to_live, reply_of_leases, at_store_moment}
 use Rattle.store_laws.proofs.DeleteLaws.{live-ascends, live-given, ascending-some, given-some, deletes-batch}
 use Rattle.store_laws.proofs.StandsLaws.{store-given, live_stands}
 use Rattle.store_laws.proofs.StandsCommands.{store-one}
@@ -66,18 +64,20 @@ revoke_batch s w h id l =
     deletes-batch (s.revision + 1) 0 (keys_of_lease s.versions s.revision id)
     (ascending-some (λ kv. int_eq kv.lease id) kvs (live-ascends s.versions (end_of s.revision) all_keys))
     (given-some (λ kv. int_eq kv.lease id) kvs (live-given s.versions (end_of s.revision) all_keys (store-given s w h))) (omega arith)
-        (omega arith)
+    (omega arith)
 
 -- ---- the calls
 
 pub grant_told : (s : Store) (w : World) → StandsFor s w → (ttl id : ℤ) → made_in w (Call.grant ttl id)
-    ≡ refused_or (refusal_of_grant s ttl id) (Ok (Reply.grant (granted_lease s ttl id).id (granted_lease s ttl id).ttl,
-    record w { leases = insert_lease (granted_lease s ttl id) s.leases }))
+    ≡ refused_or (refusal_of_grant s ttl id) (Ok (
+      Reply.grant (granted_lease s ttl id).id (granted_lease s ttl id).ttl,
+      record w { leases = insert_lease (granted_lease s ttl id) s.leases },
+    ))
 unfolding grant_in
 grant_told s w h ttl id = sym (λ i.
     let l : Lease = record { id = id_asked (h.leases i) id; ttl = ttl_asked ttl; deadline = deadline_of (h.clock i) (ttl_asked ttl) } in
     refused_or (option_or (refuse_if (nat_lt longest_ttl (ttl_asked ttl)) TtlTooLarge) (option_or (refuse_if (is_granted (h.leases i) id)
-        LeaseExists) (refuse_if (nat_le most_leases (length (h.leases i))) TooManyLeases)))
+    LeaseExists) (refuse_if (nat_le most_leases (length (h.leases i))) TooManyLeases)))
     (Ok (Reply.grant l.id l.ttl, record w { leases = insert_lease l (h.leases i) })))
 
 pub revoke_told : (s : Store) (w : World) → StandsFor s w → (id : ℤ) → made_in w (Call.revoke id)
@@ -86,7 +86,7 @@ pub revoke_told : (s : Store) (w : World) → StandsFor s w → (id : ℤ) → m
 unfolding revoke_in
 revoke_told s w h id = sym (λ i. refused_or (refuse_if (not (is_granted (h.leases i) id)) LeaseMissing)
     (commit_at (h.revision_is i) Reply.revoke (record w { leases = without_lease id (h.leases i) }) (deletes_of (h.revision_is i + 1) 0
-        (keys_of_lease_stands s w h id i))))
+    (keys_of_lease_stands s w h id i))))
 
 -- the store goes on standing for the world without the lease and its keys
 pub revoke_stands : (s : Store) (w : World) → StandsFor s w → (id : ℤ) → length (keys_of_lease s.versions s.revision id) ≤ 2 ^ 64
@@ -117,8 +117,11 @@ time_to_live_told s w h id asked = ap (time_to_live_in w id asked) (sym (lease_a
   where
     by : (o : Option Lease) → time_to_live_in w id asked o ≡ Ok (reply_of_time_to_live s id asked o, w)
     by None = refl
-    by (Some l) = sym (λ i. Ok (Reply.time_to_live id (pos (seconds_left (h.clock i) l)) l.ttl
-        (if_asked asked (keys_of_lease_stands s w h id i)), w))
+    by (Some l) = sym (λ i. Ok (
+      Reply.time_to_live id (pos (seconds_left (h.clock i) l)) l.ttl
+          (if_asked asked (keys_of_lease_stands s w h id i)),
+      w,
+    ))
 
 pub leases_told : (s : Store) (w : World) → StandsFor s w → made_in w Call.leases ≡ Ok (reply_of_leases s, w)
 leases_told s w h = sym (λ i. Ok (Reply.leases (map (λ (l : Lease). l.id) (h.leases i)), w))

@@ -56,7 +56,7 @@ pub replies_stand : (s : Store) (w : World) → StandsFor s w → (q : Path) →
 replies_stand s w h q a us =
     let t : List Version = added_by (versions w) us in
     let reads : ReadsKept w.compacted (revision w) q = subst (λ n. ReadsKept w.compacted n q) h.revision_is
-            (subst (λ c. ReadsKept c s.revision q) h.compacted a) in
+    (subst (λ c. ReadsKept c s.revision q) h.compacted a) in
     ap (λ vs. replies_of vs w.compacted (revision w) 0 q) (dress-added w.mutations us)
     ∙ sym (same-replies w.compacted (revision w) (s.versions ++ t) (versions w ++ t) (good-sees s.versions t w.mutations w.compacted h.good
     h.sound.history h.sound.floor) (now-kept w.mutations w.compacted h.sound.history h.sound.floor) 0 q reads)
@@ -110,7 +110,7 @@ pub txn_told : (s : Store) (w : World) → StandsFor s w → (cs : List Compare)
     → made_in w (Call.txn cs a b)
     ≡ refused_or (refusal_of_path s (path_in s (Ops.txn cs a b Ops.no_ops)))
     (commit_at s.revision (reply_of_path s (path_in s (Ops.txn cs a b Ops.no_ops))) w
-        (changes_of_path s (path_in s (Ops.txn cs a b Ops.no_ops))))
+    (changes_of_path s (path_in s (Ops.txn cs a b Ops.no_ops))))
 unfolding txn_in
 txn_told s w h cs a b is =
     let ops : Ops = Ops.txn cs a b Ops.no_ops in

@@ -1,6 +1,6 @@
 -- A watch that is made: what it has still to be told of is found in the versions that are kept.
-use Rattle.std.proofs.Common.{
-  ◌≡◌, ◌≤◌, ℕ, suc, ◌+◌, ℤ, List, [], ◌∷◌, ◌++◌, length, map, filter, Bool, true, false, ◌&&◌, cond, refl, sym, ◌∙◌, ap, arith}
+use Rattle.std.proofs.Common.{◌≡◌, ◌≤◌, ℕ, suc, ◌+◌, ℤ, List, [], ◌∷◌, ◌++◌, length, map, filter, Bool, true, false, ◌&&◌, cond, refl, sym}
+use Rattle.std.proofs.Common.{◌∙◌, ap, arith}
 use Rattle.std.specs.Prelude.{nat_lt, nat_le, MatchBool, ⊤}
 use Rattle.std.specs.List.{AllByRecursion}
 use Rattle.std.proofs.lemmas.Bool.{eq-eqb, ltb-false}
@@ -75,7 +75,7 @@ not-left {X} y xs ys test k h = by (test y) refl
   where
     fewer : IsCounted xs (y ∷ ys) y → ⊥
     fewer c = let e : length (filter c.0 xs) ≡ suc (length (filter c.0 ys)) = c.2
-                      ∙ ap (λ b. length (cond b (y ∷ filter c.0 ys) (filter c.0 ys))) c.1 in omega (arith, part-fewer c.0 k)
+        ∙ ap (λ b. length (cond b (y ∷ filter c.0 ys) (filter c.0 ys))) c.1 in omega (arith, part-fewer c.0 k)
 
     by : (b : Bool) → test y ≡ b → b ≡ false
     by true e = absurd (fewer (h e))
@@ -87,7 +87,7 @@ part-keeps test (keep {x = x} {xs = xs} {ys = ys} k) h = ap (λ zs. cond (test x
     ∷ zs) zs) (part-keeps test k (counted-tail x xs ys test ys h.1))
 part-keeps test (leave {y = y} {xs = xs} {ys = ys} k) h =
     part-keeps test k (counted-left y xs ys test ys k h.1)
-        ∙ sym (ap (λ b. cond b (y ∷ filter test ys) (filter test ys)) (not-left y xs ys test k h.0))
+    ∙ sym (ap (λ b. cond b (y ∷ filter test ys) (filter test ys)) (not-left y xs ys test k h.0))
 
 -- ---- what a watch has still to be told of
 
@@ -113,8 +113,11 @@ good-undelivered vs ms c w g h l = part-keeps test g.part (go (dress ms) (dresse
         let r : ℕ = v.rev.main in
         let same : filter (is_told r w.watched) vs ≡ filter (is_told r w.watched) (dress ms)
         = sym (versions-told vs c w.watched (filter (is_told r w.watched) vs))
-        ∙ ap (map (λ (e : WatchEvent). e.version)) (good-events vs ms c r w.watched g (record { first = one; kept = omega arith;
-        past = most }))
+        ∙ ap (map (λ (e : WatchEvent). e.version)) (good-events vs ms c r w.watched g (record {
+          first = one;
+          kept = omega arith;
+          past = most;
+        }))
         ∙ versions-told (dress ms) c w.watched (filter (is_told r w.watched) (dress ms)) in
         (is_told r w.watched, (λ i. eq-eqb r r refl i && parts.1 i), ap length same)
 
@@ -140,8 +143,10 @@ tracks-push vs n (u ∷ ts) (x ∷ ws) t w h k = (h.0, tracks-push vs n ts ws t 
 
 -- the store goes on standing for the world with the watch
 pub watch_stands : (s : Store) (w : World) → StandsFor s w → (watched : Watched) (start id : ℤ)
-    → StandsFor (with_watch s (tracked_made s watched start id)) (record w { watches = w.watches ++ watch_made s watched start id ∷ [];
-    made = s.made + 1 })
+    → StandsFor (with_watch s (tracked_made s watched start id)) (record w {
+      watches = w.watches ++ watch_made s watched start id ∷ [];
+      made = s.made + 1;
+    })
 watch_stands s w h watched start id = record {
   sound = record { history = h.sound.history; floor = h.sound.floor };
   good = h.good;
@@ -151,8 +156,13 @@ watch_stands s w h watched start id = record {
   clock = h.clock;
   made = refl;
   watches = tracks-push (versions w) (revision w) s.watches w.watches (tracked_made s watched start id) (watch_made s watched start id)
-      h.watches (record { number = refl; id = refl; watched = refl; late = refl;
-      next = by (nat_lt (start_of s.revision start) s.compacted) refl });
+      h.watches (record {
+        number = refl;
+        id = refl;
+        watched = refl;
+        late = refl;
+        next = by (nat_lt (start_of s.revision start) s.compacted) refl;
+      });
 }
   where
     by : (b : Bool) → nat_lt (start_of s.revision start) s.compacted ≡ b

@@ -1,7 +1,6 @@
 -- What a trimming step leaves is good, and steps come to an end where nothing is left to take out.
-use Rattle.std.proofs.Common.{
-  append_assoc, ◌≡◌, ◌≤◌, ◌<◌, ℕ, ◌-◌, List, [], ◌∷◌, ◌++◌, map, filter, Bool, true, false, ◌&&◌, ◌||◌, cond, None, refl, sym, ◌∙◌, ap,
-  subst, arith}
+use Rattle.std.proofs.Common.{append_assoc, ◌≡◌, ◌≤◌, ◌<◌, ℕ, ◌-◌, List, [], ◌∷◌, ◌++◌, map, filter, Bool, true, false, ◌&&◌, ◌||◌, cond}
+use Rattle.std.proofs.Common.{None, refl, sym, ◌∙◌, ap, subst, arith}
 use Rattle.std.specs.Prelude.{nat_lt, nat_le, ◌==◌}
 use Rattle.std.proofs.lemmas.Bool.{ltb-true, eqb-true}
 use Rattle.std.proofs.lemmas.List.{append-nil}
@@ -61,7 +60,7 @@ not_told xs v ys r w l =
     let test : Version → Bool = λ u. u.rev.main == r && matches w u in
     let other : (v.rev.main == r) ≡ false = differs v.rev.main r l in
     filter-append test xs (v ∷ ys) ∙ ap (λ b. filter test xs ++ cond (b && matches w v) (v ∷ filter test ys) (filter test ys)) other
-        ∙ sym (filter-append test xs ys)
+    ∙ sym (filter-append test xs ys)
 
 pub events-out : (xs : List Version) (v : Version) (ys : List Version) (c r : ℕ) (w : Watched) → v.rev.main < r
     → ((r : ℕ) (k : List ℕ) → c ≤ r → value_at (xs ++ ys) (end_of r) k ≡ value_at (xs ++ v ∷ ys) (end_of r) k) → events_of (xs ++ ys) c r w
@@ -90,10 +89,10 @@ step-good ms c xs v ys h g left e = record { part = part-trans (part-without xs 
     answers : (q : Question) → IsQuestion c (now ms) q → answered (xs ++ ys) c (now ms) q ≡ answered (dress ms) c (now ms) q
     answers (Question.range q) a =
         ap Answered.range (same_ranges (xs ++ ys) (xs ++ v ∷ ys) c (now ms) a.revision (end_of (now ms)) q a.kept.first a.is
-            (λ k. same a.revision k a.kept.kept)) ∙ g.answers (Question.range q) a
+        (λ k. same a.revision k a.kept.kept)) ∙ g.answers (Question.range q) a
     answers (Question.watch w r) a =
         ap Answered.watch (events-out xs v ys c r w (let b : v.rev.main < c = goes.below in let d : c ≤ r = a.kept in omega arith) same)
-                                                                                                    ∙ g.answers (Question.watch w r) a
+        ∙ g.answers (Question.watch w r) a
 
 -- ---- steps to the end
 
@@ -139,7 +138,7 @@ settle ms c h xs (v ∷ ys) g left = by (nat_le v.rev.main c) refl (is_trimmed (
         ++ ys) c (xs ++ v ∷ []) → Settles ms c ((xs ++ v ∷ []) ++ ys)) → Settles ms c (xs ++ v ∷ ys)
     on e rest = subst (Settles ms c) kept (rest (subst (λ us. IsGood us ms c) (sym kept) g)
         (subst (λ us. AreLeft us c (xs ++ v ∷ [])) (sym kept) (each-append (λ u. (nat_le u.rev.main c && is_trimmed (xs ++ v ∷ ys) c u)
-            ≡ false) xs (v ∷ []) left (e, tt))))
+        ≡ false) xs (v ∷ []) left (e, tt))))
 
     by : (a : Bool) → nat_le v.rev.main c ≡ a → (b : Bool) → is_trimmed (xs ++ v ∷ ys) c v ≡ b
         → (IsGood (xs ++ ys) ms c → AreLeft (xs ++ ys) c xs → Settles ms c (xs ++ ys))
@@ -147,7 +146,7 @@ settle ms c h xs (v ∷ ys) g left = by (nat_le v.rev.main c) refl (is_trimmed (
         → Settles ms c (xs ++ v ∷ ys)
     by true d true e out rest = wider ms c (xs ++ ys) (xs ++ v ∷ ys) (part-without xs v ys) (out (step-good ms c xs v ys h g left e)
         (each-map (λ u. (nat_le u.rev.main c && is_trimmed (xs ++ v ∷ ys) c u) ≡ false) (λ u. (nat_le u.rev.main c
-            && is_trimmed (xs ++ ys) c u) ≡ false) (fewer xs v ys c) xs left))
+        && is_trimmed (xs ++ ys) c u) ≡ false) (fewer xs v ys c) xs left))
     by true d false e out rest = on (λ i. d i && e i) rest
     by false d b e out rest = on (λ i. d i && e i) rest
 

@@ -1,7 +1,6 @@
 -- What changes leave of the keys that they do not touch.
-use Rattle.std.proofs.Common.{
-  ◌≡◌, ℕ, suc, List, [], ◌∷◌, ◌++◌, Bool, true, false, not, ◌&&◌, ◌||◌, cond, Option, None, Some, option_and_then, is_some, filter, refl,
-  sym, ◌∙◌, ap, subst}
+use Rattle.std.proofs.Common.{◌≡◌, ℕ, suc, List, [], ◌∷◌, ◌++◌, Bool, true, false, not, ◌&&◌, ◌||◌, cond, Option, None, Some}
+use Rattle.std.proofs.Common.{option_and_then, is_some, filter, refl, sym, ◌∙◌, ap, subst}
 use Rattle.std.specs.Option.{option_or}
 use Rattle.std.specs.List.{AllByRecursion}
 use Rattle.kv_model.specs.declared.version.Version.{Version}
@@ -13,8 +12,8 @@ use Rattle.kv_model.specs.Ranges.{keys, keys_of, live_now, value_now_within}
 use Rattle.kv_model.specs.Txns.{Touch, collides, next_body, next_version, extend, extend_all, deletes_of}
 use Rattle.store_laws.specs.Plans.{is_deleted, still_live}
 use Rattle.store_laws.proofs.HistoryLaws.{last_that-append, same_key-eq}
-use Rattle.store_laws.proofs.KeyLaws.{
-  has_key, IsAscending, same_keys, ascending-filter, ascending-keys, has_key-filter, now_within-some, value_now-has_key}
+use Rattle.store_laws.proofs.KeyLaws.{has_key, IsAscending, same_keys, ascending-filter, ascending-keys, has_key-filter, now_within-some}
+use Rattle.store_laws.proofs.KeyLaws.{value_now-has_key}
 use Rattle.store_laws.proofs.SmallLaws.{same_key-comm}
 use Rattle.store_laws.proofs.PlaceLaws.{each-map}
 use Rattle.store_laws.proofs.DeleteLaws.{mapped-keys, each-filter, last_that-passes, shown-key}
@@ -104,7 +103,7 @@ pub value-untouched : (vs : List Version) (us : List Mutation) (k : List ℕ) �
     → value_now (extend_all vs us) k ≡ value_now vs k
 value-untouched vs us k h =
     value-after vs us k (each-map (λ u. same_key u.key k ≡ false) (λ u. puts_key k u ≡ false) (λ u e. ap (λ b. b && is_put u.action) e
-        ∙ and-none (is_put u.action)) us h)
+    ∙ and-none (is_put u.action)) us h)
     ∙ ap (λ b. cond b None (value_now vs k)) (not-deleted us k h)
 
 -- ---- the keys that are still live
@@ -187,8 +186,8 @@ shown-in_range vs r k h = by (in_range r k) refl h
 pub live_now-in : (vs : List Version) (r : KeyRange) → AllByRecursion (λ k. in_range r k ≡ true) (keys_of (live_now vs r))
 live_now-in vs r = subst (AllByRecursion (λ k. in_range r k ≡ true)) (sym (live_now-keys vs r))
     (each-map (λ k. is_some (value_now_within vs r k) ≡ true) (λ k. in_range r k
-        ≡ true) (shown-in_range vs r) (filter (λ k. is_some (value_now_within vs r k)) (keys vs))
-        (all-pass (λ k. is_some (value_now_within vs r k)) (keys vs)))
+    ≡ true) (shown-in_range vs r) (filter (λ k. is_some (value_now_within vs r k)) (keys vs))
+    (all-pass (λ k. is_some (value_now_within vs r k)) (keys vs)))
 
 not-true : (b : Bool) → not b ≡ true → b ≡ false
 not-true true e = cc
@@ -219,5 +218,8 @@ one-clear r k (Touch.each s) i h = refl
 pub deletes-clear : (main sub : ℕ) (r : KeyRange) (ks : List (List ℕ)) (us : List Touch) → AllByRecursion (λ k. in_range r k ≡ true) ks
     → IsClear (Touch.each r) us → AreClear (deletes_of main sub ks) us
 deletes-clear main sub r [] us i h = tt
-deletes-clear main sub r (k ∷ ks) us i h = (each-map (λ u. collides (Touch.each r) u ≡ false) (λ u. collides (Touch.each (one_key k)) u
-    ≡ false) (λ u e. one-clear r k u i.0 e) us h, deletes-clear main (suc sub) r ks us i.1 h)
+deletes-clear main sub r (k ∷ ks) us i h = (
+  each-map (λ u. collides (Touch.each r) u ≡ false) (λ u. collides (Touch.each (one_key k)) u
+      ≡ false) (λ u e. one-clear r k u i.0 e) us h,
+  deletes-clear main (suc sub) r ks us i.1 h,
+)

@@ -1,7 +1,6 @@
 -- What a trimming step takes out changes no answer.
-use Rattle.std.proofs.Common.{
-  ◌≡◌, ◌≤◌, ◌<◌, ◌≢◌, ◌⊎◌, ℕ, ◌^◌, List, [], ◌∷◌, ◌++◌, Bool, true, false, ◌&&◌, ◌||◌, cond, Option, None, Some, is_some, refl, sym, ◌∙◌,
-  ap, inl, inr, arith}
+use Rattle.std.proofs.Common.{◌≡◌, ◌≤◌, ◌<◌, ◌≢◌, ◌⊎◌, ℕ, ◌^◌, List, [], ◌∷◌, ◌++◌, Bool, true, false, ◌&&◌, ◌||◌, cond, Option, None, Some}
+use Rattle.std.proofs.Common.{is_some, refl, sym, ◌∙◌, ap, inl, inr, arith}
 use Rattle.std.specs.Prelude.{⊤, nat_lt, nat_le}
 use Rattle.std.proofs.lemmas.Bool.{leb-true, le-leb, ltb-true}
 use Rattle.std.proofs.lemmas.List.Folds.{list_any-append}
@@ -22,8 +21,8 @@ use Rattle.kv_model.specs.History.{Mutation, IsChange, IsHistory, now, dress, dr
 use Rattle.kv_model.specs.Trimming.{is_superseded, is_tombstone, is_trimmed}
 use Rattle.store_laws.proofs.HistoryLaws.{same_key-eq, AllByRecursion-split}
 use Rattle.store_laws.proofs.Compacting.{superseded-out, tombstone-out}
-use Rattle.store_laws.proofs.PlaceLaws.{
-  each-map, each-part, each-dressed, each-change, mains-by, last_that-none, rev_le-end, rev_le-after, rev_lt-main}
+use Rattle.store_laws.proofs.PlaceLaws.{each-map, each-part, each-dressed, each-change, mains-by, last_that-none, rev_le-end, rev_le-after}
+use Rattle.store_laws.proofs.PlaceLaws.{rev_lt-main}
 
 -- ---- small steps
 
@@ -94,9 +93,11 @@ each-after P before (m ∷ ms) h = (h.0, each-after P (before ++ m ∷ []) ms h.
 
 rising-after : (before ms : List Mutation) → IsHistory ms → AreRising (dress_after before ms)
 rising-after before [] h = tt
-rising-after before (m ∷ ms) h =
-    (each-after (λ p k. (rev_lt m.rev p ≡ true) × (m.rev.main ≡ p.main → m.key ≢ k)) (before ++ m ∷ []) ms h.1, rising-after (before ++ m
-        ∷ []) ms h.2)
+rising-after before (m ∷ ms) h = (
+  each-after (λ p k. (rev_lt m.rev p ≡ true) × (m.rev.main ≡ p.main → m.key ≢ k)) (before ++ m ∷ []) ms h.1,
+  rising-after (before ++ m
+      ∷ []) ms h.2,
+)
 
 pub rising-dress : (ms : List Mutation) → IsHistory ms → AreRising (dress ms)
 unfolding dress
@@ -167,14 +168,14 @@ replaces-not r v u h = by (replaces r v u) refl
 none-before : (r : ℕ) (v : Version) (xs : List Version) → AllByRecursion (λ u. Precedes u v) xs → list_any (replaces r v) xs ≡ false
 none-before r v [] h = refl
 none-before r v (x ∷ xs) h = λ i. replaces-not r v x (λ p. let e : true ≡ false = sym p.later ∙ rev_lt-turn x.rev v.rev h.0.0 in cc) i
-                                                                   || none-before r v xs h.1 i
+    || none-before r v xs h.1 i
 
 pub superseded-mid : (xs : List Version) (v : Version) (ys : List Version) (r : ℕ) → AreRising (xs ++ v ∷ ys) → is_superseded (xs ++ v
     ∷ ys) r v ≡ list_any (replaces r v) ys
 unfolding is_superseded
 superseded-mid xs v ys r h = list_any-append (replaces r v) xs (v ∷ ys)
     ∙ λ i. none-before r v xs (rising-mid xs v ys h).0 i || (replaces-not r v v (λ p. let e : true ≡ false = sym p.later ∙ rev_lt-self v.rev
-                                                                                              in cc) i || list_any (replaces r v) ys)
+    in cc) i || list_any (replaces r v) ys)
 
 -- what is replaced is below
 pub low : (r : ℕ) (v : Version) (ys : List Version) → AllByRecursion (Precedes v) ys → list_any (replaces r v) ys ≡ true → v.rev.main < r
@@ -200,7 +201,7 @@ seen n c r v k (u ∷ ys) l d s e = by (replaces c v u) refl (seen n c r v k ys 
   where
     test : Replaces c v u → (same_key u.key k && rev_le u.rev (end_of r)) ≡ true
     test p = λ i. (ap (λ j. same_key j k) (p.key ∙ d) ∙ same-refl k) i && rev_le-end u.rev r (let f : u.rev.main ≤ c = p.by
-                                                                                                      in omega arith) s.0.number i
+        in omega arith) s.0.number i
 
     here : (o : Option Version) → is_some (option_or o (Some u)) ≡ true
     here None = refl
@@ -223,12 +224,18 @@ last_seen r v [] h e = refl
 last_seen r v (u ∷ ys) h e = by (replaces r v u) refl (last_seen r v ys h.1) e
   where
     hidden : (a b : Bool) → same_key u.key v.key ≡ a → rev_le u.rev (end_of r) ≡ b → replaces r v u ≡ false → (a && b) ≡ false
-    hidden true true d f g = absurd (let e : true ≡ false = sym (replaces-as r v u (record { key = same_key-eq u.key v.key d; later = h.0.0;
-                                             by = within })) ∙ g in cc)
+    hidden true true d f g = absurd (let e : true ≡ false = sym (replaces-as r v u (record {
+      key = same_key-eq u.key v.key d;
+      later = h.0.0;
+      by = within;
+    })) ∙ g in cc)
       where
         within : u.rev.main ≤ r
-        within = elim (ranked u.rev.main r) [ inl a ↦ a | inr b ↦ absurd (let x : true ≡ false = sym f ∙ rev_le-after u.rev (end_of r) b
-                                                                                  in cc) ]
+        within = elim (ranked u.rev.main r) [
+          | inl a ↦ a
+          | inr b ↦ absurd (let x : true ≡ false = sym f ∙ rev_le-after u.rev (end_of r) b
+              in cc)
+        ]
     hidden true false d f g = refl
     hidden false b d f g = refl
 
@@ -260,8 +267,10 @@ goes-of xs v ys c h e = by (is_superseded (xs ++ v ∷ ys) c v) refl e
     by : (b : Bool) → is_superseded (xs ++ v ∷ ys) c v ≡ b → (b || (is_tombstone v.body && nat_lt v.rev.main c)) ≡ true
         → Goes (xs ++ v ∷ ys) c v
     by true f e = record { below = low c v ys (rising-mid xs v ys h).1 (sym (superseded-mid xs v ys c h) ∙ f); why = inl f }
-    by false f e = let both = both-true (is_tombstone v.body) (nat_lt v.rev.main c) e in record { below = ltb-true v.rev.main c both.1;
-                           why = inr (gone-body v.body both.0) }
+    by false f e = let both = both-true (is_tombstone v.body) (nat_lt v.rev.main c) e in record {
+      below = ltb-true v.rev.main c both.1;
+      why = inr (gone-body v.body both.0);
+    }
 
 -- where nothing before a tombstone goes, no version before it has its key
 no-earlier : (vs : List Version) (c : ℕ) (v : Version) (us : List Version) → v.rev.main ≤ c → ((u : Version) → replaces c u v ≡ true
@@ -275,7 +284,7 @@ no-earlier vs c v (u ∷ us) l f h g = (by (same_key u.key v.key) refl, no-earli
         let p : Replaces c u v = record { key = sym (same_key-eq u.key v.key e); later = g.0.0; by = l } in
         let m : u.rev.main ≤ v.rev.main = rev_lt-main u.rev v.rev g.0.0 in
         let x : true ≡ false = (λ i. sym (le-leb u.rev.main c (omega arith)) i && (sym (f u (replaces-as c u v p)) i
-                || (is_tombstone u.body && nat_lt u.rev.main c))) ∙ h.0 in cc
+        || (is_tombstone u.body && nat_lt u.rev.main c))) ∙ h.0 in cc
     by false e = refl
 
 -- what goes is not missed at the end of a revision from the compaction on
@@ -306,7 +315,7 @@ out-values n c r xs v ys k l h s left goes = by goes.why
     absent : v.key ≡ k → latest xs (end_of r) k ≡ None
     absent d = last_that-none (λ u. same_key u.key k && rev_le u.rev (end_of r)) xs
         (each-map (λ u. same_key u.key v.key ≡ false) (λ u. (same_key u.key k && rev_le u.rev (end_of r)) ≡ false) (λ u e. ap (λ b. b
-            && rev_le u.rev (end_of r)) (ap (same_key u.key) (sym d) ∙ e)) xs earlier)
+        && rev_le u.rev (end_of r)) (ap (same_key u.key) (sym d) ∙ e)) xs earlier)
 
     by : (is_superseded (xs ++ v ∷ ys) c v ≡ true) ⊎ (v.body ≡ Gone) → value_at (xs ++ v ∷ ys) (end_of r) k
         ≡ value_at (xs ++ ys) (end_of r) k

@@ -1,6 +1,6 @@
 -- What a store holds of its watches, as it grows.
-use Rattle.std.proofs.Common.{
-  ◌≡◌, ◌≤◌, ℕ, ◌+◌, List, [], ◌∷◌, ◌++◌, map, filter, Bool, true, false, ◌&&◌, cond, None, Some, refl, sym, ◌∙◌, ap, subst, arith}
+use Rattle.std.proofs.Common.{◌≡◌, ◌≤◌, ℕ, ◌+◌, List, [], ◌∷◌, ◌++◌, map, filter, Bool, true, false, ◌&&◌, cond, None, Some, refl, sym, ◌∙◌}
+use Rattle.std.proofs.Common.{ap, subst, arith}
 use Rattle.std.specs.Prelude.{nat_lt, nat_le, MatchBool, ⊤}
 use Rattle.std.specs.Option.{option_or}
 use Rattle.std.specs.List.{AllByRecursion}
@@ -12,8 +12,8 @@ use Rattle.kv_model.specs.Events.{matches}
 use Rattle.kv_model.specs.Txns.{added_by}
 use Rattle.kv_model.specs.World.{World, Watch, revision, versions, changed}
 use Rattle.kv_model.specs.Watches.{undelivered}
-use Rattle.store_laws.specs.Stands.{
-  Store, Tracked, TracksNext, Tracks, TracksAll, StandsFor, first_main_of, ahead_of, is_reached, still_ahead, noted, grown, grown_noted}
+use Rattle.store_laws.specs.Stands.{Store, Tracked, TracksNext, Tracks, TracksAll, StandsFor, first_main_of, ahead_of, is_reached}
+use Rattle.store_laws.specs.Stands.{still_ahead, noted, grown, grown_noted}
 use Rattle.store_laws.proofs.PlaceLaws.{each-map}
 use Rattle.store_laws.proofs.BatchLaws.{history-more, now-least, good-grows, dress-added, added_by-same, each-added}
 use Rattle.store_laws.proofs.StandsLaws.{value_now_stands, grown_revision}
@@ -43,14 +43,17 @@ ahead-after n m next l = by (nat_lt n next) refl
 
 module _ (ds new : List Version) (n m : ℕ) (at : AllByRecursion (λ v. v.rev.main ≡ n + 1) new) (l : n ≤ m) where
   next-noted : (t : Tracked) (w : Watch) → t.watched ≡ w.watched → TracksNext ds n t w
-      → TracksNext (ds ++ new) m (record t { first = option_or t.first (first_main_of (filter (λ v. is_reached t.ahead v.rev.main
-      && matches t.watched v) new)); ahead = still_ahead m t.ahead }) w
+      → TracksNext (ds ++ new) m (record t {
+        first = option_or t.first (first_main_of (filter (λ v. is_reached t.ahead v.rev.main
+            && matches t.watched v) new));
+        ahead = still_ahead m t.ahead;
+      }) w
   next-noted t w e h = record {
     first = (λ i. option_or (h.first i) (first_main_of (filter (λ v. is_reached (h.ahead i) v.rev.main && matches (e i) v) new)))
         ∙ ap (λ us. option_or (first_main_of (undelivered ds w)) (first_main_of us)) (filter-same (λ v. is_reached (ahead_of n w.next)
         v.rev.main && matches w.watched v) (λ v. nat_le w.next v.rev.main && matches w.watched v) new
         (each-map (λ v. v.rev.main ≡ n + 1) (λ v. (is_reached (ahead_of n w.next) v.rev.main && matches w.watched v)
-            ≡ (nat_le w.next v.rev.main && matches w.watched v))
+        ≡ (nat_le w.next v.rev.main && matches w.watched v))
         (λ v f. ap (λ b. b && matches w.watched v) (reached n w.next v.rev.main f)) new at))
         ∙ sym (first-append (undelivered ds w) (undelivered new w))
         ∙ ap first_main_of (sym (filter-append (λ v. nat_le w.next v.rev.main && matches w.watched v) ds new));
@@ -61,8 +64,11 @@ module _ (ds new : List Version) (n m : ℕ) (at : AllByRecursion (λ v. v.rev.m
   tracks-noted t w h = by t.late refl
     where
       by : (b : Bool) → t.late ≡ b
-          → Tracks (ds ++ new) m (cond b t (record t { first = option_or t.first (first_main_of (filter (λ v. is_reached t.ahead v.rev.main
-          && matches t.watched v) new)); ahead = still_ahead m t.ahead })) w
+          → Tracks (ds ++ new) m (cond b t (record t {
+            first = option_or t.first (first_main_of (filter (λ v. is_reached t.ahead v.rev.main
+                && matches t.watched v) new));
+            ahead = still_ahead m t.ahead;
+          })) w
       by true e = record {
         number = h.number;
         id = h.id;
@@ -76,8 +82,11 @@ module _ (ds new : List Version) (n m : ℕ) (at : AllByRecursion (λ v. v.rev.m
         watched = h.watched;
         late = h.late;
         next = subst (λ c. MatchBool c ⊤ (TracksNext (ds
-            ++ new) m (record t { first = option_or t.first (first_main_of (filter (λ v. is_reached t.ahead v.rev.main
-            && matches t.watched v) new)); ahead = still_ahead m t.ahead }) w))
+            ++ new) m (record t {
+              first = option_or t.first (first_main_of (filter (λ v. is_reached t.ahead v.rev.main
+                  && matches t.watched v) new));
+              ahead = still_ahead m t.ahead;
+            }) w))
             (sym e ∙ h.late) (next-noted t w h.watched (subst (λ c. MatchBool c ⊤ (TracksNext ds n t w)) (sym h.late ∙ e) h.next));
       }
 
@@ -101,11 +110,11 @@ noted_stands s w h us b = record {
   watches = subst (λ vs. TracksAll vs (revision (changed w us)) (map (noted (added_by s.versions us) (now_after s.revision us)) s.watches)
       w.watches) (sym (dress-added w.mutations us))
       (subst (λ new. TracksAll (versions w ++ added_by (versions w) us) (revision (changed w us)) (map (noted new (now_after s.revision us))
-          s.watches) w.watches) (sym (added_by-same s.versions (versions w) us (value_now_stands s w h)))
+      s.watches) w.watches) (sym (added_by-same s.versions (versions w) us (value_now_stands s w h)))
       (subst (λ r. TracksAll (versions w ++ added_by (versions w) us) (revision (changed w us)) (map (noted (added_by (versions w) us) r)
-          s.watches) w.watches) (sym (grown_revision s w h us))
+      s.watches) w.watches) (sym (grown_revision s w h us))
       (all-noted (versions w) (added_by (versions w) us) (revision w) (revision (changed w us)) (each-added (λ p k. p.main
-          ≡ revision w + 1) (versions w) us batch.at) (now-least w.mutations us batch.at) s.watches w.watches h.watches)));
+      ≡ revision w + 1) (versions w) us batch.at) (now-least w.mutations us batch.at) s.watches w.watches h.watches)));
 }
   where
     batch : IsBatch (now w.mutations + 1) us

@@ -1,6 +1,6 @@
 -- Laws of a history that grows by one command at a time, and of a store that stands for a world while it does.
-use Rattle.std.specs.Prelude.{
-  ◌≡◌, ◌≢◌, ◌⊎◌, ℕ, ◌+◌, ◌^◌, ◌≤◌, List, [], ◌++◌, length, Bool, false, None, Some, is_some, Ok, Err}
+use Rattle.std.specs.Prelude.{◌≡◌, ◌≢◌, ◌⊎◌, ℕ, ◌+◌, ◌^◌, ◌≤◌, List, [], ◌++◌, length, Bool, false, None, Some, is_some}
+use Rattle.std.specs.Prelude.{Ok, Err}
 use Rattle.std.specs.List.{AllByRecursion}
 use Rattle.kv_model.specs.declared.version.Rev.{Rev}
 use Rattle.kv_model.specs.declared.version.Version.{Version}
@@ -18,9 +18,8 @@ use Rattle.kv_model.specs.Step.{refused_or, commit_at, made_in, perform, expire}
 use Rattle.kv_model.specs.Wire.{raised}
 use Rattle.kv_model.specs.Questions.{IsKept, IsGood}
 use Rattle.store_laws.specs.Stands.{Store, StandsFor, grown_noted}
-use Rattle.store_laws.specs.Stores.{
-  refusal_of_range, reply_of_range, refusal_of_put, reply_of_put, changes_of_put, refusal_of_delete, reply_of_delete,
-  changes_of_delete}
+use Rattle.store_laws.specs.Stores.{refusal_of_range, reply_of_range, refusal_of_put, reply_of_put, changes_of_put}
+use Rattle.store_laws.specs.Stores.{refusal_of_delete, reply_of_delete, changes_of_delete}
 
 -- ---- histories
 

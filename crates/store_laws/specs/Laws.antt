@@ -47,8 +47,11 @@ NothingAfterDelete = (ms : List Mutation) (p q : Rev) (k : List ℕ) → IsBy p 
 abbrev pub FirstAfterDelete : Type 0
 FirstAfterDelete = (ms : List Mutation) (p q : Rev) (k value : List ℕ) (lease : ℤ)
     → (version_of ((ms ++ (record { rev = p; key = k; action = Action.delete }) ∷ [])
-    ++ (record { rev = q; key = k; action = Action.put value lease }) ∷ []) (record { rev = q; key = k;
-    action = Action.put value lease })).body
+    ++ (record { rev = q; key = k; action = Action.put value lease }) ∷ []) (record {
+      rev = q;
+      key = k;
+      action = Action.put value lease;
+    })).body
     ≡ Put q.main 1 lease value
 
 -- a range that has no key shows none

@@ -1,22 +1,21 @@
 -- What commands are answered, and what they change, told over a store that stands for a world.
-use Rattle.std.specs.Prelude.{
-  ℕ, ◌+◌, ◌^◌, ℤ, pos, negsuc, min, max, List, [], ◌∷◌, ◌++◌, ◌||◌, length, map, Bool, not, nat_lt, nat_le, Option,
-  None, Some}
+use Rattle.std.specs.Prelude.{ℕ, ◌+◌, ◌^◌, ℤ, pos, negsuc, min, max, List, [], ◌∷◌, ◌++◌, ◌||◌, length, map, Bool, not}
+use Rattle.std.specs.Prelude.{nat_lt, nat_le, Option, None, Some}
 use Rattle.std.specs.Option.{option_or}
 use Rattle.kv_model.specs.declared.call.RangeQuery.{RangeQuery}
 use Rattle.kv_model.specs.declared.call.PutRequest.{PutRequest}
 use Rattle.kv_model.specs.declared.call.DeleteRequest.{DeleteRequest}
 use Rattle.kv_model.specs.declared.call.Watched.{Watched}
 use Rattle.kv_model.specs.declared.refusal.Refusal.{Refusal}
-use Rattle.kv_model.specs.declared.refusal.Refusal.TheVariants.{
-  NoKey, TtlTooLarge, LeaseExists, TooManyLeases, LeaseMissing, TooManyWatches}
+use Rattle.kv_model.specs.declared.refusal.Refusal.TheVariants.{NoKey, TtlTooLarge, LeaseExists, TooManyLeases}
+use Rattle.kv_model.specs.declared.refusal.Refusal.TheVariants.{LeaseMissing, TooManyWatches}
 use Rattle.kv_model.specs.Lists.{is_empty}
 use Rattle.kv_model.specs.History.{Mutation, value_at, end_of}
 use Rattle.kv_model.specs.Ranges.{range_refusal, range_reply, live, keys_of, refuse_if}
-use Rattle.kv_model.specs.Txns.{
-  Path, path_of, put_fault, put_refusal, put_change, deletes_of, extend_all, replies_of, previous_value, if_asked}
-use Rattle.kv_model.specs.Leases.{
-  Lease, is_granted, id_asked, ttl_asked, deadline_of, longest_ttl, most_leases, keys_of_lease, renewed, seconds_left}
+use Rattle.kv_model.specs.Txns.{Path, path_of, put_fault, put_refusal, put_change, deletes_of, extend_all, replies_of}
+use Rattle.kv_model.specs.Txns.{previous_value, if_asked}
+use Rattle.kv_model.specs.Leases.{Lease, is_granted, id_asked, ttl_asked, deadline_of, longest_ttl, most_leases}
+use Rattle.kv_model.specs.Leases.{keys_of_lease, renewed, seconds_left}
 use Rattle.kv_model.specs.Calls.{Ops}
 use Rattle.store_laws.specs.Plans.{planned, planned_refusal}
 use Rattle.kv_model.specs.Told.{Reply}
@@ -91,8 +90,11 @@ refusal_of_grant s ttl id = option_or (refuse_if (nat_lt longest_ttl (ttl_asked 
 
 -- the lease that is granted
 abbrev pub granted_lease : Store → ℤ → ℤ → Lease
-granted_lease s ttl id = record { id = id_asked s.leases id; ttl = ttl_asked ttl;
-    deadline = deadline_of s.clock (ttl_asked ttl) }
+granted_lease s ttl id = record {
+  id = id_asked s.leases id;
+  ttl = ttl_asked ttl;
+  deadline = deadline_of s.clock (ttl_asked ttl);
+}
 
 abbrev pub refusal_of_revoke : Store → ℤ → Option Refusal
 refusal_of_revoke s id = refuse_if (not (is_granted s.leases id)) LeaseMissing
@@ -135,8 +137,14 @@ watch_made s watched start id = record {
 abbrev pub tracked_made : Store → Watched → ℤ → ℤ → Tracked
 tracked_made s watched start id =
     let w : Watch = watch_made s watched start id in
-    record { number = w.number; id = w.id; watched = w.watched; late = w.late;
-        first = first_main_of (undelivered s.versions w); ahead = ahead_of s.revision w.next }
+    record {
+      number = w.number;
+      id = w.id;
+      watched = w.watched;
+      late = w.late;
+      first = first_main_of (undelivered s.versions w);
+      ahead = ahead_of s.revision w.next;
+    }
 
 abbrev pub with_watch : Store → Tracked → Store
 with_watch s t = record s { watches = s.watches ++ t ∷ []; made = s.made + 1 }

@@ -1,6 +1,6 @@
 -- Laws of trimming: its rule takes out what no least list needs, and ends at the one least.
-use Rattle.std.specs.Prelude.{
-  ◌≡◌, ℕ, ◌≤◌, ◌<◌, ◌^◌, List, ◌++◌, filter, Bool, not, ◌&&◌, nat_le, Option, None, MatchOption, ⊤}
+use Rattle.std.specs.Prelude.{◌≡◌, ℕ, ◌≤◌, ◌<◌, ◌^◌, List, ◌++◌, filter, Bool, not, ◌&&◌, nat_le, Option, None}
+use Rattle.std.specs.Prelude.{MatchOption, ⊤}
 use Rattle.std.specs.List.{AllByRecursion}
 use Rattle.kv_model.specs.declared.version.Rev.{Rev}
 use Rattle.kv_model.specs.declared.version.Version.{Version}
