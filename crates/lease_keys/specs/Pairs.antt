@@ -1,6 +1,6 @@
 -- Pairs of a lease and a key, by leases.
-use Rattle.std.specs.Prelude.{◌≡◌, ℕ, ℤ, List, [], Bool, unwrap_or, if◌then◌else◌}
-use Rattle.std.specs.List.{list_any}
+use Rattle.std.specs.Prelude.{◌≡◌, ◌≢◌, ℕ, ℤ, List, [], Bool, unwrap_or, if◌then◌else◌}
+use Rattle.std.specs.List.{AllByRecursion, list_any}
 use Rattle.std.specs.Map.{lookup}
 use Rattle.std.specs.Ordering.{int_cmp, int_eq}
 use Rattle.std.specs.BTreeMap.{is_at}
@@ -10,6 +10,10 @@ use Rattle.kv_model.specs.Keys.{key_cmp, same_key}
 -- each lease with its keys
 abbrev pub Pairs : Type 0
 Pairs = List (ℤ × List (List ℕ))
+
+-- no lease that has an entry is without keys
+abbrev pub HaveKeys : Pairs → Type 0
+HaveKeys ps = AllByRecursion (λ e. e.1 ≢ []) ps
 
 -- the keys of a lease, none where it has no entry
 abbrev pub keys_at : ℤ → Pairs → List (List ℕ)

@@ -2,7 +2,7 @@
 ghost use Rattle.std.specs.Prelude.{◌≡◌, ℕ, [], ◌∷◌, map, take, IfOk, OnOk, OnErr};
 ghost use Rattle.kv_model.specs.Laws.{IsStrictlyAscending};
 ghost use Rattle.lease_keys.specs.Holding.{ArePut, lease_of};
-ghost use Rattle.lease_keys.specs.Pairs.{AreAdded, keys_at};
+ghost use Rattle.lease_keys.specs.Pairs.{AreAdded, HaveKeys, keys_at};
 
 use crate::set::KeySet;
 use bytes::Bytes;
@@ -11,7 +11,7 @@ use std::alloc::{AllocError, Global};
 use std::collections::BTreeMap;
 use std::marker::Model;
 
-/// Pairs of a lease and a key: of each lease an ordered set of its keys.
+/// Pairs of a lease and a key: of each lease an ordered set of its keys. A lease without keys has no entry.
 #[derive(Debug, Drop)]
 pub struct LeaseKeys {
     alloc: Global,
@@ -19,11 +19,13 @@ pub struct LeaseKeys {
 }
 
 impl Model for LeaseKeys {
-    ghost use Rattle.lease_keys.specs.Pairs.{Pairs};
+    ghost use Rattle.lease_keys.specs.Pairs.{HaveKeys, Pairs};
 
     ghost Value = { Pairs };
 
     ghost view = { λ x. x.leases.entries };
+
+    ghost invariant = { λ x. HaveKeys x.leases.entries };
 }
 
 impl LeaseKeys {
@@ -116,6 +118,7 @@ fn add(
 ) -> Result<(), AllocError>
     ensures ok { OnOk result (AreAdded lease key.now leases.old.entries leases.new.entries) }
     ensures err { OnErr result (leases.new.entries ≡ leases.old.entries) }
+    ensures kept { HaveKeys leases.old.entries → HaveKeys leases.new.entries }
 {
     if let Some(keys) = leases.get_mut(&lease) {
         return keys.add(alloc, key);
