@@ -121,6 +121,7 @@ sound-appended t vs h room n = subst (λ r. IsSound (record t { versions = t.ver
       (each-map (λ v. IsCountedTo t.revision v.body) (λ v. IsCountedTo (t.revision + 1) v.body) (λ v c. counted-more t.revision v.body c) t.versions h.counted) n.counted;
 })
 
--- a core whose tables grew, one changing call later
-pub grown-state : (t : Stored) (b : Book) (vs : List Version) (stamp : ℕ) → AreNext t.revision vs → core_state (appended t vs) b ((stamp + 1) % 2 ^ 64) ≡ with_versions (core_state t b stamp) vs
-grown-state t b vs stamp n = ap (λ r. core_state (record t { versions = t.versions ++ vs; revision = r }) b ((stamp + 1) % 2 ^ 64)) (next-main t.revision vs n)
+-- a core whose tables grew
+pub grown-state : (t : Stored) (b : Book) (vs : List Version) (stamp : ℕ) → AreNext t.revision vs
+    → core_state (appended t vs) b stamp ≡ with_versions (core_state t b stamp) vs
+grown-state t b vs stamp n = ap (λ r. core_state (record t { versions = t.versions ++ vs; revision = r }) b stamp) (next-main t.revision vs n)

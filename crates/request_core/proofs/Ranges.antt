@@ -1,31 +1,59 @@
 -- What a Range does, in each world that the core stands for.
-use Rattle.std.proofs.Common.{◌≡◌, ◌≢◌, ℕ, List, [], ◌∷◌, Bool, true, false, cond, None, Some, length, nat_eq, refl, ◌∙◌, arith}
+use Rattle.std.proofs.Common.{◌≡◌, ◌≢◌, ℕ, zero, suc, ℤ, pos, negsuc, List, [], ◌∷◌, Bool, true, false, cond, Option, None, Some}
+use Rattle.std.proofs.Common.{length, nat_eq, nat_lt, refl, sym, ◌∙◌, ap, arith, Bor}
+use Rattle.std.specs.Option.{option_or}
 use Rattle.std.proofs.lemmas.Bool.Decides.{nat_tests}
 use Rattle.kv_model.specs.declared.refusal.Refusal.{Refusal}
+use Rattle.kv_model.specs.declared.refusal.Refusal.TheVariants.{NoKey, Compacted, Future}
 use Rattle.kv_model.specs.declared.call.RangeQuery.{RangeQuery}
 use Rattle.kv_model.specs.declared.version.Version.{Version}
 use Rattle.kv_model.specs.declared.version.Rev.{Rev}
 use Rattle.kv_model.specs.Lists.{is_empty}
-use Rattle.kv_model.specs.Ranges.{RangeReply, range_reply, reply_from}
+use Rattle.kv_model.specs.Ranges.{RangeReply, range_reply, reply_from, refuse_if, revision_refusal}
 use Rattle.kv_model.specs.Calls.{Call}
-use Rattle.kv_model.specs.World.{World}
-use Rattle.kv_model.specs.Step.{perform}
-use Rattle.store_laws.specs.Stands.{Store, StandsFor}
-use Rattle.store_laws.specs.Stores.{refusal_of_range, reply_of_range}
+use Rattle.store_laws.specs.Stores.{refusal_of_range}
 use Rattle.store_laws.proofs.StandsCommands.{range_made, range_refused}
-use Rattle.request_core.specs.declared.answer.Receipt.{Receipt}
+use Rattle.request_core.specs.declared.answer.Todo.TheVariants as todo
 use Rattle.request_core.specs.State.{CoreState}
-use Rattle.request_core.specs.Answers.{Accepts, IsRefusal, answer_of, first_refusal}
-use Rattle.request_core.proofs.Worlds.{read_accepted, is_refused, own_refusal}
+use Rattle.request_core.specs.Answers.{is_memory}
+use Rattle.request_core.specs.Commands.{CarriesOut, Refuses}
+use Rattle.request_core.proofs.Worlds.{or-none-second, read_moves, is_refused, own_refusal}
 
-pub range_accepted : (s : CoreState) (w : World) (q : RangeQuery) (r : Receipt) → StandsFor s.store w → refusal_of_range s.store q ≡ None
-    → r.raised ≡ None → r.watch ≡ None → answer_of r s ≡ record { reply = reply_of_range s.store q; revision = s.store.revision }
-    → Accepts s r w (perform w (Call.range q)).0 (perform w (Call.range q)).1
-range_accepted s w q r h none = read_accepted s w (Call.range q) r (reply_of_range s.store q) h (range_made s.store w h q none)
+pub range_done : (s : CoreState) (q : Bor RangeQuery) → refusal_of_range s.store q.now ≡ None
+    → CarriesOut s s (Call.range q.now) (todo.Range q)
+range_done s q none = record {
+  makes = λ w h. record { after = w; made = range_made s.store w h q.now none; stands = h };
+  allowed = or-none-second _ (revision_refusal s.store.compacted s.store.revision q.now.revision) none;
+  beside = λ w h. refl;
+  moves = read_moves s false;
+}
 
-pub range_is_refused : (s : Store) (w : World) (q : RangeQuery) (e : Refusal) → StandsFor s w → refusal_of_range s q ≡ Some e
-    → IsRefusal e (first_refusal (perform w (Call.range q)).0)
-range_is_refused s w q e h one = is_refused w (Call.range q) e (Some e) (own_refusal e) (λ f same. range_refused s w h q f (one ∙ same))
+-- ---- what is refused is not for want of memory
+
+or-free : (a b : Option Refusal) (e : Refusal) → (a ≡ Some e → is_memory e ≡ false) → (b ≡ Some e → is_memory e ≡ false)
+    → option_or a b ≡ Some e → is_memory e ≡ false
+or-free (Some f) b e one two h = one h
+or-free None b e one two h = two h
+
+if-free : (t : Bool) (f e : Refusal) → is_memory f ≡ false → refuse_if t f ≡ Some e → is_memory e ≡ false
+if-free true f e free h = let same : f ≡ e = cc in ap is_memory (sym same) ∙ free
+if-free false f e free h = cc
+
+revision-free : (c now : ℕ) (r : ℤ) (e : Refusal) → revision_refusal c now r ≡ Some e → is_memory e ≡ false
+revision-free c now (pos zero) e h = cc
+revision-free c now (negsuc n) e h = cc
+revision-free c now (pos (suc r)) e h = or-free (refuse_if (nat_lt (suc r) c) (Compacted c)) (refuse_if (nat_lt now (suc r)) (Future now)) e
+    (if-free (nat_lt (suc r) c) (Compacted c) e refl) (if-free (nat_lt now (suc r)) (Future now) e refl) h
+
+pub range_refuses : (s : CoreState) (q : RangeQuery) (e : Refusal) → refusal_of_range s.store q ≡ Some e → Refuses s s (Call.range q) e
+range_refuses s q e one = record {
+  refused = λ w h. is_refused w (Call.range q) e (Some e) (own_refusal e) (λ f same. range_refused s.store w h q f (one ∙ same));
+  free = λ no. or-free (refuse_if (is_empty q.range.key) NoKey) (revision_refusal s.store.compacted s.store.revision q.revision) e
+      (if-free (is_empty q.range.key) NoKey e refl) (revision-free s.store.compacted s.store.revision q.revision e) one;
+  kept = refl;
+}
+
+-- ---- its answer
 
 pub empty-length : {X : Type 0} (xs : List X) → nat_eq (length xs) 0 ≡ is_empty xs
 empty-length [] = refl

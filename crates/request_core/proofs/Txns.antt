@@ -1,13 +1,13 @@
 -- What a transaction does, in each world that the core stands for.
-use Rattle.std.proofs.Common.{◌≡◌, ◌≢◌, ◌⊎◌, inl, inr, ℕ, ◌+◌, ◌<◌, ◌≤◌, ◌^◌, ◌&&◌, List, [], ◌∷◌, ◌++◌, length, map, Bool, true, false, cond, not, Option, None, Some, Ok, Err, refl, sym, ◌∙◌, ap, subst, arith, append-nil, lt-ltb, le-ltb}
+use Rattle.std.proofs.Common.{◌≡◌, ◌≢◌, ◌⊎◌, inl, inr, ℕ, ◌+◌, ◌<◌, ◌≤◌, ◌^◌, ◌&&◌, List, [], ◌∷◌, ◌++◌, length, map, Vec, Global}
+use Rattle.std.proofs.Common.{Bool, true, false, not, Option, None, Some, Ok, Err, refl, sym, ◌∙◌, ap, subst, arith, append-nil}
 use Rattle.std.specs.Option.{option_or}
 use Rattle.std.specs.List.{AllByRecursion}
-use Rattle.kv_model.specs.declared.call.Compare.{Compare}
 use Rattle.kv_model.specs.declared.call.Txn.{Txn}
 use Rattle.kv_model.specs.declared.refusal.Refusal.{Refusal}
 use Rattle.kv_model.specs.declared.refusal.Refusal.TheVariants.{Memory, RevisionsSpent}
 use Rattle.kv_model.specs.declared.version.Version.{Version}
-use Rattle.kv_model.specs.Calls.{Call, Ops, as_call, txn_view}
+use Rattle.kv_model.specs.Calls.{Ops, as_call, txn_view}
 use Rattle.kv_model.specs.History.{Mutation, end_of, rev_le}
 use Rattle.kv_model.specs.Leases.{is_granted}
 use Rattle.kv_model.specs.Lists.{is_empty}
@@ -15,9 +15,9 @@ use Rattle.store_laws.specs.Plans.{ReadsKept}
 use Rattle.kv_model.specs.Ranges.{refuse_if}
 use Rattle.kv_model.specs.Told.{Reply}
 use Rattle.kv_model.specs.Txns.{Path, next_version, extend_all, static_fault, walk_fault, changes_of, replies_of}
-use Rattle.kv_model.specs.World.{World, changed}
+use Rattle.kv_model.specs.World.{World}
 use Rattle.kv_model.specs.Wire.{changes_beside}
-use Rattle.kv_model.specs.Step.{last_main, made_in, perform, refused_or, commit_at, succeeded, inner_path}
+use Rattle.kv_model.specs.Step.{last_main, made_in, refused_or, commit_at, succeeded, inner_path}
 use Rattle.store_laws.specs.Stands.{Store, StandsFor, grown}
 use Rattle.store_laws.specs.Stores.{path_in, refusal_of_path, changes_of_path, reply_of_path}
 use Rattle.store_laws.proofs.CountLaws.{changes_counted, branch_changes}
@@ -28,12 +28,16 @@ use Rattle.store_laws.proofs.ReplyLaws.{not-refused-reads}
 use Rattle.store_laws.proofs.StandsTxns.{txn_refused, txn_told}
 use Rattle.request_core.proofs.Quiet.{txn_stands}
 use Rattle.range_view.specs.Stored.{IsUpTo}
+use Rattle.txn_core.specs.declared.step.Step.{Step}
+use Rattle.txn_core.specs.Steps.{steps_view}
 use Rattle.txn_core.proofs.Walking.{txn_view-out}
-use Rattle.request_core.specs.declared.answer.Receipt.{Receipt}
-use Rattle.request_core.specs.State.{CoreState, is_spent, with_versions, fault_of_txn, added_by, added_by_txn, with_some, after_txn, raised_from}
-use Rattle.request_core.specs.Answers.{Accepts, CanReply, IsRefusal, answer_of, first_refusal}
+use Rattle.request_core.specs.declared.answer.Todo.TheVariants as todo
+use Rattle.request_core.specs.State.{CoreState, is_spent, with_any, with_versions, fault_of_txn, added_by, added_by_txn, after_txn}
+use Rattle.request_core.specs.Answers.{CanReply, IsRefusal}
+use Rattle.request_core.specs.Commands.{CarriesOut, Makes, Moves, Refuses, takes_memory}
 use Rattle.request_core.proofs.Planned.{planned-from, from-now, planned-extends}
-use Rattle.request_core.proofs.Worlds.{or-none-first, or-none-second, not-spent, spent-by, change_accepted, read_accepted, is_refused, own_refusal, raised-not, raised-by}
+use Rattle.request_core.proofs.Worlds.{or-none-first, or-none-second, not-spent, any_moves, changed_by, committed, made_first, refused_first}
+use Rattle.request_core.proofs.Worlds.{commit_made, commit_spent, is_refused, own_refusal}
 
 -- ---- a transaction is a row of one
 
@@ -91,11 +95,11 @@ txn_room s ops vs none e some = by (changes_of_path s (path_in s ops)) refl
 
 -- ---- what it leaves
 
-some-versions : (s : CoreState) (vs : List Version) → (with_some s vs).store.versions ≡ s.store.versions ++ vs
+some-versions : (s : CoreState) (vs : List Version) → (with_any s vs).store.versions ≡ s.store.versions ++ vs
 some-versions s [] = sym (append-nil s.store.versions)
 some-versions s (v ∷ vs) = refl
 
-some-compacted : (s : CoreState) (vs : List Version) → (with_some s vs).store.compacted ≡ s.store.compacted
+some-compacted : (s : CoreState) (vs : List Version) → (with_any s vs).store.compacted ≡ s.store.compacted
 some-compacted s [] = refl
 some-compacted s (v ∷ vs) = refl
 
@@ -111,15 +115,6 @@ left-versions s new ops none e = ap (λ (t : CoreState). t.store.versions) e ∙
 left-compacted : (s new : CoreState) (ops : Ops) → new ≡ after_txn s ops → new.store.compacted ≡ s.store.compacted
 left-compacted s new ops e = ap (λ (t : CoreState). t.store.compacted) e ∙ some-compacted s (added_by_txn s.store ops)
 
--- nothing is left changed where the revision did not rise
-pub txn_unraised : (s new : CoreState) (ops : Ops) (r : Receipt) → new ≡ after_txn s ops → r.raised ≡ raised_from s.store.revision new.store.revision → r.raised ≡ None → new ≡ s
-txn_unraised s new ops r e up none = by (added_by_txn s.store ops) e
-  where
-    by : (vs : List Version) → new ≡ with_some s vs → new ≡ s
-    by [] is = is
-    by (v ∷ vs) is =
-        let bad : Some (s.store.revision + 1) ≡ None = sym (raised-by s.store.revision new.store.revision (ap (λ (t : CoreState). t.store.revision) is)) ∙ sym up ∙ none in cc
-
 -- ---- what is read of it
 
 -- the versions that are kept stand at the end of their revision or before it
@@ -127,149 +122,130 @@ pub kept-by : (r : ℕ) (vs : List Version) → IsUpTo r vs → AllByRecursion (
 kept-by r [] upto places = tt
 kept-by r (v ∷ vs) upto places = (rev_le-end v.rev r upto.0 places.0, kept-by r vs upto.1 places.1)
 
--- what ran of an accepted transaction can be answered on what it left
-pub txn_readable : (s new : CoreState) (ops : Ops) (b : Bool) (inner : Path) → IsUpTo s.store.revision s.store.versions
-    → AllByRecursion (λ v. v.rev.sub < 2 ^ 64) s.store.versions → s.store.revision ≤ last_main → fault_of_txn s.store ops ≡ None
-    → new ≡ after_txn s ops → Path.txn b inner Path.end ≡ path_in s.store ops → length (changes_of_path s.store (path_in s.store ops)) < 2 ^ 64 → CanReply new.store s.store.revision inner
-txn_readable s new ops b inner upto places fits none e path few =
-    let q : Path = path_in s.store ops in
-    let reads : ReadsKept s.store.compacted s.store.revision (Path.txn b inner Path.end)
-    = subst (ReadsKept s.store.compacted s.store.revision) (sym path) (not-refused-reads (is_granted s.store.leases) s.store.compacted s.store.revision s.store.versions q (faultless s.store ops none).1) in
-    let count : changes_of new.store.versions (s.store.revision + 1) 0 inner ≡ length (changes_of_path s.store q)
-    = sym (branch_changes new.store.versions (s.store.revision + 1) 0 b inner)
-    ∙ (λ i. changes_of (left-versions s new ops none e i) (s.store.revision + 1) 0 (path i))
-    ∙ changes_counted s.store.versions s.store.revision q (kept-by s.store.revision s.store.versions upto places) (checked-clear s.store ops none) in
-    record {
-      reads = subst (λ c. ReadsKept c s.store.revision inner) (sym (left-compacted s new ops e)) reads.0;
-      few = subst (λ n. n < 2 ^ 64) (sym count) few;
-      fits = omega arith;
-    }
-
 -- ---- an accepted transaction
 
--- the answer, read on what it left
-left-answer : (s new : CoreState) (ops : Ops) (b : Bool) (inner : Path) → fault_of_txn s.store ops ≡ None → new ≡ after_txn s ops → Path.txn b inner Path.end ≡ path_in s.store ops
+-- a transaction that a core without watches ran: whether its compares held, and the operations that ran
+pub record WasRun (s new : CoreState) (ops : Ops) (b : Bool) (inner : Path) : Type 0 where
+  pub quiet : s.store.watches ≡ []
+  pub upto : IsUpTo s.store.revision s.store.versions
+  pub places : AllByRecursion (λ v. v.rev.sub < 2 ^ 64) s.store.versions
+  pub fits : s.store.revision ≤ last_main
+  pub clear : fault_of_txn s.store ops ≡ None
+  pub made : new ≡ after_txn s ops
+  pub path : Path.txn b inner Path.end ≡ path_in s.store ops
+  pub few : length (changes_of_path s.store (path_in s.store ops)) < 2 ^ 64
+
+-- what ran can be answered on what was left
+txn-readable : (s new : CoreState) (ops : Ops) (b : Bool) (inner : Path) → WasRun s new ops b inner → CanReply new.store s.store.revision inner
+txn-readable s new ops b inner was =
+    let q : Path = path_in s.store ops in
+    let reads : ReadsKept s.store.compacted s.store.revision (Path.txn b inner Path.end)
+    = subst (ReadsKept s.store.compacted s.store.revision) (sym was.path)
+      (not-refused-reads (is_granted s.store.leases) s.store.compacted s.store.revision s.store.versions q (faultless s.store ops was.clear).1) in
+    let count : changes_of new.store.versions (s.store.revision + 1) 0 inner ≡ length (changes_of_path s.store q)
+    = sym (branch_changes new.store.versions (s.store.revision + 1) 0 b inner)
+    ∙ (λ i. changes_of (left-versions s new ops was.clear was.made i) (s.store.revision + 1) 0 (was.path i))
+    ∙ changes_counted s.store.versions s.store.revision q (kept-by s.store.revision s.store.versions was.upto was.places)
+      (checked-clear s.store ops was.clear) in
+    record {
+      reads = subst (λ c. ReadsKept c s.store.revision inner) (sym (left-compacted s new ops was.made)) reads.0;
+      few = subst (λ n. n < 2 ^ 64) (sym count) was.few;
+      fits = let fits : s.store.revision ≤ last_main = was.fits in omega arith;
+    }
+
+-- the answer, read on what was left
+left-answer : (s new : CoreState) (ops : Ops) (b : Bool) (inner : Path) → WasRun s new ops b inner
     → Reply.txn b (replies_of new.store.versions new.store.compacted s.store.revision 0 inner) ≡ reply_of_path s.store (path_in s.store ops)
-left-answer s new ops b inner none e path =
-    λ i. Reply.txn (succeeded (path i)) (replies_of (left-versions s new ops none e i) (left-compacted s new ops e i) s.store.revision 0 (inner_path (path i)))
+left-answer s new ops b inner was = λ i. Reply.txn (succeeded (was.path i))
+    (replies_of (left-versions s new ops was.clear was.made i) (left-compacted s new ops was.made i) s.store.revision 0 (inner_path (was.path i)))
 
-some-left : (s : CoreState) (vs : List Version) → vs ≢ [] → with_some s vs ≡ with_versions s vs
-some-left s [] some = absurd (some refl)
-some-left s (v ∷ vs) some = refl
-
--- a transaction that changes something
-some-accepted : (s new : CoreState) (w : World) (cs : List Compare) (x y : Ops) (b : Bool) (inner : Path) (r : Receipt) (u : Mutation) (us : List Mutation) → StandsFor s.store w → s.store.watches ≡ []
-    → fault_of_txn s.store (Ops.txn cs x y Ops.no_ops) ≡ None → new ≡ after_txn s (Ops.txn cs x y Ops.no_ops) → Path.txn b inner Path.end ≡ path_in s.store (Ops.txn cs x y Ops.no_ops)
-    → changes_of_path s.store (path_in s.store (Ops.txn cs x y Ops.no_ops)) ≡ u ∷ us
-    → length (changes_of_path s.store (path_in s.store (Ops.txn cs x y Ops.no_ops))) < 2 ^ 64
-    → r.raised ≡ raised_from s.store.revision new.store.revision → r.watch ≡ None
-    → answer_of r new ≡ record { reply = Reply.txn b (replies_of new.store.versions new.store.compacted s.store.revision 0 inner); revision = new.store.revision }
-    → Accepts new r w (perform w (Call.txn cs x y)).0 (perform w (Call.txn cs x y)).1
-some-accepted s new w cs x y b inner r u us h quiet none e path is few up unwatched told =
-    let ops : Ops = Ops.txn cs x y Ops.no_ops in
+-- the store grows by its changes, where there are some
+txn-grows : (s : CoreState) (ops : Ops) → fault_of_txn s.store ops ≡ None → changes_of_path s.store (path_in s.store ops) ≢ []
+    → grown s.store (changes_of_path s.store (path_in s.store ops)) ≡ (after_txn s ops).store
+txn-grows s ops clear some =
     let q : Path = path_in s.store ops in
-    let ms : List Mutation = changes_of_path s.store q in
-    let clear = faultless s.store ops none in
-    let some : ms ≢ [] = λ (f : ms ≡ []). (let bad : u ∷ us ≡ [] = sym is ∙ f in cc) in
-    let added : added_by_txn s.store ops ≢ [] = λ (f : added_by_txn s.store ops ≡ []). (let bad : map (next_version s.store.versions) (u ∷ us) ≡ [] = ap (map (next_version s.store.versions)) (sym is) ∙ f in cc) in
-    let room : s.store.revision < last_main = txn_room s.store ops (added_by_txn s.store ops) none refl added in
-    let left : new ≡ with_versions s (added_by_txn s.store ops) = e ∙ some-left s (added_by_txn s.store ops) added in
-    let rose : new.store.revision ≡ s.store.revision + 1 = ap (λ (t : CoreState). t.store.revision) left in
-    let next : (grown s.store ms).revision ≡ s.store.revision + 1 = from-now s.store.revision (s.store.revision + 1) 0 ms some (planned-from s.store.versions (s.store.revision + 1) [] q tt) in
-    let grew : grown s.store ms ≡ new.store
-    = (λ i. record s.store { versions = planned-extends s.store.versions (s.store.revision + 1) q (checked-clear s.store ops none) i; revision = next i }) ∙ sym (ap (λ (t : CoreState). t.store) left) in
-    change_accepted s new w (Call.txn cs x y) r (reply_of_path s.store q) ms h
-    (txn_told s.store w h cs x y clear.0 ∙ ap (λ o. refused_or o (commit_at s.store.revision (reply_of_path s.store q) w ms)) clear.1
-    ∙ ap (λ us. commit_at s.store.revision (reply_of_path s.store q) w us) is
-    ∙ ap (λ c. cond c (Ok (reply_of_path s.store q, changed w (u ∷ us))) (Err RevisionsSpent)) (lt-ltb s.store.revision last_main room)
-    ∙ ap (λ us. Ok (reply_of_path s.store q, changed w us)) (sym is))
-    (subst (λ t. StandsFor t (changed w ms)) grew (txn_stands s.store w h quiet ops clear.0 (omega (arith, few))))
-    next (up ∙ raised-by s.store.revision new.store.revision rose) unwatched
-    (told ∙ λ i. record { reply = left-answer s new ops b inner none e path i; revision = rose i })
-
--- and one that changes nothing
-nothing-accepted : (s new : CoreState) (w : World) (cs : List Compare) (x y : Ops) (b : Bool) (inner : Path) (r : Receipt) → StandsFor s.store w
-    → fault_of_txn s.store (Ops.txn cs x y Ops.no_ops) ≡ None → new ≡ after_txn s (Ops.txn cs x y Ops.no_ops) → Path.txn b inner Path.end ≡ path_in s.store (Ops.txn cs x y Ops.no_ops)
-    → changes_of_path s.store (path_in s.store (Ops.txn cs x y Ops.no_ops)) ≡ []
-    → r.raised ≡ raised_from s.store.revision new.store.revision → r.watch ≡ None
-    → answer_of r new ≡ record { reply = Reply.txn b (replies_of new.store.versions new.store.compacted s.store.revision 0 inner); revision = new.store.revision }
-    → Accepts new r w (perform w (Call.txn cs x y)).0 (perform w (Call.txn cs x y)).1
-nothing-accepted s new w cs x y b inner r h none e path is up unwatched told =
-    let ops : Ops = Ops.txn cs x y Ops.no_ops in
-    let q : Path = path_in s.store ops in
-    let clear = faultless s.store ops none in
-    let left : new ≡ s = e ∙ ap (λ us. with_some s (map (next_version s.store.versions) us)) is in
-    let same : new.store.revision ≡ s.store.revision = ap (λ (t : CoreState). t.store.revision) left in
-    subst (λ (t : CoreState). Accepts t r w (perform w (Call.txn cs x y)).0 (perform w (Call.txn cs x y)).1) (sym left)
-    (read_accepted s w (Call.txn cs x y) r (reply_of_path s.store q) h
-    (txn_told s.store w h cs x y clear.0 ∙ ap (λ o. refused_or o (commit_at s.store.revision (reply_of_path s.store q) w (changes_of_path s.store q))) clear.1
-    ∙ ap (λ us. commit_at s.store.revision (reply_of_path s.store q) w us) is)
-    (up ∙ ap (λ n. raised_from s.store.revision n) same ∙ raised-not s.store.revision (Some s.store.revision)) unwatched
-    (sym (ap (λ (t : CoreState). answer_of r t) left) ∙ told ∙ λ i. record { reply = left-answer s new ops b inner none e path i; revision = same i }))
-
-txn_accepted : (s new : CoreState) (w : World) (t : Txn) (b : Bool) (inner : Path) (r : Receipt) → StandsFor s.store w → s.store.watches ≡ []
-    → fault_of_txn s.store (txn_view t) ≡ None → new ≡ after_txn s (txn_view t) → Path.txn b inner Path.end ≡ path_in s.store (txn_view t)
-    → length (changes_of_path s.store (path_in s.store (txn_view t))) < 2 ^ 64
-    → r.raised ≡ raised_from s.store.revision new.store.revision → r.watch ≡ None
-    → answer_of r new ≡ record { reply = Reply.txn b (replies_of new.store.versions new.store.compacted s.store.revision 0 inner); revision = new.store.revision }
-    → Accepts new r w (perform w (as_call (txn_view t))).0 (perform w (as_call (txn_view t))).1
-txn_accepted s new w t b inner r h quiet = subst Goal (sym (txn_view-out t)) (λ none e path few up unwatched told. by _ _ _ none e path few up unwatched told (changes_of_path s.store (path_in s.store _)) refl)
+    let rose : (grown s.store (changes_of_path s.store q)).revision ≡ s.store.revision + 1
+    = from-now s.store.revision (s.store.revision + 1) 0 (changes_of_path s.store q) some
+      (planned-from s.store.versions (s.store.revision + 1) [] q tt) in
+    (λ i. record s.store { versions = planned-extends s.store.versions (s.store.revision + 1) q (checked-clear s.store ops clear) i; revision = rose i })
+    ∙ sym (any-some s (changes_of_path s.store q) some)
   where
-    Goal : Ops → Type 0
-    Goal ops = fault_of_txn s.store ops ≡ None → new ≡ after_txn s ops → Path.txn b inner Path.end ≡ path_in s.store ops → length (changes_of_path s.store (path_in s.store ops)) < 2 ^ 64
-        → r.raised ≡ raised_from s.store.revision new.store.revision → r.watch ≡ None
-        → answer_of r new ≡ record { reply = Reply.txn b (replies_of new.store.versions new.store.compacted s.store.revision 0 inner); revision = new.store.revision }
-        → Accepts new r w (perform w (as_call ops)).0 (perform w (as_call ops)).1
+    any-some : (s : CoreState) (us : List Mutation) → us ≢ []
+        → (with_any s (map (next_version s.store.versions) us)).store ≡ (with_versions s (map (next_version s.store.versions) us)).store
+    any-some s [] some = absurd (some refl)
+    any-some s (u ∷ us) some = refl
 
-    by : (cs : List Compare) (x y : Ops) → fault_of_txn s.store (Ops.txn cs x y Ops.no_ops) ≡ None → new ≡ after_txn s (Ops.txn cs x y Ops.no_ops)
-        → Path.txn b inner Path.end ≡ path_in s.store (Ops.txn cs x y Ops.no_ops) → length (changes_of_path s.store (path_in s.store (Ops.txn cs x y Ops.no_ops))) < 2 ^ 64
-        → r.raised ≡ raised_from s.store.revision new.store.revision → r.watch ≡ None
-        → answer_of r new ≡ record { reply = Reply.txn b (replies_of new.store.versions new.store.compacted s.store.revision 0 inner); revision = new.store.revision }
-        → (us : List Mutation) → changes_of_path s.store (path_in s.store (Ops.txn cs x y Ops.no_ops)) ≡ us → Accepts new r w (perform w (Call.txn cs x y)).0 (perform w (Call.txn cs x y)).1
-    by cs x y none e path few up unwatched told [] is = nothing-accepted s new w cs x y b inner r h none e path is up unwatched told
-    by cs x y none e path few up unwatched told (u ∷ us) is = some-accepted s new w cs x y b inner r u us h quiet none e path is few up unwatched told
+txn-stays : (s : CoreState) (ops : Ops) → changes_of_path s.store (path_in s.store ops) ≡ [] → s.store ≡ (after_txn s ops).store
+txn-stays s ops none = sym (ap (λ us. (with_any s (map (next_version s.store.versions) us)).store) none)
 
--- in the form that `apply_txn` cites, with the revision that it noted
-pub txn_done : (s new : CoreState) (w : World) (t : Txn) (b : Bool) (inner : Path) (r : Receipt) (n : ℕ) → n ≡ s.store.revision → StandsFor s.store w → s.store.watches ≡ []
-    → fault_of_txn s.store (txn_view t) ≡ None → new ≡ after_txn s (txn_view t) → Path.txn b inner Path.end ≡ path_in s.store (txn_view t)
-    → length (changes_of_path s.store (path_in s.store (txn_view t))) < 2 ^ 64
-    → r.raised ≡ raised_from n new.store.revision → r.watch ≡ None
-    → answer_of r new ≡ record { reply = Reply.txn b (replies_of new.store.versions new.store.compacted n 0 inner); revision = new.store.revision }
-    → Accepts new r w (perform w (as_call (txn_view t))).0 (perform w (as_call (txn_view t))).1
-txn_done s new w t b inner r n same h quiet none e path few up unwatched told = txn_accepted s new w t b inner r h quiet none e path few
-    (up ∙ ap (λ m. raised_from m new.store.revision) same) unwatched
-    (told ∙ ap (λ m. record { reply = Reply.txn b (replies_of new.store.versions new.store.compacted m 0 inner); revision = new.store.revision }) same)
+-- a transaction of the program as the model takes it
+txn-told : (s : Store) (w : World) → StandsFor s w → (t : Txn) → static_fault (txn_view t) ≡ None → made_in w (as_call (txn_view t))
+    ≡ refused_or (refusal_of_path s (path_in s (txn_view t)))
+    (commit_at s.revision (reply_of_path s (path_in s (txn_view t))) w (changes_of_path s (path_in s (txn_view t))))
+txn-told s w h t = subst (λ (ops : Ops). static_fault ops ≡ None → made_in w (as_call ops) ≡ refused_or (refusal_of_path s (path_in s ops))
+    (commit_at s.revision (reply_of_path s (path_in s ops)) w (changes_of_path s (path_in s ops)))) (sym (txn_view-out t)) (txn_told s w h _ _ _)
+
+txn-makes : (s new : CoreState) (t : Txn) (b : Bool) (inner : Path) → WasRun s new (txn_view t) b inner → (w : World) → StandsFor s.store w
+    → Makes w (as_call (txn_view t)) (reply_of_path s.store (path_in s.store (txn_view t))) (after_txn s (txn_view t)).store
+txn-makes s new t b inner was w h =
+    let ops : Ops = txn_view t in
+    let q : Path = path_in s.store ops in
+    let us : List Mutation = changes_of_path s.store q in
+    let few : length us < 2 ^ 64 = was.few in
+    let static : static_fault ops ≡ None = (faultless s.store ops was.clear).0 in
+    record {
+      after = changed_by w us;
+      made = txn-told s.store w h t static ∙ made_first (refusal_of_path s.store q) _ _ _ (commit_made s.store.revision (reply_of_path s.store q) w us)
+          (or-none-second (static_fault ops) _ was.clear);
+      stands = committed s.store (after_txn s ops).store us w (record {
+        stood = h;
+        stands = txn_stands s.store w h was.quiet ops static (omega arith);
+        grows = txn-grows s ops was.clear;
+        stays = txn-stays s ops;
+      });
+    }
+
+pub txn_done : (s new : CoreState) (t : Txn) (b : Bool) (steps : Vec Step Global) → WasRun s new (txn_view t) b (steps_view steps.items)
+    → CarriesOut s new (as_call (txn_view t)) (todo.Txn s.store.revision b steps)
+txn_done s new t b steps was =
+    let left : new ≡ after_txn s (txn_view t) = was.made in
+    record {
+      makes = λ w h. subst (λ (n : CoreState). Makes w (as_call (txn_view t))
+              (Reply.txn b (replies_of new.store.versions new.store.compacted s.store.revision 0 (steps_view steps.items))) n.store) (sym left)
+          (subst (λ r. Makes w (as_call (txn_view t)) r (after_txn s (txn_view t)).store)
+              (sym (left-answer s new (txn_view t) b (steps_view steps.items) was)) (txn-makes s new t b (steps_view steps.items) was w h));
+      allowed = txn-readable s new (txn_view t) b (steps_view steps.items) was;
+      beside = λ w h. sym (txn-beside w t);
+      moves = subst (λ (n : CoreState). Moves s n false) (sym left) (any_moves s (added_by_txn s.store (txn_view t)) false);
+    }
 
 -- ---- a refused one
 
-spent-path : (s : Store) (w : World) (q : Path) (e : Refusal) (us : List Mutation) → changes_of_path s q ≡ us
-    → refuse_if (not (is_empty us) && is_spent s.revision) RevisionsSpent ≡ Some e → commit_at s.revision (reply_of_path s q) w us ≡ Err e
-spent-path s w q e [] is one = cc
-spent-path s w q e (u ∷ us) is one =
-    let spent = spent-by s.revision e one in
-    ap (λ c. cond c (Ok (reply_of_path s q, changed w (u ∷ us))) (Err RevisionsSpent)) (le-ltb s.revision last_main spent.0) ∙ ap (λ f. Err f) spent.1
+txn-static : (w : World) (t : Txn) (e : Refusal) → static_fault (txn_view t) ≡ Some e → made_in w (as_call (txn_view t)) ≡ Err e
+txn-static w t e = subst (λ (ops : Ops). static_fault ops ≡ Some e → made_in w (as_call ops) ≡ Err e) (sym (txn_view-out t)) (txn_refused w _ _ _ e)
 
-not-made : (s : Store) (w : World) (cs : List Compare) (x y : Ops) (e : Refusal) → StandsFor s w → fault_of_txn s (Ops.txn cs x y Ops.no_ops) ≡ Some e → made_in w (Call.txn cs x y) ≡ Err e
-not-made s w cs x y e h one = by (static_fault ops) refl one
+-- the model refuses a transaction as the store does
+txn-refused : (s : Store) (w : World) (t : Txn) (e : Refusal) → StandsFor s w → fault_of_txn s (txn_view t) ≡ Some e
+    → made_in w (as_call (txn_view t)) ≡ Err e
+txn-refused s w t e h one = by (static_fault (txn_view t)) refl one
   where
-    ops : Ops
-    ops = Ops.txn cs x y Ops.no_ops
+    q : Path
+    q = path_in s (txn_view t)
 
-    spent : Option Refusal
-    spent = refuse_if (not (is_empty (changes_of_path s (path_in s ops))) && is_spent s.revision) RevisionsSpent
+    by : (o : Option Refusal) → static_fault (txn_view t) ≡ o
+        → option_or o (option_or (refusal_of_path s q) (refuse_if (not (is_empty (changes_of_path s q)) && is_spent s.revision) RevisionsSpent)) ≡ Some e
+        → made_in w (as_call (txn_view t)) ≡ Err e
+    by (Some f) is one = txn-static w t e (is ∙ one)
+    by None is one = txn-told s w h t is
+        ∙ refused_first (refusal_of_path s q) _ _ e (commit_spent s.revision (reply_of_path s q) w (changes_of_path s q) e) one
 
-    at : (o : Option Refusal) → refusal_of_path s (path_in s ops) ≡ o → option_or o spent ≡ Some e → refused_or o (commit_at s.revision (reply_of_path s (path_in s ops)) w (changes_of_path s (path_in s ops))) ≡ Err e
-    at (Some f) is one = let same : f ≡ e = cc in ap (λ f. Err f) same
-    at None is one = spent-path s w (path_in s ops) e (changes_of_path s (path_in s ops)) refl one
+txn-takes_memory : (t : Txn) → takes_memory (as_call (txn_view t)) ≡ true
+txn-takes_memory t = subst (λ (ops : Ops). takes_memory (as_call ops) ≡ true) (sym (txn_view-out t)) refl
 
-    by : (o : Option Refusal) → static_fault ops ≡ o → option_or o (option_or (refusal_of_path s (path_in s ops)) spent) ≡ Some e → made_in w (Call.txn cs x y) ≡ Err e
-    by (Some f) is one = txn_refused w cs x y e (is ∙ one)
-    by None is one = txn_told s w h cs x y is ∙ at (refusal_of_path s (path_in s ops)) refl one
-
-refused-at : (s : Store) (w : World) (cs : List Compare) (x y : Ops) (e : Refusal) → StandsFor s w → IsRefusal e (fault_of_txn s (Ops.txn cs x y Ops.no_ops))
-    → IsRefusal e (first_refusal (perform w (Call.txn cs x y)).0)
-refused-at s w cs x y e h r = is_refused w (Call.txn cs x y) e (fault_of_txn s (Ops.txn cs x y Ops.no_ops)) r (λ f one. not-made s w cs x y f h one)
-
--- a refused transaction is refused by the model
-pub txn_is_refused : (s : Store) (w : World) (t : Txn) (e : Refusal) → StandsFor s w → IsRefusal e (fault_of_txn s (txn_view t)) → IsRefusal e (first_refusal (perform w (as_call (txn_view t))).0)
-txn_is_refused s w t e h = subst (λ (ops : Ops). IsRefusal e (fault_of_txn s ops) → IsRefusal e (first_refusal (perform w (as_call ops)).0)) (sym (txn_view-out t)) (refused-at s w _ _ _ e h)
+pub txn_refuses : (s new : CoreState) (t : Txn) (e : Refusal) → IsRefusal e (fault_of_txn s.store (txn_view t)) → new ≡ s
+    → Refuses s new (as_call (txn_view t)) e
+txn_refuses s new t e r same = record {
+  refused = λ w h. is_refused w (as_call (txn_view t)) e (fault_of_txn s.store (txn_view t)) r (λ f one. txn-refused s.store w t f h one);
+  free = λ no. let bad : true ≡ false = sym (txn-takes_memory t) ∙ no in cc;
+  kept = same;
+}

@@ -1,29 +1,27 @@
 -- What a core does, in each world that it stands for.
-use Rattle.std.proofs.Common.{◌≡◌, ℕ, ◌+◌, ◌<◌, ◌≤◌, List, Bool, true, false, cond, not, Option, None, Some, Result, Ok, Err, refl, sym, ◌∙◌, ap, subst, arith}
-use Rattle.std.specs.Prelude.{nat_lt, MatchBool}
+use Rattle.std.proofs.Common.{◌≡◌, ◌≢◌, ℕ, ◌+◌, ◌<◌, ◌≤◌, List, [], ◌∷◌, Bool, true, false, ◌&&◌, cond, not, Option, None, Some}
+use Rattle.std.proofs.Common.{Result, Ok, Err, refl, sym, ◌∙◌, ap, subst, arith}
+use Rattle.std.specs.Prelude.{nat_lt, is_some, ◌||◌, MatchBool}
 use Rattle.std.specs.Option.{option_or}
 use Rattle.std.proofs.lemmas.Bool.{lt-ltb, le-ltb, ltb-true, ltb-false}
 use Rattle.kv_model.specs.declared.refusal.Refusal.{Refusal}
 use Rattle.kv_model.specs.declared.refusal.Refusal.TheVariants.{RevisionsSpent}
+use Rattle.kv_model.specs.declared.version.Version.{Version}
 use Rattle.kv_model.specs.History.{Mutation}
+use Rattle.kv_model.specs.Lists.{is_empty}
 use Rattle.kv_model.specs.Ranges.{refuse_if}
 use Rattle.kv_model.specs.Calls.{Call}
 use Rattle.kv_model.specs.Told.{Answer, Reply}
+use Rattle.kv_model.specs.Wire.{raised, number_made, changes_beside}
 use Rattle.kv_model.specs.World.{World, revision, changed}
-use Rattle.kv_model.specs.Step.{last_main, made_in, perform, world_of, answer_of as answer_of_made}
-use Rattle.store_laws.specs.Stands.{StandsFor, grown}
-use Rattle.kv_model.specs.Wire.{raised, number_made}
-use Rattle.store_laws.proofs.StandsLaws.{grown_revision}
-use Rattle.store_laws.proofs.StandsCommands.{answer_made, answer_refused, answer_read}
+use Rattle.kv_model.specs.Step.{Made, last_main, made_in, perform, refused_or, commit_at, world_of, answer_of as answer_of_made}
+use Rattle.store_laws.specs.Stands.{Store, StandsFor, grown}
+use Rattle.store_laws.proofs.StandsCommands.{answer_refused}
 use Rattle.request_core.specs.declared.answer.Receipt.{Receipt}
-use Rattle.request_core.specs.State.{CoreState, is_spent}
-use Rattle.request_core.specs.Answers.{Accepts, IsRefusal, answer_of, first_refusal, is_memory}
-
-pub raised-not : (n : ℕ) → (r : Option ℕ) → cond (nat_lt n n) r None ≡ None
-raised-not n r = ap (λ b. cond b r None) (le-ltb n n (omega arith))
-
-pub raised-by : (m n : ℕ) → n ≡ m + 1 → cond (nat_lt m n) (Some n) None ≡ Some (m + 1)
-raised-by m n e = ap (λ b. cond b (Some n) None) (lt-ltb m n (omega arith)) ∙ ap (λ k. Some k) e
+use Rattle.request_core.specs.declared.answer.Todo.{Todo}
+use Rattle.request_core.specs.State.{CoreState, counted, is_spent, raised_from, stamp_after, with_any}
+use Rattle.request_core.specs.Answers.{IsAllowed, IsRefusal, answer_of, has_changed, is_beside, is_memory, reply_left}
+use Rattle.request_core.specs.Commands.{CarriesOut, Does, IsIssued, Makes, Moves, first_refusal}
 
 -- ---- the first of two refusals
 
@@ -49,52 +47,121 @@ spent-by r e one = by (nat_lt r last_main) refl one
     by true t one = cc
     by false t one = let same : RevisionsSpent ≡ e = cc in (ltb-false r last_main t, same)
 
--- ---- what is accepted
+-- ---- the receipt of a command that is carried out
 
--- a command that changes something, where the new state stands for the world with the changes
-pub change_accepted : (s new : CoreState) (w : World) (call : Call) (r : Receipt) (told : Reply) (us : List Mutation) → StandsFor s.store w
-    → made_in w call ≡ Ok (told, changed w us) → StandsFor new.store (changed w us) → (grown s.store us).revision ≡ s.store.revision + 1
-    → r.raised ≡ Some (s.store.revision + 1) → r.watch ≡ None → answer_of r new ≡ record { reply = told; revision = s.store.revision + 1 }
-    → Accepts new r w (perform w call).0 (perform w call).1
-change_accepted s new w call r told us h made stands next up unwatched answered =
-    let all : perform w call ≡ (Ok (record { reply = told; revision = s.store.revision + 1 }), changed w us)
-    = answer_made s.store w h call told us made ∙ ap (λ n. (Ok (record { reply = told; revision = n }), changed w us)) next in
-    let grew : revision (changed w us) ≡ revision w + 1 = sym (grown_revision s.store w h us) ∙ next ∙ ap (λ n. n + 1) h.revision_is in
+raised-rose : (m n : ℕ) → is_some (raised_from m n) ≡ nat_lt m n
+raised-rose m n = by (nat_lt m n)
+  where
+    by : (b : Bool) → is_some (cond b (Some n) None) ≡ b
+    by true = refl
+    by false = refl
+
+none-made : (m n : ℕ) → n ≡ m → cond (nat_lt m n) (Some n) None ≡ None
+none-made m n e = ap (λ b. cond b (Some n) None) (le-ltb m n (omega (arith, e)))
+
+-- a receipt tells of a change where there was one
+receipt-tells : (old mid new : CoreState) (t : Todo) (r : Receipt) → IsIssued old.store.revision t mid new r
+    → has_changed r ≡ (nat_lt old.store.revision mid.store.revision || is_beside t)
+receipt-tells old mid new t r i =
+    λ j. (ap is_some i.raised ∙ raised-rose old.store.revision mid.store.revision) j || is_beside (i.todo j)
+
+pub does : (old mid new : CoreState) (call : Call) (t : Todo) (r : Receipt) → CarriesOut old mid call t
+    → IsIssued old.store.revision t mid new r → Does old new call r
+does old mid new call t r d i =
+    let same : new.store ≡ mid.store = ap (λ (s : CoreState). s.store) i.counts in
+    let rev : r.revision ≡ mid.store.revision = i.revision ∙ ap (λ (s : Store). s.revision) same in
+    let left : answer_of r new ≡ record { reply = reply_left t mid.store mid.store.revision; revision = mid.store.revision }
+    = λ j. record { reply = reply_left (i.todo j) (same j) (rev j); revision = rev j } in
     record {
-      answers = ap (λ x. x.0) all ∙ ap (λ a. Ok a) (sym answered);
-      stands = subst (λ u. StandsFor new.store u) (sym (ap (λ x. x.1) all)) stands;
-      raised = up ∙ ap (λ n. Some (n + 1)) h.revision_is ∙ sym (raised-by (revision w) (revision (changed w us)) grew) ∙ ap (λ u. raised w u) (sym (ap (λ x. x.1) all));
-      watch = unwatched ∙ sym (raised-not w.made (Some w.made)) ∙ ap (λ u. number_made w u) (sym (ap (λ x. x.1) all));
+      accepted = λ w h.
+          let m = d.makes w h in
+          let all : perform w call ≡ (
+            Ok (record { reply = reply_left t mid.store mid.store.revision; revision = revision m.after }),
+            m.after,
+          ) = ap (λ m. (answer_of_made m, world_of w m)) m.made in
+          let after : m.after ≡ (perform w call).1 = sym (ap (λ x. x.1) all) in
+          record {
+            answers = ap (λ x. x.0) all
+                ∙ sym (ap (λ a. Ok a) (left ∙ ap (λ n. record { reply = reply_left t mid.store mid.store.revision; revision = n }) m.stands.revision_is));
+            stands = subst (λ u. StandsFor new.store u) after (subst (λ s. StandsFor s m.after) (sym same) m.stands);
+            raised = i.raised ∙ (λ j. raised_from (h.revision_is j) (m.stands.revision_is j)) ∙ ap (λ u. raised w u) after;
+            watch = i.unwatched ∙ sym (none-made w.made m.after.made (sym m.stands.made ∙ d.moves.watches ∙ h.made))
+                ∙ ap (λ u. number_made w u) after;
+          };
+      readable = record {
+        stamp = i.stamp;
+        revision = i.revision;
+        allowed = subst (λ (u : Todo). IsAllowed u new.store) (sym i.todo) (subst (λ s. IsAllowed t s) (sym same) d.allowed);
+      };
+      unchanged = λ none. i.counts ∙ ap (λ b. counted b mid) none
+          ∙ d.moves.unchanged (sym (receipt-tells old mid new t r i) ∙ none);
+      stamp = ap (λ (s : CoreState). s.stamp) i.counts ∙ ap (λ n. stamp_after (has_changed r) n) d.moves.stamp;
+      unwatched = i.unwatched;
+      beside = λ w h. ap is_beside i.todo ∙ d.beside w h;
     }
 
--- a command that is made
-pub made_accepted : (new : CoreState) (w u : World) (call : Call) (r : Receipt) (told : Reply) → made_in w call ≡ Ok (told, u) → StandsFor new.store u
-    → r.raised ≡ raised w u → r.watch ≡ number_made w u → answer_of r new ≡ record { reply = told; revision = revision u }
-    → Accepts new r w (perform w call).0 (perform w call).1
-made_accepted new w u call r told made stands up watch answered =
-    let all : perform w call ≡ (Ok (record { reply = told; revision = revision u }), u) = ap (λ m. (answer_of_made m, world_of w m)) made in
-    record {
-      answers = ap (λ x. x.0) all ∙ ap (λ a. Ok a) (sym answered);
-      stands = subst (λ v. StandsFor new.store v) (sym (ap (λ x. x.1) all)) stands;
-      raised = up ∙ ap (λ v. raised w v) (sym (ap (λ x. x.1) all));
-      watch = watch ∙ ap (λ v. number_made w v) (sym (ap (λ x. x.1) all));
-    }
+-- a command that is only read for its answer
+pub read_moves : (s : CoreState) (b : Bool) → Moves s s b
+read_moves s b = record { unchanged = λ none. refl; stamp = refl; watches = refl }
 
--- a command that changes nothing
-pub read_accepted : (s : CoreState) (w : World) (call : Call) (r : Receipt) (told : Reply) → StandsFor s.store w → made_in w call ≡ Ok (told, w)
-    → r.raised ≡ None → r.watch ≡ None → answer_of r s ≡ record { reply = told; revision = s.store.revision } → Accepts s r w (perform w call).0 (perform w call).1
-read_accepted s w call r told h made up unwatched answered =
-    let all : perform w call ≡ (Ok (record { reply = told; revision = s.store.revision }), w) = answer_read s.store w h call told made in
-    record {
-      answers = ap (λ x. x.0) all ∙ ap (λ a. Ok a) (sym answered);
-      stands = subst (λ u. StandsFor s.store u) (sym (ap (λ x. x.1) all)) h;
-      raised = up ∙ sym (raised-not (revision w) (Some (revision w))) ∙ ap (λ u. raised w u) (sym (ap (λ x. x.1) all));
-      watch = unwatched ∙ sym (raised-not w.made (Some w.made)) ∙ ap (λ u. number_made w u) (sym (ap (λ x. x.1) all));
-    }
+-- ---- changes that are committed
+
+-- where versions were appended, the revision rose
+pub any_moves : (s : CoreState) (vs : List Version) (b : Bool) → Moves s (with_any s vs) b
+any_moves s [] b = read_moves s b
+any_moves s (v ∷ vs) b = record {
+  unchanged = λ none.
+      let bad : true ≡ false
+      = ap (λ c. c || b) (sym (lt-ltb s.store.revision (s.store.revision + 1) (omega arith))) ∙ none in cc;
+  stamp = refl;
+  watches = refl;
+}
+
+-- the world after changes, where there are some
+abbrev pub changed_by : World → List Mutation → World
+changed_by w [] = w
+changed_by w (u ∷ us) = changed w (u ∷ us)
+
+-- a store grows by changes, where there are some, in a world that it stands for
+pub record Commits (s new : Store) (us : List Mutation) (w : World) : Type 0 where
+  pub stood : StandsFor s w
+  pub stands : StandsFor (grown s us) (changed w us)
+  pub grows : us ≢ [] → grown s us ≡ new
+  pub stays : us ≡ [] → s ≡ new
+
+pub committed : (s new : Store) (us : List Mutation) (w : World) → Commits s new us w → StandsFor new (changed_by w us)
+committed s new [] w c = subst (λ t. StandsFor t w) (c.stays refl) c.stood
+committed s new (u ∷ us) w c =
+    subst (λ t. StandsFor t (changed w (u ∷ us))) (c.grows (λ e. let bad : u ∷ us ≡ [] = e in cc)) c.stands
+
+-- a command that is not refused, and one that is
+pub made_first : (o p : Option Refusal) (m n : Made) → (p ≡ None → m ≡ n) → option_or o p ≡ None → refused_or o m ≡ n
+made_first None p m n to none = to none
+made_first (Some f) p m n to none = cc
+
+pub refused_first : (o p : Option Refusal) (m : Made) (e : Refusal) → (p ≡ Some e → m ≡ Err e) → option_or o p ≡ Some e
+    → refused_or o m ≡ Err e
+refused_first None p m e to one = to one
+refused_first (Some f) p m e to one = let same : f ≡ e = cc in ap (λ f. Err f) same
+
+-- what the model makes of changes that have room
+pub commit_made : (n : ℕ) (told : Reply) (w : World) (us : List Mutation)
+    → refuse_if (not (is_empty us) && is_spent n) RevisionsSpent ≡ None → commit_at n told w us ≡ Ok (told, changed_by w us)
+commit_made n told w [] e = refl
+commit_made n told w (u ∷ us) e =
+    ap (λ b. cond b (Ok (told, changed w (u ∷ us))) (Err RevisionsSpent)) (lt-ltb n last_main (not-spent n e))
+
+pub commit_spent : (n : ℕ) (told : Reply) (w : World) (us : List Mutation) (e : Refusal)
+    → refuse_if (not (is_empty us) && is_spent n) RevisionsSpent ≡ Some e → commit_at n told w us ≡ Err e
+commit_spent n told w [] e one = cc
+commit_spent n told w (u ∷ us) e one =
+    let spent = spent-by n e one in
+    ap (λ b. cond b (Ok (told, changed w (u ∷ us))) (Err RevisionsSpent)) (le-ltb n last_main spent.0) ∙ ap (λ f. Err f) spent.1
 
 -- ---- what is refused
 
-is-refusal : (e : Refusal) (told : Result Answer Refusal) (o : Option Refusal) → IsRefusal e o → ((f : Refusal) → o ≡ Some f → told ≡ Err f) → IsRefusal e (first_refusal told)
+is-refusal : (e : Refusal) (told : Result Answer Refusal) (o : Option Refusal) → IsRefusal e o
+    → ((f : Refusal) → o ≡ Some f → told ≡ Err f) → IsRefusal e (first_refusal told)
 is-refusal e told o h to = by (is_memory e) h
   where
     by : (b : Bool) → MatchBool b (Unit {0}) (o ≡ Some e) → MatchBool b (Unit {0}) (first_refusal told ≡ Some e)
@@ -102,8 +169,8 @@ is-refusal e told o h to = by (is_memory e) h
     by false h = ap first_refusal (to e h)
 
 -- a refused command is refused by the model, or wants memory
-pub is_refused : (w : World) (call : Call) (e : Refusal) (o : Option Refusal) → IsRefusal e o → ((f : Refusal) → o ≡ Some f → made_in w call ≡ Err f)
-    → IsRefusal e (first_refusal (perform w call).0)
+pub is_refused : (w : World) (call : Call) (e : Refusal) (o : Option Refusal) → IsRefusal e o
+    → ((f : Refusal) → o ≡ Some f → made_in w call ≡ Err f) → IsRefusal e (first_refusal (perform w call).0)
 is_refused w call e o h to = is-refusal e (perform w call).0 o h (λ f one. ap (λ x. x.0) (answer_refused w call f (to f one)))
 
 -- the refusal that a command has

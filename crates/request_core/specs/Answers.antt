@@ -1,7 +1,6 @@
 -- What receipts and answers say, in the definitions' terms.
-use Rattle.std.specs.Prelude.{◌≡◌, ℕ, ◌+◌, ◌-◌, ◌<◌, ◌^◌, ℤ, pos, negsuc, List, Bool, true, false, ◌&&◌, ◌||◌, nat_lt, is_some, unwrap_or, Option, None, Some, option_map, map, Result, Ok, Err, ⊤}
-use Rattle.kv_model.specs.declared.refusal.Refusal.{Refusal}
-use Rattle.kv_model.specs.Calls.{Call}
+use Rattle.std.specs.Prelude.{◌≡◌, ℕ, ◌+◌, ◌-◌, ◌<◌, ◌^◌, ℤ, pos, negsuc, List, Bool, true, false, ◌&&◌, ◌||◌, nat_lt}
+use Rattle.std.specs.Prelude.{is_some, unwrap_or, Option, None, Some, option_map, map, ⊤}
 use Rattle.kv_model.specs.History.{value_at, end_of}
 use Rattle.kv_model.specs.Ranges.{range_reply, revision_refusal, live}
 use Rattle.kv_model.specs.Txns.{Path, previous_value, if_asked, changes_of, replies_of}
@@ -10,9 +9,7 @@ use Rattle.store_laws.specs.Plans.{ReadsKept}
 use Rattle.store_laws.specs.Stores.{reply_of_time_to_live, reply_of_leases}
 use Rattle.kv_model.specs.Told.{Reply, Answer as ModelAnswer, Expiry as ModelExpiry}
 use Rattle.lease_book.specs.declared.book.TimeLeft.{TimeLeft}
-use Rattle.kv_model.specs.World.{World}
-use Rattle.store_laws.specs.Stands.{Store, StandsFor}
-use Rattle.kv_model.specs.Wire.{raised, number_made}
+use Rattle.store_laws.specs.Stands.{Store}
 use Rattle.range_view.specs.Replies.{kv_view, reply_view, replies_view}
 use Rattle.txn_core.specs.Steps.{steps_view}
 -- a refusal is the model's, but for want of memory, which may come in its place
@@ -34,21 +31,36 @@ time_left_view id (Some t) keys = Reply.time_to_live id (pos t.seconds) t.grante
 -- an answer that lends, as plain data
 abbrev pub answer_view : Answer → ModelAnswer
 answer_view (answer.Range r) = record { reply = Reply.range (reply_view r); revision = r.revision }
-answer_view (answer.Put revision previous) = record { reply = Reply.put (option_map kv_view previous); revision = revision }
-answer_view (answer.Delete revision deleted previous) = record { reply = Reply.delete deleted (map kv_view previous.items); revision = revision }
-answer_view (answer.Txn revision succeeded replies) = record { reply = Reply.txn succeeded (replies_view replies.items); revision = revision }
+answer_view (answer.Put revision previous) = record {
+  reply = Reply.put (option_map kv_view previous);
+  revision = revision;
+}
+answer_view (answer.Delete revision deleted previous) = record {
+  reply = Reply.delete deleted (map kv_view previous.items);
+  revision = revision;
+}
+answer_view (answer.Txn revision succeeded replies) = record {
+  reply = Reply.txn succeeded (replies_view replies.items);
+  revision = revision;
+}
 answer_view (answer.Grant revision id ttl) = record { reply = Reply.grant id ttl; revision = revision }
 answer_view (answer.Revoke revision) = record { reply = Reply.revoke; revision = revision }
 answer_view (answer.KeepAlive revision id ttl) = record { reply = Reply.keep_alive id ttl; revision = revision }
-answer_view (answer.TimeToLive revision id left keys) = record { reply = time_left_view id left (map (λ k. k.now) keys.items); revision = revision }
+answer_view (answer.TimeToLive revision id left keys) = record {
+  reply = time_left_view id left (map (λ k. k.now) keys.items);
+  revision = revision;
+}
 answer_view (answer.Leases revision ids) = record { reply = Reply.leases ids.items; revision = revision }
 
 -- what is read of a store for an answer at the revision
 abbrev pub reply_left : Todo → Store → ℕ → Reply
 reply_left (todo.Range q) s revision = Reply.range (range_reply s.versions s.compacted revision (end_of revision) q.now)
-reply_left (todo.Put key asked) s revision = Reply.put (previous_value asked (value_at s.versions (end_of (revision - 1)) key.now))
-reply_left (todo.Delete range asked deleted) s revision = Reply.delete deleted (if_asked (asked && nat_lt 0 deleted) (live s.versions (end_of (revision - 1)) range.now))
-reply_left (todo.Txn before succeeded steps) s revision = Reply.txn succeeded (replies_of s.versions s.compacted before 0 (steps_view steps.items))
+reply_left (todo.Put key asked) s revision =
+    Reply.put (previous_value asked (value_at s.versions (end_of (revision - 1)) key.now))
+reply_left (todo.Delete range asked deleted) s revision =
+    Reply.delete deleted (if_asked (asked && nat_lt 0 deleted) (live s.versions (end_of (revision - 1)) range.now))
+reply_left (todo.Txn before succeeded steps) s revision =
+    Reply.txn succeeded (replies_of s.versions s.compacted before 0 (steps_view steps.items))
 reply_left (todo.Grant id ttl) s revision = Reply.grant id ttl
 reply_left todo.Revoke s revision = Reply.revoke
 reply_left (todo.KeepAlive id ttl) s revision = Reply.keep_alive id (unwrap_or ttl 0)
@@ -69,14 +81,6 @@ is_beside _ = false
 abbrev pub has_changed : Receipt → Bool
 has_changed r = is_some r.raised || is_beside r.todo
 
--- doing the command may want memory
-abbrev pub takes_memory : Call → Bool
-takes_memory (Call.range q) = false
-takes_memory (Call.keep_alive id) = false
-takes_memory (Call.time_to_live id asked) = false
-takes_memory Call.leases = false
-takes_memory _ = true
-
 -- nothing has to grow for the answer
 abbrev pub is_free : Todo → Bool
 is_free (todo.Put key asked) = true
@@ -85,20 +89,15 @@ is_free todo.Revoke = true
 is_free (todo.KeepAlive id ttl) = true
 is_free _ = false
 
--- a command was accepted as the model accepts it in this world, which then is that one
-pub record Accepts (new : CoreState) (r : Receipt) (w : World) (told : Result ModelAnswer Refusal) (after : World) : Type 0 where
-  pub answers : told ≡ Ok (answer_of r new)
-  pub stands : StandsFor new.store after
-  pub raised : r.raised ≡ raised w after
-  pub watch : r.watch ≡ number_made w after
-
--- the operations that ran behind a revision can be answered: none of their Ranges is refused, and their changes are numbered
+-- the operations that ran behind a revision can be answered: none of their Ranges is refused, and their changes are
+-- numbered
 pub record CanReply (s : Store) (before : ℕ) (q : Path) : Type 0 where
   pub reads : ReadsKept s.compacted before q
   pub few : changes_of s.versions (before + 1) 0 q < 2 ^ 64
   pub fits : before + 1 < 2 ^ 64
 
--- a Range that is to be read does not ask for a revision that is compacted or in the future
+-- a Range that is to be read does not ask for a revision that is compacted or in the future, and what a transaction saw
+-- can be told
 abbrev pub IsAllowed : Todo → Store → Type 0
 IsAllowed (todo.Range q) s = revision_refusal s.compacted s.revision q.now.revision ≡ None
 IsAllowed (todo.Txn before succeeded steps) s = CanReply s before (steps_view steps.items)
@@ -109,11 +108,6 @@ pub record IsReadable (r : Receipt) (s : CoreState) : Type 0 where
   pub stamp : r.stamp ≡ s.stamp
   pub revision : r.revision ≡ s.store.revision
   pub allowed : IsAllowed r.todo s.store
-
--- the refusal that an answer is, if it is one
-abbrev pub first_refusal : Result ModelAnswer Refusal → Option Refusal
-first_refusal (Ok a) = None
-first_refusal (Err e) = Some e
 
 -- ---- expiry
 

@@ -1,3 +1,4 @@
 pub mod Writing
 pub mod State
 pub mod Answers
+pub mod Commands

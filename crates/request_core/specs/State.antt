@@ -1,5 +1,6 @@
 -- What a core holds, and how a command changes it.
-use Rattle.std.specs.Prelude.{◌≡◌, ℕ, ℤ, pos, ◌+◌, ◌-◌, ◌<◌, ◌≤◌, ◌%◌, ◌^◌, List, [], ◌∷◌, ◌++◌, map, Bool, true, not, ◌&&◌, nat_lt, filter, Option, None, Some, option_map, if◌then◌else◌}
+use Rattle.std.specs.Prelude.{◌≡◌, ℕ, ℤ, pos, ◌+◌, ◌<◌, ◌≤◌, ◌%◌, ◌^◌, List, [], ◌∷◌, ◌++◌, map, Bool, true, not, ◌&&◌}
+use Rattle.std.specs.Prelude.{nat_lt, filter, Option, None, Some, option_map, if◌then◌else◌}
 use Rattle.std.specs.Option.{option_or}
 use Rattle.std.specs.List.{AllByRecursion}
 use Rattle.std.specs.Ordering.{int_eq}
@@ -15,14 +16,14 @@ use Rattle.kv_model.specs.Keys.{all_keys}
 use Rattle.kv_model.specs.Leases.{Lease, is_granted, insert_lease, without_lease, due}
 use Rattle.kv_model.specs.Lists.{is_empty}
 use Rattle.kv_model.specs.Ranges.{live, refuse_if}
-use Rattle.kv_model.specs.Told.{Answer, Reply}
-use Rattle.kv_model.specs.Txns.{put_fault, previous_value, if_asked, static_fault}
+use Rattle.kv_model.specs.Txns.{put_fault, static_fault}
 use Rattle.kv_model.specs.Txns as txns
 use Rattle.kv_model.specs.World.{World, opening}
 use Rattle.kv_model.specs.History.{Mutation, KeyValue, put, value_at, end_of, rev_le}
 use Rattle.kv_model.specs.Step.{last_main}
 use Rattle.store_laws.specs.Stands.{Store}
-use Rattle.store_laws.specs.Stores.{path_in, refusal_of_path, changes_of_path, refusal_of_delete, with_leases, granted_lease, refusal_of_revoke, renewed_leases, at_store_moment}
+use Rattle.store_laws.specs.Stores.{path_in, refusal_of_path, changes_of_path, refusal_of_delete, with_leases}
+use Rattle.store_laws.specs.Stores.{granted_lease, refusal_of_revoke, renewed_leases, at_store_moment}
 use Rattle.lease_book.specs.Book.{Book}
 use Rattle.range_view.specs.Stored.{Stored}
 use Rattle.txn_core.specs.KeyWrites.{held_refusal, put_version, IsCountedTo}
@@ -33,12 +34,20 @@ pub record CoreState : Type 0 where
   pub store : Store
   pub stamp : ℕ
 
--- a store without watches
-abbrev pub store_of : Stored → Book → Store
-store_of t b = record { versions = t.versions; revision = t.revision; compacted = t.compacted; leases = b.leases; clock = b.clock; watches = []; made = 0 }
+-- the store that tables and a book keep, without watches
+abbrev pub store_kept : Stored → Book → Store
+store_kept t b = record {
+  versions = t.versions;
+  revision = t.revision;
+  compacted = t.compacted;
+  leases = b.leases;
+  clock = b.clock;
+  watches = [];
+  made = 0;
+}
 
 abbrev pub core_state : Stored → Book → ℕ → CoreState
-core_state t b stamp = record { store = store_of t b; stamp = stamp }
+core_state t b stamp = record { store = store_kept t b; stamp = stamp }
 
 -- what is true of the fields of every core
 pub record IsSound (t : Stored) : Type 0 where
@@ -69,22 +78,34 @@ is_spent revision = not (nat_lt revision last_main)
 abbrev pub stamp_after : Bool → ℕ → ℕ
 stamp_after changed n = if changed then (n + 1) % 2 ^ 64 else n
 
--- one changing call later
-abbrev pub stamped : CoreState → CoreState
-stamped s = record s { stamp = (s.stamp + 1) % 2 ^ 64 }
+-- one changing call later, if that one changed something
+abbrev pub counted : Bool → CoreState → CoreState
+counted changed s = record s { stamp = stamp_after changed s.stamp }
 
 -- with the versions of the next revision
 abbrev pub with_versions : CoreState → List Version → CoreState
-with_versions s vs = record {
-  store = record s.store { versions = s.store.versions ++ vs; revision = s.store.revision + 1 };
-  stamp = (s.stamp + 1) % 2 ^ 64;
+with_versions s vs = record s {
+  store = record s.store {
+    versions = s.store.versions ++ vs;
+    revision = s.store.revision + 1;
+  };
 }
+
+-- with these versions as the next revision, where there are some
+abbrev pub with_any : CoreState → List Version → CoreState
+with_any s [] = s
+with_any s (v ∷ vs) = with_versions s (v ∷ vs)
+
+-- the revision that a command which found one revision raised the store to
+abbrev pub raised_from : ℕ → ℕ → Option ℕ
+raised_from before revision = if nat_lt before revision then Some revision else None
 
 -- ---- Put
 
 -- the first refusal of a put, that of spent revisions last
 abbrev pub fault_of_put : Store → PutRequest → Option Refusal
-fault_of_put s p = option_or (option_or (put_fault p) (held_refusal (is_granted s.leases) p (held_in s p.key))) (refuse_if (is_spent s.revision) RevisionsSpent)
+fault_of_put s p = option_or (option_or (put_fault p) (held_refusal (is_granted s.leases) p (held_in s p.key)))
+    (refuse_if (is_spent s.revision) RevisionsSpent)
 
 -- the version that a put adds
 abbrev pub added_by_put : Store → PutRequest → Version
@@ -94,15 +115,12 @@ added_by_put s p = put_version (next_rev s.revision) p (held_in s p.key)
 abbrev pub after_put : CoreState → PutRequest → CoreState
 after_put s p = with_versions s (added_by_put s.store p ∷ [])
 
--- the answer to a put, read on the state that it left
-abbrev pub answer_after_put : Store → PutRequest → Answer
-answer_after_put s p = record { reply = Reply.put (previous_value p.prev_kv (value_at s.versions (end_of (s.revision - 1)) p.key)); revision = s.revision }
-
 -- ---- DeleteRange
 
 -- the first refusal of a delete, that of spent revisions where some key is live
 abbrev pub fault_of_delete : Store → DeleteRequest → Option Refusal
-fault_of_delete s d = option_or (refusal_of_delete d) (refuse_if (not (is_empty (live_in s d.range)) && is_spent s.revision) RevisionsSpent)
+fault_of_delete s d = option_or (refusal_of_delete d)
+    (refuse_if (not (is_empty (live_in s d.range)) && is_spent s.revision) RevisionsSpent)
 
 -- the versions that a delete adds
 abbrev pub added_by_delete : Store → DeleteRequest → List Version
@@ -110,18 +128,7 @@ added_by_delete s d = tombstones (s.revision + 1) 0 (live_in s d.range)
 
 -- what an accepted delete leaves: nothing has changed where no key was live
 abbrev pub after_delete : CoreState → DeleteRequest → CoreState
-after_delete s d = if is_empty (live_in s.store d.range) then s else with_versions s (added_by_delete s.store d)
-
--- the revision that a delete of so many keys raised the store to
-abbrev pub raised_by_delete : ℕ → ℕ → Option ℕ
-raised_by_delete deleted revision = if nat_lt 0 deleted then Some revision else None
-
--- the answer to a delete of so many keys, read on the state that it left
-abbrev pub answer_after_delete : Store → DeleteRequest → ℕ → Answer
-answer_after_delete s d deleted = record {
-  reply = Reply.delete deleted (if_asked (d.prev_kv && nat_lt 0 deleted) (live s.versions (end_of (s.revision - 1)) d.range));
-  revision = s.revision;
-}
+after_delete s d = with_any s (added_by_delete s.store d)
 
 -- ---- Txn
 
@@ -134,18 +141,9 @@ fault_of_txn s ops = option_or (static_fault ops) (option_or (refusal_of_path s 
 abbrev pub added_by_txn : Store → Ops → List Version
 added_by_txn s ops = map (txns.next_version s.versions) (changes_of_path s (path_in s ops))
 
--- with these versions as the next revision, where there are some
-abbrev pub with_some : CoreState → List Version → CoreState
-with_some s [] = s
-with_some s (v ∷ vs) = with_versions s (v ∷ vs)
-
 -- what an accepted transaction leaves: nothing has changed where it changes no key
 abbrev pub after_txn : CoreState → Ops → CoreState
-after_txn s ops = with_some s (added_by_txn s.store ops)
-
--- the revision that a command which found one revision raised the store to
-abbrev pub raised_from : ℕ → ℕ → Option ℕ
-raised_from before revision = if nat_lt before revision then Some revision else None
+after_txn s ops = with_any s (added_by_txn s.store ops)
 
 -- ---- leases
 
@@ -154,31 +152,27 @@ abbrev pub leased : CoreState → List Lease → CoreState
 leased s ls = record s { store = with_leases s.store ls }
 
 abbrev pub after_grant : CoreState → ℤ → ℤ → CoreState
-after_grant s ttl id = stamped (leased s (insert_lease (granted_lease s.store ttl id) s.store.leases))
+after_grant s ttl id = leased s (insert_lease (granted_lease s.store ttl id) s.store.leases)
 
 -- a renewed lease, where it is granted; else nothing has changed
 abbrev pub after_keep_alive : CoreState → ℤ → CoreState
-after_keep_alive s id = if is_granted s.store.leases id then stamped (leased s (renewed_leases s.store id)) else s
+after_keep_alive s id = if is_granted s.store.leases id then leased s (renewed_leases s.store id) else s
 
 -- the first refusal of a revoke, that of spent revisions where the lease has some key
 abbrev pub fault_of_revoke : Store → ℤ → Option Refusal
-fault_of_revoke s id = option_or (refusal_of_revoke s id) (refuse_if (not (is_empty (leased_in s id)) && is_spent s.revision) RevisionsSpent)
+fault_of_revoke s id = option_or (refusal_of_revoke s id)
+    (refuse_if (not (is_empty (leased_in s id)) && is_spent s.revision) RevisionsSpent)
 
 -- the versions that a revoke adds: the tombstones of the lease's keys
 abbrev pub added_by_revoke : Store → ℤ → List Version
 added_by_revoke s id = tombstones (s.revision + 1) 0 (leased_in s id)
-
--- with these versions as the next revision, where there are some, one changing call later
-abbrev pub with_any : CoreState → List Version → CoreState
-with_any s [] = stamped s
-with_any s (v ∷ vs) = with_versions s (v ∷ vs)
 
 -- what a revoke leaves: neither the lease nor its keys
 abbrev pub after_revoke : CoreState → ℤ → CoreState
 after_revoke s id = leased (with_any s (added_by_revoke s.store id)) (without_lease id s.store.leases)
 
 abbrev pub after_moment : CoreState → ℕ → CoreState
-after_moment s m = stamped (record s { store = at_store_moment s.store m })
+after_moment s m = counted true (record s { store = at_store_moment s.store m })
 
 -- the lease that expires next
 abbrev pub due_in : Store → Option ℤ

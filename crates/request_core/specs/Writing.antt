@@ -1,5 +1,6 @@
 -- What a put and a delete add to the versions.
-use Rattle.std.specs.Prelude.{◌≡◌, ◌≢◌, ℕ, suc, ◌+◌, ◌<◌, ◌≤◌, ◌^◌, List, [], ◌∷◌, true, Option, MatchOption}
+use Rattle.std.specs.Prelude.{◌≡◌, ◌≢◌, ℕ, suc, ◌+◌, ◌<◌, ◌≤◌, ◌^◌, List, [], ◌∷◌, true}
+use Rattle.std.specs.Prelude.{Option, MatchOption}
 use Rattle.std.specs.List.{AllByRecursion}
 use Rattle.kv_model.specs.declared.version.Rev.{Rev}
 use Rattle.kv_model.specs.declared.version.Version.{Version}
@@ -20,7 +21,8 @@ abbrev pub tombstones : ℕ → ℕ → List KeyValue → List Version
 tombstones main sub [] = []
 tombstones main sub (kv ∷ kvs) = tombstone main sub kv.key ∷ tombstones main (suc sub) kvs
 
--- there are some versions, they are those of the revision after this one, their numbers within it fit 64 bits, and they are counted
+-- there are some versions, they are those of the revision after this one, their numbers within it fit 64 bits, and they
+-- are counted
 pub record AreNext (revision : ℕ) (vs : List Version) : Type 0 where
   pub some : vs ≢ []
   pub next : is_next revision vs ≡ true

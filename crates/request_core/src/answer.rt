@@ -65,7 +65,8 @@ pub enum Todo<'c> {
     },
     /// A lease is revoked.
     Revoke,
-    /// A renewed lease, with its time to live in seconds; `None` where no lease has the ID, and then nothing changed.
+    /// A renewed lease, with its time to live in seconds; `None` where no lease has the ID, and then
+    /// nothing changed.
     KeepAlive {
         id: i64,
         ttl: Option<u64>,
@@ -83,7 +84,7 @@ impl Todo<'_> {
     ghost use Rattle.request_core.specs.Answers.{is_beside};
 
     /// Whether the command changed something besides the versions.
-    fn is_beside(&self) -> bool
+    pub(crate) fn is_beside(&self) -> bool
         ensures { result ≡ is_beside self.now }
     {
         match self {
@@ -152,8 +153,8 @@ pub enum Answer<'a> {
 pub enum Expiry {
     /// No lease is due.
     Nothing,
-    /// This lease is revoked, and that is the revision after it; `raised` says whether some key was deleted with it, so that
-    /// the revision rose.
+    /// This lease is revoked, and that is the revision after it; `raised` says whether some key was
+    /// deleted with it, so that the revision rose.
     Expired {
         id: i64,
         revision: u64,

@@ -3,14 +3,16 @@ ghost use Rattle.kv_model.specs.Feed.{Published, published};
 ghost use Rattle.range_view.specs.Replies.{kv_view, reply_view};
 ghost use Rattle.request_core.specs.Writing.{AreNext, IsHeldTo};
 ghost use Rattle.kv_model.specs.Step.{last_main};
-ghost use Rattle.kv_model.specs.Wire.{changes_beside};
-ghost use Rattle.std.specs.Prelude.{◌≡◌, [], true, false, None, is_ok, option_map, ◌<◌, ◌≤◌, length, IfOk, IfErr, OnOk, OnErr};
+ghost use Rattle.std.specs.Prelude.{◌≡◌, ◌≢◌, [], true, is_ok, option_map, ◌<◌, ◌≤◌, length};
+ghost use Rattle.std.specs.Prelude.{IfOk, IfErr, OnOk, OnErr};
 
 mod deleting;
 mod expiring;
 mod leasing;
 mod putting;
 mod ranging;
+mod receipts;
+mod revoking;
 #[cfg(test)]
 pub(crate) mod starting;
 mod transacting;
@@ -55,13 +57,14 @@ impl Model for Core {
 }
 
 impl Core {
-    ghost use Rattle.kv_model.specs.Calls.{Call, call_of};
-    ghost use Rattle.kv_model.specs.World.{World, opening};
+    ghost use Rattle.kv_model.specs.Calls.{call_of};
+    ghost use Rattle.kv_model.specs.World.{opening};
     ghost use Rattle.store_laws.specs.Stands.{StandsFor};
-    ghost use Rattle.kv_model.specs.Step.{perform};
-    ghost use Rattle.request_core.specs.State.{CoreState, IsTold, added_by, core_state, held_in, is_spent, stamp_after, with_versions};
+    ghost use Rattle.request_core.specs.State.{CoreState, IsTold, added_by, core_state, held_in};
+    ghost use Rattle.request_core.specs.State.{is_spent, with_any, with_versions};
     ghost use Rattle.range_view.specs.Stored.{blank_at};
-    ghost use Rattle.request_core.specs.Answers.{Accepts, IsRefusal, IsReadable, answer_view, answer_of, first_refusal, has_changed, is_beside, is_free, is_memory, takes_memory};
+    ghost use Rattle.request_core.specs.Answers.{IsReadable, answer_view, answer_of, is_free};
+    ghost use Rattle.request_core.specs.Commands.{CarriesOut, Does, Refuses};
 
     /// The store before the first event, and before the first changing call. Takes no memory.
     pub fn new(alloc: Global) -> Self
@@ -86,8 +89,8 @@ impl Core {
         }
     }
 
-    /// How many changing calls came, wrapping: accepted commands that changed something, moments, and steps of expiry that revoked
-    /// a lease. No other call counts. Takes no memory.
+    /// How many changing calls came, wrapping: accepted commands that changed something, moments, and
+    /// steps of expiry that revoked a lease. No other call counts. Takes no memory.
     pub fn stamp(&self) -> u64
         ensures { result ≡ self.now.stamp }
     {
@@ -109,65 +112,82 @@ impl Core {
         }
     }
 
-    /// Does one command, on what the core stands for. A refused command leaves the core as it was, and so does an accepted one whose
-    /// receipt says that nothing has changed; where something has, the stamp is one more.
+    /// Does one command, on what the core stands for.
     ///
-    /// The refusals come in the order of the etcd documentation's checks of a request: `NoKey` where the key is empty; of a
-    /// Range, `Compacted` and `Future` where its revision is below the last compaction or above the present one; of a Put,
-    /// `ValueGiven` and `LeaseGiven` where it keeps what it also gives, `KeyMissing` where it keeps what is not there, and
-    /// `LeaseMissing` where it names a lease that is not granted; of a grant, `TtlTooLarge` above 9,000,000,000 seconds,
-    /// `LeaseExists` for an ID in use and `TooManyLeases` where 65,536 are granted; of a revoke, `LeaseMissing`; and last
-    /// `RevisionsSpent` where a change would need a revision above the greatest. `Memory` comes where a list, a copy or the place
-    /// of a lease found none, and may come in place of `RevisionsSpent`; a Range, a keepalive, a time to live and the list of
-    /// leases take none here.
+    /// What an accepted command did is one record, `Does`. In each world that the core stood for, the
+    /// model accepts the command and answers it as the receipt does on the new state, which stands for
+    /// the world after it, and the receipt's `raised` is the model's (`accepted`). The receipt can be
+    /// answered on the new state (`readable`). Where it says that nothing has changed, the core is as
+    /// it was (`unchanged`), and where something has, the stamp is one more (`stamp`). No watch is made
+    /// (`unwatched`), and something besides the versions changed where the model changes it (`beside`).
     ///
-    /// A Txn is first refused for what hangs on it alone, also in branches that do not run, and a transaction before its parts:
-    /// `TooDeep` where it lies in eight others, `TooManyOps` where it has more than 128 compares or operations of a branch, and
-    /// `NoKey`, `ValueGiven` and `LeaseGiven` as each by itself; then `DuplicateKey` where operations that can run together put
-    /// one key, or put a key and delete it; then, of the operations that run, in their order, `Compacted`, `Future`, `KeyMissing`
-    /// and `LeaseMissing`; and `RevisionsSpent` last. `Memory` may come in place of all from `DuplicateKey` on.
+    /// What a refused one left is another, `Refuses`: the refusal is the model's, or memory was
+    /// wanting (`refused`), which it never is where the command takes none (`free`), and the core is
+    /// as it was (`kept`).
     ///
-    /// A Put takes time logarithmic in the number of keys and in that of the versions, and linear in a value that it keeps, which
-    /// is copied. A DeleteRange walks the keys of its range, live or not, each in such time, and adds a tombstone for each that is
-    /// live, all in one revision. A Txn sorts its keys for the check, and takes for each compare and each operation that runs the
-    /// time of a read or a write by itself; all its changes stand in one revision. All this is but for the growth of a list. A
-    /// grant and a keepalive are logarithmic in the number of leases. A revoke looks up the keys that were put under the lease,
-    /// each in such time, and deletes those that still are in one revision.
+    /// The refusals come in the order of the etcd documentation's checks of a request: `NoKey` where
+    /// the key is empty; of a Range, `Compacted` and `Future` where its revision is below the last
+    /// compaction or above the present one; of a Put, `ValueGiven` and `LeaseGiven` where it keeps
+    /// what it also gives, `KeyMissing` where it keeps what is not there, and `LeaseMissing` where it
+    /// names a lease that is not granted; of a grant, `TtlTooLarge` above 9,000,000,000 seconds,
+    /// `LeaseExists` for an ID in use and `TooManyLeases` where 65,536 are granted; of a revoke,
+    /// `LeaseMissing`; and last `RevisionsSpent` where a change would need a revision above the
+    /// greatest. `Memory` comes where a list, a copy or the place of a lease found none, and may come
+    /// in place of `RevisionsSpent`; a Range, a keepalive, a time to live and the list of leases take
+    /// none here.
+    ///
+    /// A Txn is first refused for what hangs on it alone, also in branches that do not run, and a
+    /// transaction before its parts: `TooDeep` where it lies in eight others, `TooManyOps` where it
+    /// has more than 128 compares or operations of a branch, and `NoKey`, `ValueGiven` and
+    /// `LeaseGiven` as each by itself; then `DuplicateKey` where operations that can run together put
+    /// one key, or put a key and delete it; then, of the operations that run, in their order,
+    /// `Compacted`, `Future`, `KeyMissing` and `LeaseMissing`; and `RevisionsSpent` last. `Memory` may
+    /// come in place of all from `DuplicateKey` on.
+    ///
+    /// A Put takes time logarithmic in the number of keys and in that of the versions, and linear in a
+    /// value that it keeps, which is copied. A DeleteRange walks the keys of its range, live or not,
+    /// each in such time, and adds a tombstone for each that is live, all in one revision. A Txn sorts
+    /// its keys for the check, and takes for each compare and each operation that runs the time of a
+    /// read or a write by itself; all its changes stand in one revision. All this is but for the
+    /// growth of a list. A grant and a keepalive are logarithmic in the number of leases. A revoke
+    /// looks up the keys that were put under the lease, each in such time, and deletes those that
+    /// still are in one revision.
     pub fn apply<'c>(&mut self, command: &'c Command) -> Result<Receipt<'c>, Refusal>
-        ensures accepted { IfOk result (λ r. (w : World) → StandsFor self.old.store w
-            → Accepts self.new r w (perform w (call_of command.now)).0 (perform w (call_of command.now)).1) }
-        ensures readable { IfOk result (λ r. IsReadable r self.new) }
-        ensures unchanged { IfOk result (λ r. has_changed r ≡ false → self.new ≡ self.old) }
-        ensures stamp { IfOk result (λ r. self.new.stamp ≡ stamp_after (has_changed r) self.old.stamp) }
-        ensures unwatched { IfOk result (λ r. r.watch ≡ None) }
-        ensures beside { IfOk result (λ r. (w : World) → StandsFor self.old.store w → is_beside r.todo ≡ changes_beside w (call_of command.now)) }
-        ensures refused { IfErr result (λ e. (w : World) → StandsFor self.old.store w
-            → IsRefusal e (first_refusal (perform w (call_of command.now)).0)) }
-        ensures free { IfErr result (λ e. takes_memory (call_of command.now) ≡ false → is_memory e ≡ false) }
-        ensures err { OnErr result (self.new ≡ self.old) }
+        ensures done { IfOk result (λ r. Does self.old self.new (call_of command.now) r) }
+        ensures refused { IfErr result (λ e. Refuses self.old self.new (call_of command.now) e) }
     {
         self.apply_over(command, &mut NoSink)
     }
 
-    /// Does one command, and hands what changes to a sink before it stands, in one batch. A sink that finds no memory refuses
-    /// the command.
+    /// Does one command, and hands what changes to a sink before it stands, in one batch. A sink that
+    /// finds no memory refuses the command.
     pub(crate) fn apply_over<'c, S: Sink>(
         &mut self,
         command: &'c Command,
         sink: &mut S,
     ) -> Result<Receipt<'c>, Refusal>
-        ensures accepted { IfOk result (λ r. (w : World) → StandsFor self.old.store w
-            → Accepts self.new r w (perform w (call_of command.now)).0 (perform w (call_of command.now)).1) }
-        ensures readable { IfOk result (λ r. IsReadable r self.new) }
-        ensures unchanged { IfOk result (λ r. has_changed r ≡ false → self.new ≡ self.old) }
-        ensures stamp { IfOk result (λ r. self.new.stamp ≡ stamp_after (has_changed r) self.old.stamp) }
-        ensures unwatched { IfOk result (λ r. r.watch ≡ None) }
-        ensures beside { IfOk result (λ r. (w : World) → StandsFor self.old.store w → is_beside r.todo ≡ changes_beside w (call_of command.now)) }
+        ensures done { IfOk result (λ r. Does self.old self.new (call_of command.now) r) }
         ensures told { OnOk result (IsTold S.takes (added_by self.old.store (call_of command.now)) sink.old sink.new) }
-        ensures refused { IfErr result (λ e. (w : World) → StandsFor self.old.store w
-            → IsRefusal e (first_refusal (perform w (call_of command.now)).0)) }
-        ensures free { IfErr result (λ e. takes_memory (call_of command.now) ≡ false → is_memory e ≡ false) }
-        ensures err { OnErr result ((self.new ≡ self.old) × (sink.new ≡ sink.old)) }
+        ensures refused { IfErr result (λ e. Refuses self.old self.new (call_of command.now) e) }
+        ensures untold { OnErr result (sink.new ≡ sink.old) }
+    {
+        let before = self.tables.revision();
+        match self.carry_out(command, sink) {
+            Ok(todo) => Ok(self.receipt_of(before, todo)),
+            Err(refusal) => Err(refusal),
+        }
+    }
+
+    /// Does one command, and gives what is left to read for its answer. It is not counted yet.
+    fn carry_out<'c, S: Sink>(
+        &mut self,
+        command: &'c Command,
+        sink: &mut S,
+    ) -> Result<Todo<'c>, Refusal>
+        ensures done { IfOk result (λ t. CarriesOut self.old self.new (call_of command.now) t) }
+        ensures told { OnOk result (IsTold S.takes (added_by self.old.store (call_of command.now)) sink.old sink.new) }
+        ensures refused { IfErr result (λ e. Refuses self.old self.new (call_of command.now) e) }
+        ensures untold { OnErr result (sink.new ≡ sink.old) }
     {
         match command {
             Command::Range(query) => self.apply_range(query),
@@ -182,12 +202,14 @@ impl Core {
         }
     }
 
-    /// The answer of a receipt, on the state that it left. It lends keys and values from the core and copies none.
+    /// The answer of a receipt, on the state that it left. It lends keys and values from the core and
+    /// copies none.
     ///
-    /// `AllocError` comes where the list of an answer, or the sort of a Range, found no memory; so never to a Put, a grant, a revoke
-    /// or a keepalive. What a delete showed is read at the end of the revision before its own, and each operation of a transaction
-    /// is read before its own changes. The keys of a lease are found by an index, and no others are walked but those
-    /// that were put under it.
+    /// `AllocError` comes where the list of an answer, or the sort of a Range, found no memory; so
+    /// never to a Put, a grant, a revoke or a keepalive. What a delete showed is read at the end of
+    /// the revision before its own, and each operation of a transaction is read before its own
+    /// changes. The keys of a lease are found by an index, and no others are walked but those that
+    /// were put under it.
     pub fn answer<'a>(&'a self, receipt: &Receipt<'_>) -> Result<Answer<'a>, AllocError>
         requires { IsReadable receipt.now self.now }
         ensures lends { IfOk result (λ a. answer_view a ≡ answer_of receipt.now self.now) }
@@ -246,8 +268,26 @@ impl Core {
         self.tables.view().get(key)
     }
 
-    /// Appends the versions of the next revision, once the sink has taken them. Where that fails, the index of leases may have
-    /// some pairs more.
+    /// Appends the versions of the next revision, where there are some, once the sink has taken them.
+    fn append_any<S: Sink>(
+        &mut self,
+        versions: Vec<Version>,
+        sink: &mut S,
+    ) -> Result<(), AllocError>
+        requires room { versions.items ≢ [] → self.old.store.revision < last_main }
+        requires next { versions.items ≢ [] → AreNext self.old.store.revision versions.items }
+        ensures ok { OnOk result (self.new ≡ with_any self.old versions.items) }
+        ensures told { OnOk result (IsTold S.takes versions.items sink.old sink.new) }
+        ensures err { OnErr result ((self.new ≡ self.old) × (sink.new ≡ sink.old)) }
+    {
+        if versions.is_empty() {
+            return Ok(());
+        }
+        self.append(versions, sink)
+    }
+
+    /// Appends the versions of the next revision, once the sink has taken them. Where that fails, the
+    /// index of leases may have some pairs more.
     fn append<S: Sink>(&mut self, versions: Vec<Version>, sink: &mut S) -> Result<(), AllocError>
         requires room { self.old.store.revision < last_main }
         requires next { AreNext self.old.store.revision versions.items }
@@ -263,7 +303,6 @@ impl Core {
             self.tables.retract(main);
             return Err(full);
         }
-        self.stamp = self.stamp.wrapping_add(1);
         Ok(())
     }
 }

@@ -3,10 +3,10 @@ ghost use Rattle.kv_model.specs.History.{end_of};
 ghost use Rattle.kv_model.specs.Ranges.{live};
 ghost use Rattle.kv_model.specs.Txns.{if_asked};
 ghost use Rattle.range_view.specs.Replies.{kv_view};
-ghost use Rattle.std.specs.Prelude.{◌≡◌, false, map, ◌-◌, [], length, IfOk, IfErr, OnOk, OnErr, None};
+ghost use Rattle.std.specs.Prelude.{◌≡◌, map, ◌-◌, [], length, IfOk, IfErr, OnOk, OnErr, None};
 
 use super::Core;
-use crate::answer::{Receipt, Todo};
+use crate::answer::Todo;
 use crate::writing::tombstones;
 use kv_model::call::DeleteRequest;
 use kv_model::feed::Sink;
@@ -18,53 +18,30 @@ use std::alloc::AllocError;
 
 impl Core {
     ghost use Rattle.kv_model.specs.Calls.{Call};
-    ghost use Rattle.kv_model.specs.World.{World};
-    ghost use Rattle.store_laws.specs.Stands.{StandsFor};
-    ghost use Rattle.kv_model.specs.Step.{perform};
-    ghost use Rattle.request_core.specs.State.{IsTold, added_by, fault_of_delete, added_by_delete, after_delete, answer_after_delete, live_in, raised_by_delete, stamp_after};
-    ghost use Rattle.request_core.specs.Answers.{Accepts, IsRefusal, IsReadable, answer_of, first_refusal, has_changed, is_beside};
+    ghost use Rattle.request_core.specs.State.{IsTold, added_by, fault_of_delete, added_by_delete};
+    ghost use Rattle.request_core.specs.State.{after_delete, live_in};
+    ghost use Rattle.request_core.specs.Answers.{IsRefusal};
+    ghost use Rattle.request_core.specs.Commands.{CarriesOut, Refuses};
 
-    /// A DeleteRange appends the tombstones of the live keys of its range at the next revision, and nothing where none is live.
+    /// A DeleteRange appends the tombstones of the live keys of its range at the next revision, and
+    /// nothing where none is live.
     pub(crate) fn apply_delete<'c, S: Sink>(
         &mut self,
         request: &'c DeleteRequest,
         sink: &mut S,
-    ) -> Result<Receipt<'c>, Refusal>
-        ensures accepted { IfOk result (λ r. (w : World) → StandsFor self.old.store w
-            → Accepts self.new r w (perform w (Call.delete request.now)).0 (perform w (Call.delete request.now)).1) }
-        ensures readable { IfOk result (λ r. IsReadable r self.new) }
-        ensures beside { IfOk result (λ r. is_beside r.todo ≡ false) }
-        ensures unraised { IfOk result (λ r. r.raised ≡ None → self.new ≡ self.old) }
-        ensures stamp { IfOk result (λ r. self.new.stamp ≡ stamp_after (has_changed r) self.old.stamp) }
-        ensures unwatched { IfOk result (λ r. r.watch ≡ None) }
+    ) -> Result<Todo<'c>, Refusal>
+        ensures done { IfOk result (λ t. CarriesOut self.old self.new (Call.delete request.now) t) }
         ensures told { OnOk result (IsTold S.takes (added_by self.old.store (Call.delete request.now)) sink.old sink.new) }
-        ensures refused { IfErr result (λ e. (w : World) → StandsFor self.old.store w
-            → IsRefusal e (first_refusal (perform w (Call.delete request.now)).0)) }
-        ensures err { OnErr result ((self.new ≡ self.old) × (sink.new ≡ sink.old)) }
+        ensures refused { IfErr result (λ e. Refuses self.old self.new (Call.delete request.now) e) }
+        ensures untold { OnErr result (sink.new ≡ sink.old) }
     {
         match self.delete(request, sink) {
-            Ok(deleted) => Ok(self.receipt_of_delete(request, deleted)),
-            Err(refusal) => Err(refusal),
-        }
-    }
-
-    fn receipt_of_delete<'c>(&self, request: &'c DeleteRequest, deleted: u64) -> Receipt<'c>
-        ensures answers { answer_of result self.now ≡ answer_after_delete self.now.store request.now deleted }
-        ensures raised { (result.raised ≡ raised_by_delete deleted self.now.store.revision) × (result.watch ≡ None) }
-        ensures readable { IsReadable result self.now }
-        ensures beside { is_beside result.todo ≡ false }
-    {
-        let revision = self.tables.revision();
-        Receipt {
-            stamp: self.stamp,
-            revision,
-            raised: if deleted > 0 { Some(revision) } else { None },
-            watch: None,
-            todo: Todo::Delete {
+            Ok(deleted) => Ok(Todo::Delete {
                 range: &request.range,
                 previous: request.prev_kv,
                 deleted,
-            },
+            }),
+            Err(refusal) => Err(refusal),
         }
     }
 
@@ -82,7 +59,7 @@ impl Core {
             Err(refusal) => return Err(refusal),
         };
         let deleted = versions.len() as u64;
-        if deleted > 0 && self.append(versions, sink).is_err() {
+        if self.append_any(versions, sink).is_err() {
             return Err(Refusal::Memory);
         }
         Ok(deleted)

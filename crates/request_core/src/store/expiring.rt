@@ -1,7 +1,8 @@
 //! The clock, and expiry.
 ghost use Rattle.kv_model.specs.Told.{Expiry as ModelExpiry};
 ghost use Rattle.request_core.specs.Answers.{is_memory};
-ghost use Rattle.std.specs.Prelude.{◌≡◌, true, false, MatchBool, ⊤, nat_lt, if◌then◌else◌, IfOk, IfErr, OnOk, OnErr, Some};
+ghost use Rattle.std.specs.Prelude.{◌≡◌, true, false, MatchBool, ⊤, nat_lt, if◌then◌else◌, Some};
+ghost use Rattle.std.specs.Prelude.{IfOk, IfErr, OnOk, OnErr};
 
 use super::Core;
 use crate::answer::Expiry;
@@ -12,7 +13,8 @@ impl Core {
     ghost use Rattle.kv_model.specs.World.{World, at_moment};
     ghost use Rattle.store_laws.specs.Stands.{StandsFor};
     ghost use Rattle.kv_model.specs.Step.{expire};
-    ghost use Rattle.request_core.specs.State.{IsTold, added_by_expiry, added_by_revoke, after_moment, due_in, stamp_after};
+    ghost use Rattle.request_core.specs.State.{IsTold, added_by_expiry, added_by_revoke};
+    ghost use Rattle.request_core.specs.State.{after_moment, counted, due_in, stamp_after};
     ghost use Rattle.request_core.specs.Answers.{expiry_view, has_expired};
 
     /// Hands in the present moment, in milliseconds, and answers the clock: the greatest moment so far. An earlier one leaves
@@ -74,11 +76,13 @@ impl Core {
         }
     }
 
-    /// That a lease was revoked with so many keys.
-    fn expired(&self, id: i64, deleted: u64) -> Expiry
-        ensures told { expiry_view result ≡ ModelExpiry.expired id self.now.store.revision (nat_lt 0 deleted) }
+    /// Counts that a lease was revoked with so many keys, and tells it.
+    fn expired(&mut self, id: i64, deleted: u64) -> Expiry
+        ensures told { expiry_view result ≡ ModelExpiry.expired id self.old.store.revision (nat_lt 0 deleted) }
         ensures expired { has_expired result ≡ true }
+        ensures counts { self.new ≡ counted true self.old }
     {
+        self.stamp = self.stamp.wrapping_add(1);
         Expiry::Expired {
             id,
             revision: self.tables.revision(),

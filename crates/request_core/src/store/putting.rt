@@ -3,10 +3,11 @@ ghost use Rattle.kv_model.specs.History.{end_of, value_at};
 ghost use Rattle.kv_model.specs.Txns.{previous_value};
 ghost use Rattle.range_view.specs.Replies.{kv_view};
 ghost use Rattle.request_core.specs.Writing.{AreNext};
-ghost use Rattle.std.specs.Prelude.{◌≡◌, false, option_map, ◌+◌, ◌-◌, [], ◌∷◌, IfOk, IfErr, OnOk, OnErr, None, Some};
+ghost use Rattle.std.specs.Prelude.{◌≡◌, option_map, ◌-◌, [], ◌∷◌, None};
+ghost use Rattle.std.specs.Prelude.{IfOk, IfErr, OnOk, OnErr};
 
 use super::Core;
-use crate::answer::{Receipt, Todo};
+use crate::answer::Todo;
 use crate::writing::{fault_of_put, put_versions};
 use bytes::Bytes;
 use kv_model::call::PutRequest;
@@ -18,52 +19,29 @@ use range_view::revision::end_of;
 
 impl Core {
     ghost use Rattle.kv_model.specs.Calls.{Call};
-    ghost use Rattle.kv_model.specs.World.{World};
-    ghost use Rattle.store_laws.specs.Stands.{StandsFor};
-    ghost use Rattle.kv_model.specs.Step.{perform};
-    ghost use Rattle.request_core.specs.State.{IsTold, added_by, fault_of_put, added_by_put, after_put, answer_after_put, held_in, stamp_after};
-    ghost use Rattle.request_core.specs.Answers.{Accepts, IsRefusal, IsReadable, answer_of, first_refusal, has_changed, is_beside};
+    ghost use Rattle.request_core.specs.State.{IsTold, added_by, fault_of_put, added_by_put};
+    ghost use Rattle.request_core.specs.State.{after_put, held_in};
+    ghost use Rattle.request_core.specs.Answers.{IsRefusal};
+    ghost use Rattle.request_core.specs.Commands.{CarriesOut, Refuses};
 
     /// A Put appends one version at the next revision.
     pub(crate) fn apply_put<'c, S: Sink>(
         &mut self,
         request: &'c PutRequest,
         sink: &mut S,
-    ) -> Result<Receipt<'c>, Refusal>
-        ensures accepted { IfOk result (λ r. (w : World) → StandsFor self.old.store w
-            → Accepts self.new r w (perform w (Call.put request.now)).0 (perform w (Call.put request.now)).1) }
-        ensures readable { IfOk result (λ r. IsReadable r self.new) }
-        ensures beside { IfOk result (λ r. is_beside r.todo ≡ false) }
-        ensures raised { IfOk result (λ r. (r.raised ≡ Some (self.old.store.revision + 1)) × (r.watch ≡ None)) }
-        ensures stamp { IfOk result (λ r. self.new.stamp ≡ stamp_after (has_changed r) self.old.stamp) }
+    ) -> Result<Todo<'c>, Refusal>
+        ensures done { IfOk result (λ t. CarriesOut self.old self.new (Call.put request.now) t) }
         ensures told { OnOk result (IsTold S.takes (added_by self.old.store (Call.put request.now)) sink.old sink.new) }
-        ensures refused { IfErr result (λ e. (w : World) → StandsFor self.old.store w
-            → IsRefusal e (first_refusal (perform w (Call.put request.now)).0)) }
-        ensures err { OnErr result ((self.new ≡ self.old) × (sink.new ≡ sink.old)) }
+        ensures refused { IfErr result (λ e. Refuses self.old self.new (Call.put request.now) e) }
+        ensures untold { OnErr result (sink.new ≡ sink.old) }
     {
         if let Err(refusal) = self.put(request, sink) {
             return Err(refusal);
         }
-        Ok(self.receipt_of_put(request))
-    }
-
-    fn receipt_of_put<'c>(&self, request: &'c PutRequest) -> Receipt<'c>
-        ensures answers { answer_of result self.now ≡ answer_after_put self.now.store request.now }
-        ensures raised { (result.raised ≡ Some self.now.store.revision) × (result.watch ≡ None) }
-        ensures readable { IsReadable result self.now }
-        ensures beside { is_beside result.todo ≡ false }
-    {
-        let revision = self.tables.revision();
-        Receipt {
-            stamp: self.stamp,
-            revision,
-            raised: Some(revision),
-            watch: None,
-            todo: Todo::Put {
-                key: &request.key,
-                previous: request.prev_kv,
-            },
-        }
+        Ok(Todo::Put {
+            key: &request.key,
+            previous: request.prev_kv,
+        })
     }
 
     /// Appends the version that a put makes. What can fail comes first, and the sink's taking last.

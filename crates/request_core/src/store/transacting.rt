@@ -4,18 +4,17 @@ ghost use Rattle.store_laws.specs.Stores.{path_in, refusal_of_path, changes_of_p
 ghost use Rattle.kv_model.specs.Txns.{Path, replies_of};
 ghost use Rattle.range_view.specs.Replies.{replies_view};
 ghost use Rattle.range_view.specs.Stored.{IsUpTo};
-ghost use Rattle.request_core.specs.Writing.{AreNext};
 ghost use Rattle.std.specs.List.{AllByRecursion};
-ghost use Rattle.std.specs.Prelude.{◌≡◌, ◌≢◌, ◌<◌, ◌≤◌, ◌^◌, false, [], length, IfOk, IfErr, OnOk, OnErr, None};
+ghost use Rattle.std.specs.Prelude.{◌≡◌, ◌<◌, ◌≤◌, ◌^◌, [], length, None};
+ghost use Rattle.std.specs.Prelude.{IfOk, IfErr, OnOk, OnErr};
 ghost use Rattle.txn_core.specs.KeyWrites.{IsCountedTo};
 ghost use Rattle.txn_core.specs.Steps.{steps_view};
 
 use super::Core;
-use crate::answer::{Receipt, Todo};
+use crate::answer::Todo;
 use kv_model::call::Txn;
 use kv_model::feed::Sink;
 use kv_model::refusal::Refusal;
-use kv_model::version::Version;
 use range_view::reply::OpReply;
 use range_view::revision::end_of;
 use range_view::view::View;
@@ -26,63 +25,31 @@ use txn_core::{check, plan};
 impl Core {
     ghost use Rattle.kv_model.specs.Calls.{as_call, txn_view};
     ghost use Rattle.kv_model.specs.History.{end_of};
-    ghost use Rattle.kv_model.specs.World.{World};
-    ghost use Rattle.store_laws.specs.Stands.{StandsFor};
-    ghost use Rattle.kv_model.specs.Step.{perform};
-    ghost use Rattle.request_core.specs.State.{IsTold, added_by, fault_of_txn, added_by_txn, after_txn, raised_from, stamp_after, with_some};
-    ghost use Rattle.request_core.specs.Answers.{Accepts, CanReply, IsAllowed, IsRefusal, IsReadable, answer_of, first_refusal, has_changed, is_beside, reply_left};
+    ghost use Rattle.request_core.specs.State.{IsTold, added_by, fault_of_txn, added_by_txn};
+    ghost use Rattle.request_core.specs.State.{after_txn};
+    ghost use Rattle.request_core.specs.Answers.{CanReply, IsRefusal};
+    ghost use Rattle.request_core.specs.Commands.{CarriesOut, Refuses};
 
-    /// A transaction appends the versions of its changes at the next revision, and nothing where it changes no key.
+    /// A transaction appends the versions of its changes at the next revision, and nothing where it
+    /// changes no key.
     pub(crate) fn apply_txn<'c, S: Sink>(
         &mut self,
         txn: &'c Txn,
         sink: &mut S,
-    ) -> Result<Receipt<'c>, Refusal>
-        ensures accepted { IfOk result (λ r. (w : World) → StandsFor self.old.store w
-            → Accepts self.new r w (perform w (as_call (txn_view txn.now))).0 (perform w (as_call (txn_view txn.now))).1) }
-        ensures readable { IfOk result (λ r. IsReadable r self.new) }
-        ensures beside { IfOk result (λ r. is_beside r.todo ≡ false) }
-        ensures unraised { IfOk result (λ r. r.raised ≡ None → self.new ≡ self.old) }
-        ensures stamp { IfOk result (λ r. self.new.stamp ≡ stamp_after (has_changed r) self.old.stamp) }
-        ensures unwatched { IfOk result (λ r. r.watch ≡ None) }
+    ) -> Result<Todo<'c>, Refusal>
+        ensures done { IfOk result (λ t. CarriesOut self.old self.new (as_call (txn_view txn.now)) t) }
         ensures told { OnOk result (IsTold S.takes (added_by self.old.store (as_call (txn_view txn.now))) sink.old sink.new) }
-        ensures refused { IfErr result (λ e. (w : World) → StandsFor self.old.store w
-            → IsRefusal e (first_refusal (perform w (as_call (txn_view txn.now))).0)) }
-        ensures err { OnErr result ((self.new ≡ self.old) × (sink.new ≡ sink.old)) }
+        ensures refused { IfErr result (λ e. Refuses self.old self.new (as_call (txn_view txn.now)) e) }
+        ensures untold { OnErr result (sink.new ≡ sink.old) }
     {
         let before = self.tables.revision();
         match self.run(txn, sink) {
-            Ok((succeeded, steps)) => {
-                let todo = Todo::Txn {
-                    before,
-                    succeeded,
-                    steps,
-                };
-                Ok(self.receipt_since(before, todo))
-            }
+            Ok((succeeded, steps)) => Ok(Todo::Txn {
+                before,
+                succeeded,
+                steps,
+            }),
             Err(refusal) => Err(refusal),
-        }
-    }
-
-    /// The receipt of a command that found a revision.
-    fn receipt_since<'c>(&self, before: u64, todo: Todo<'c>) -> Receipt<'c>
-        requires { IsAllowed todo self.now.store }
-        ensures answers { answer_of result self.now ≡ record { reply = reply_left todo.entry self.now.store self.now.store.revision; revision = self.now.store.revision } }
-        ensures raised { (result.raised ≡ raised_from before self.now.store.revision) × (result.watch ≡ None) }
-        ensures readable { IsReadable result self.now }
-        ensures todo { result.todo ≡ todo.entry }
-    {
-        let revision = self.tables.revision();
-        Receipt {
-            stamp: self.stamp,
-            revision,
-            raised: if before < revision {
-                Some(revision)
-            } else {
-                None
-            },
-            watch: None,
-            todo,
         }
     }
 
@@ -112,7 +79,7 @@ impl Core {
             Ok(made) => made,
             Err(refusal) => return Err(refusal),
         };
-        if self.append_some(versions, sink).is_err() {
+        if self.append_any(versions, sink).is_err() {
             return Err(Refusal::Memory);
         }
         Ok((succeeded, steps))
@@ -153,24 +120,6 @@ impl Core {
         ensures counted { AllByRecursion (λ v. IsCountedTo self.now.store.revision v.body) self.now.store.versions }
     {
         self.tables.view_at(end_of(self.tables.revision()))
-    }
-
-    /// Appends the versions of the next revision, where there are some.
-    fn append_some<S: Sink>(
-        &mut self,
-        versions: Vec<Version>,
-        sink: &mut S,
-    ) -> Result<(), AllocError>
-        requires room { versions.items ≢ [] → self.old.store.revision < last_main }
-        requires next { versions.items ≢ [] → AreNext self.old.store.revision versions.items }
-        ensures ok { OnOk result (self.new ≡ with_some self.old versions.items) }
-        ensures told { OnOk result (IsTold S.takes versions.items sink.old sink.new) }
-        ensures err { OnErr result ((self.new ≡ self.old) × (sink.new ≡ sink.old)) }
-    {
-        if versions.is_empty() {
-            return Ok(());
-        }
-        self.append(versions, sink)
     }
 
     /// The answers to the operations of a transaction that found a revision.

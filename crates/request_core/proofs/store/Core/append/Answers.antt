@@ -1,4 +1,4 @@
-use Rattle.std.proofs.Common.{◌+◌, ◌<◌, ◌%◌, ◌^◌, sym, ◌∙◌, ap, subst}
+use Rattle.std.proofs.Common.{◌+◌, ◌<◌, sym, ◌∙◌, ap, subst}
 use Rattle.kv_model.specs.History.{value_now}
 use Rattle.kv_model.specs.Step.{last_main}
 use Rattle.lease_keys.specs.Holding.{Holds}
@@ -32,8 +32,8 @@ returns-in-Err-clause-err g c =
     ∙ ap (λ n. retracted_to (n + 1) (appended t vs)) c.revision-main.ensures.value ∙ retracted_to-appended t vs c.revision-main.ensures.stored next.next in
     (ap (λ (u : Stored). core_state u c.self.inside.book c.self.inside.stamp) back ∙ c.self.view_is, c.in-Err.ensures.err)
 
-pub invariant_of-self-2 : goal.invariant_of-self-2
-invariant_of-self-2 g c =
+pub invariant_of-self-in_default : goal.invariant_of-self-in_default
+invariant_of-self-in_default g c =
     let t = c.self.inside.tables in
     let vs = c.args.versions.items in
     let same = ap (λ (s : CoreState). s.store.revision) c.self.view_is in
@@ -49,5 +49,5 @@ returns-clause-ok g c =
     let t = c.self.inside.tables in
     let vs = c.args.versions.items in
     let next = subst (λ r. AreNext r vs) (sym (ap (λ (s : CoreState). s.store.revision) c.self.view_is)) c.requires.next in
-    ap (λ (u : Stored). core_state u c.self.inside.book ((c.self.inside.stamp + 1) % 2 ^ 64)) c.in_ok-append.ensures.ok
+    ap (λ (u : Stored). core_state u c.self.inside.book c.self.inside.stamp) c.in_ok-append.ensures.ok
     ∙ grown-state t c.self.inside.book vs c.self.inside.stamp next ∙ ap (λ (s : CoreState). with_versions s vs) c.self.view_is

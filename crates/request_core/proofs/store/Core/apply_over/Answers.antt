@@ -1,15 +1,12 @@
-use Rattle.std.proofs.Common.{sym, ◌∙◌, ap, subst, rules}
-use Rattle.std.specs.Int.{w64}
-use Rattle.std.specs.Int.RustNames.{FitsSigned}
-use Rattle.std.proofs.lemmas.Int.{to_z-of_z}
-use Rattle.kv_model.specs.Calls.{Call, call_of}
-use Rattle.kv_model.specs.Step.{perform}
-use Rattle.request_core.specs.Answers.{Accepts}
+use Rattle.std.proofs.Common.{ℕ, subst, ap, sym, ◌∙◌}
+use Rattle.request_core.specs.State.{CoreState}
+use Rattle.request_core.specs.Commands.{IsIssued}
+use Rattle.request_core.proofs.Worlds.{does}
 use Rattle.request_core.proofs.store.Core.apply_over.Goals as goal
 
-pub returns-in-TimeToLive-clause-accepted : goal.returns-in-TimeToLive-clause-accepted
-returns-in-TimeToLive-clause-accepted g c = λ w h.
-    let fits : FitsSigned w64 c.in-TimeToLive.id = search rules in
-    subst (λ (m : Call). Accepts c.args.self.now c.apply_time_to_live.result w (perform w m).0 (perform w m).1)
-    (ap (λ i. Call.time_to_live i c.in-TimeToLive.keys) (to_z-of_z w64 c.in-TimeToLive.id fits) ∙ sym (ap call_of c.in-TimeToLive.is))
-    (c.apply_time_to_live.ensures.accepted w h)
+pub returns-in-Ok-clause-done : goal.returns-in-Ok-clause-done
+returns-in-Ok-clause-done g c =
+    let found : c.revision-before.result ≡ c.args.self.now.store.revision
+    = c.revision-before.ensures.value ∙ ap (λ (s : CoreState). s.store.revision) c.self.view_is in
+    does c.args.self.now c.carry_out.new.self c.receipt_of.new.self _ c.in-Ok.todo c.receipt_of.result c.in-Ok.ensures.done
+    (subst (λ (n : ℕ). IsIssued n c.in-Ok.todo c.carry_out.new.self c.receipt_of.new.self c.receipt_of.result) found c.receipt_of.ensures)

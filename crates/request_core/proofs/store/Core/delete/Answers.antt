@@ -1,18 +1,18 @@
-use Rattle.std.proofs.Common.{◌+◌, ◌≤◌, ◌^◌, sym, ◌∙◌, ap, subst, length, rules}
-use Rattle.request_core.specs.Writing.{AreNext}
+use Rattle.std.proofs.Common.{◌+◌, ◌≤◌, ◌^◌, ◌∙◌, ap, length, rules}
 use Rattle.request_core.specs.State.{live_in}
-use Rattle.request_core.proofs.Kept.{tombstones-next, tombstones-length}
+use Rattle.request_core.proofs.Kept.{some-tombstones-next, tombstones-length}
 use Rattle.request_core.proofs.store.Core.delete.Goals as goal
 
-pub append-requires-clause-next : goal.append-requires-clause-next
-append-requires-clause-next g c =
+pub append_any-requires-clause-next : goal.append_any-requires-clause-next
+append_any-requires-clause-next g c = λ some.
     let s = c.args.self.now.store in
     let kvs = live_in s c.args.request.now.range in
     let counted = c.len-deleted.ensures ∙ c.in-Ok.versions.ok.0 ∙ ap length c.in-Ok.ensures.made.1 ∙ tombstones-length (s.revision + 1) 0 kvs in
     let few : c.len-deleted.result ≤ 2 ^ 64 = search rules in
-    subst (AreNext s.revision) (sym c.in-Ok.ensures.made.1) (tombstones-next s.revision c.len-deleted.result kvs counted few c.if-deleted-gt0.true)
+    some-tombstones-next s.revision c.len-deleted.result kvs c.in-Ok.versions.items c.in-Ok.ensures.made.1 counted few some
 
 pub returns-clause-counted : goal.returns-clause-counted
 returns-clause-counted g c =
     let s = c.args.self.now.store in
-    c.len-deleted.ensures ∙ c.in-Ok.versions.ok.0 ∙ ap length c.in-Ok.ensures.made.1 ∙ tombstones-length (s.revision + 1) 0 (live_in s c.args.request.now.range)
+    c.len-deleted.ensures ∙ c.in-Ok.versions.ok.0 ∙ ap length c.in-Ok.ensures.made.1
+    ∙ tombstones-length (s.revision + 1) 0 (live_in s c.args.request.now.range)

@@ -1,0 +1,92 @@
+-- What a command does with a core, and what one that is refused leaves.
+use Rattle.std.specs.Prelude.{◌≡◌, ℕ, Bool, true, false, ◌||◌, nat_lt, Option, None, Some, Result, Ok, Err}
+use Rattle.kv_model.specs.declared.refusal.Refusal.{Refusal}
+use Rattle.kv_model.specs.Calls.{Call}
+use Rattle.kv_model.specs.Step.{made_in, perform}
+use Rattle.kv_model.specs.Told.{Reply, Answer}
+use Rattle.kv_model.specs.Wire.{raised, number_made, changes_beside}
+use Rattle.kv_model.specs.World.{World}
+use Rattle.store_laws.specs.Stands.{Store, StandsFor}
+use Rattle.request_core.specs.declared.answer.Receipt.{Receipt}
+use Rattle.request_core.specs.declared.answer.Todo.{Todo}
+use Rattle.request_core.specs.State.{CoreState, counted, raised_from, stamp_after}
+use Rattle.request_core.specs.Answers.{IsAllowed, IsReadable, IsRefusal, answer_of, has_changed, is_beside, is_memory}
+use Rattle.request_core.specs.Answers.{reply_left}
+
+-- ---- a command that is accepted
+
+-- a command was accepted as the model accepts it in this world, which then is that one
+pub record Accepts (new : CoreState) (r : Receipt) (w : World) (told : Result Answer Refusal) (after : World) : Type 0 where
+  pub answers : told ≡ Ok (answer_of r new)
+  pub stands : StandsFor new.store after
+  pub raised : r.raised ≡ raised w after
+  pub watch : r.watch ≡ number_made w after
+
+-- what an accepted command did with a core, from the first state to the second, and what its receipt says of it
+pub record Does (old new : CoreState) (call : Call) (r : Receipt) : Type 0 where
+  -- in each world that the core stood for, it is what the model does
+  pub accepted : (w : World) → StandsFor old.store w → Accepts new r w (perform w call).0 (perform w call).1
+  -- the receipt can be answered on the state that is left
+  pub readable : IsReadable r new
+  -- where the receipt tells of no change, the core is as it was
+  pub unchanged : has_changed r ≡ false → new ≡ old
+  -- the command is counted where it changed something
+  pub stamp : new.stamp ≡ stamp_after (has_changed r) old.stamp
+  -- it made no watch
+  pub unwatched : r.watch ≡ None
+  -- it changed something besides the versions where it does so in the model
+  pub beside : (w : World) → StandsFor old.store w → is_beside r.todo ≡ changes_beside w call
+
+-- ---- a command that is refused
+
+-- the refusal that an answer is, if it is one
+abbrev pub first_refusal : Result Answer Refusal → Option Refusal
+first_refusal (Ok a) = None
+first_refusal (Err e) = Some e
+
+-- doing the command may want memory
+abbrev pub takes_memory : Call → Bool
+takes_memory (Call.range q) = false
+takes_memory (Call.keep_alive id) = false
+takes_memory (Call.time_to_live id asked) = false
+takes_memory Call.leases = false
+takes_memory _ = true
+
+-- what a refused command did with a core, from the first state to the second
+pub record Refuses (old new : CoreState) (call : Call) (e : Refusal) : Type 0 where
+  -- in each world that the core stood for, the model refuses it so, or memory was wanting
+  pub refused : (w : World) → StandsFor old.store w → IsRefusal e (first_refusal (perform w call).0)
+  -- only a command that may want memory is refused for want of it
+  pub free : takes_memory call ≡ false → is_memory e ≡ false
+  -- the core is as it was
+  pub kept : new ≡ old
+
+-- ---- on the way to a receipt
+
+-- in this world the model answers the command so, and the store stands for the world after it
+pub record Makes (w : World) (call : Call) (told : Reply) (new : Store) : Type 0 where
+  pub after : World
+  pub made : made_in w call ≡ Ok (told, after)
+  pub stands : StandsFor new after
+
+-- a change that is not counted yet, and that is none where neither the revision rose nor something else changed
+pub record Moves (old new : CoreState) (beside : Bool) : Type 0 where
+  pub unchanged : (nat_lt old.store.revision new.store.revision || beside) ≡ false → new ≡ old
+  pub stamp : new.stamp ≡ old.stamp
+  pub watches : new.store.made ≡ old.store.made
+
+-- what a command has done, for which this is left to read, before it is counted
+pub record CarriesOut (old new : CoreState) (call : Call) (t : Todo) : Type 0 where
+  pub makes : (w : World) → StandsFor old.store w → Makes w call (reply_left t new.store new.store.revision) new.store
+  pub allowed : IsAllowed t new.store
+  pub beside : (w : World) → StandsFor old.store w → is_beside t ≡ changes_beside w call
+  pub moves : Moves old new (is_beside t)
+
+-- the receipt of a command that found a revision, left this to read in the first state, and is counted in the second
+pub record IsIssued (before : ℕ) (t : Todo) (old new : CoreState) (r : Receipt) : Type 0 where
+  pub todo : r.todo ≡ t
+  pub revision : r.revision ≡ new.store.revision
+  pub stamp : r.stamp ≡ new.stamp
+  pub raised : r.raised ≡ raised_from before old.store.revision
+  pub unwatched : r.watch ≡ None
+  pub counts : new ≡ counted (has_changed r) old
