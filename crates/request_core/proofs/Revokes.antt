@@ -1,162 +1,134 @@
 -- What a revoke and a step of expiry do, in each world that the core stands for.
-use Rattle.std.proofs.Common.{◌≡◌, ◌≢◌, ℕ, ℤ, ◌+◌, ◌<◌, ◌≤◌, ◌^◌, ◌&&◌, List, [], ◌∷◌, length, Bool, true, false, cond, not, nat_lt, Option, None, Some, Ok, Err, refl, sym, ◌∙◌, ap, subst, arith, lt-ltb, le-ltb}
-use Rattle.std.specs.Prelude.{option_map, MatchBool, ⊤}
+use Rattle.std.proofs.Common.{◌≡◌, ◌≢◌, ℕ, ℤ, ◌+◌, ◌<◌, ◌≤◌, ◌^◌, ◌&&◌, List, [], ◌∷◌, length, Bool, true, false, cond, not, nat_lt}
+use Rattle.std.proofs.Common.{Option, None, Some, Ok, Err, refl, sym, ◌∙◌, ap, subst, arith, lt-ltb, le-ltb}
+use Rattle.std.specs.Prelude.{option_map, MatchBool, ⊤, ◌||◌}
 use Rattle.std.specs.Option.{option_or}
 use Rattle.std.proofs.lemmas.List.{length-map}
 use Rattle.kv_model.specs.declared.refusal.Refusal.{Refusal}
 use Rattle.kv_model.specs.declared.refusal.Refusal.TheVariants.{Memory, RevisionsSpent}
-use Rattle.kv_model.specs.Lists.{is_empty}
+use Rattle.kv_model.specs.declared.version.Version.{Version}
 use Rattle.kv_model.specs.Calls.{Call}
-use Rattle.kv_model.specs.History.{KeyValue}
+use Rattle.kv_model.specs.History.{KeyValue, Mutation}
 use Rattle.kv_model.specs.Leases.{Lease, without_lease, keys_of_lease, due}
-use Rattle.kv_model.specs.Ranges.{keys_of, refuse_if}
+use Rattle.kv_model.specs.Ranges.{keys_of}
 use Rattle.kv_model.specs.Told.{Reply, Expiry}
 use Rattle.kv_model.specs.Txns.{deletes_of}
-use Rattle.kv_model.specs.World.{World, revision, changed}
-use Rattle.kv_model.specs.Step.{last_main, made_in, perform, refused_or, commit_at, expiry_of, expire, expire_at, revoke_in}
+use Rattle.kv_model.specs.World.{World, revision}
+use Rattle.kv_model.specs.Step.{made_in, expiry_of, expire, expire_at, revoke_in}
 use Rattle.store_laws.specs.Stands.{Store, StandsFor, grown}
 use Rattle.store_laws.specs.Stores.{with_leases, refusal_of_revoke, changes_of_revoke}
 use Rattle.store_laws.proofs.StandsLeases.{leases_stand, revoke_told, due_stands}
 use Rattle.request_core.proofs.Quiet.{revoke_stands}
-use Rattle.request_core.specs.declared.answer.Receipt.{Receipt}
+use Rattle.request_core.specs.declared.answer.Todo.TheVariants as todo
 use Rattle.request_core.specs.Writing.{tombstones}
-use Rattle.request_core.specs.State.{CoreState, leased_in, is_spent, stamped, with_versions, with_any, leased, fault_of_revoke, added_by_revoke, after_revoke, raised_by_delete, due_in}
-use Rattle.request_core.specs.Answers.{Accepts, IsRefusal, answer_of, first_refusal, is_memory}
-use Rattle.request_core.proofs.Worlds.{or-none-first, or-none-second, not-spent, spent-by, made_accepted, raised-not, is_refused}
-use Rattle.request_core.proofs.Deletes.{deletes-extend, deletes-next}
+use Rattle.request_core.specs.State.{CoreState, leased_in, with_any, leased, fault_of_revoke, added_by_revoke, after_revoke, due_in}
+use Rattle.request_core.specs.Answers.{IsRefusal, is_memory}
+use Rattle.request_core.specs.Commands.{CarriesOut, Makes, Moves, Refuses}
+use Rattle.request_core.proofs.Worlds.{changed_by, committed, made_first, refused_first, commit_made, commit_spent, is_refused}
+use Rattle.request_core.proofs.Deletes.{any-grows, any-stays, deletes-spent}
 
--- a revoke was made, and the new state stands for the world after it
-record Revoked (new : CoreState) (w : World) (id : ℤ) (n : ℕ) : Type 0 where
-  pub after : World
-  pub made : made_in w (Call.revoke id) ≡ Ok (Reply.revoke, after)
-  pub stands : StandsFor new.store after
-  pub rises : nat_lt (revision w) (revision after) ≡ nat_lt 0 n
-  pub watches : after.made ≡ w.made
+-- a revoke that a core without watches made, of a lease with so many keys
+pub record WasRevoked (s new : CoreState) (id : ℤ) (n : ℕ) : Type 0 where
+  pub quiet : s.store.watches ≡ []
+  pub clear : fault_of_revoke s.store id ≡ None
+  pub made : new ≡ after_revoke s id
+  pub counted : n ≡ length (leased_in s.store id)
+  pub few : n ≤ 2 ^ 64
 
 -- ---- what it leaves
 
-any-some : (s : CoreState) (main : ℕ) (kvs : List KeyValue) → kvs ≢ [] → with_any s (tombstones main 0 kvs) ≡ with_versions s (tombstones main 0 kvs)
-any-some s main [] some = absurd (some refl)
-any-some s main (kv ∷ kvs) some = refl
-
-any-none : (s : CoreState) (main : ℕ) (kvs : List KeyValue) → kvs ≡ [] → with_any s (tombstones main 0 kvs) ≡ stamped s
-any-none s main kvs none = ap (λ ks. with_any s (tombstones main 0 ks)) none
-
-revoke-grows : (s : CoreState) (id : ℤ) → leased_in s.store id ≢ []
-    → grown (with_leases s.store (without_lease id s.store.leases)) (changes_of_revoke s.store id) ≡ (leased (with_versions s (added_by_revoke s.store id)) (without_lease id s.store.leases)).store
-revoke-grows s id some = λ i. record s.store {
-  versions = deletes-extend s.store.versions (s.store.revision + 1) 0 (leased_in s.store id) i;
-  revision = deletes-next s.store.revision (s.store.revision + 1) 0 (leased_in s.store id) some i;
-  leases = without_lease id s.store.leases;
-}
-
--- ---- what the model makes of it
-
-commit-some : (n m : ℕ) (w : World) (kvs : List KeyValue) → kvs ≢ [] → n < last_main
-    → commit_at n Reply.revoke w (deletes_of m 0 (keys_of kvs)) ≡ Ok (Reply.revoke, changed w (deletes_of m 0 (keys_of kvs)))
-commit-some n m w [] some l = absurd (some refl)
-commit-some n m w (kv ∷ kvs) some l = ap (λ b. cond b (Ok (Reply.revoke, changed w (deletes_of m 0 (keys_of (kv ∷ kvs))))) (Err RevisionsSpent)) (lt-ltb n last_main l)
-
-commit-spent : (n m : ℕ) (w : World) (kvs : List KeyValue) → kvs ≢ [] → last_main ≤ n → commit_at n Reply.revoke w (deletes_of m 0 (keys_of kvs)) ≡ Err RevisionsSpent
-commit-spent n m w [] some l = absurd (some refl)
-commit-spent n m w (kv ∷ kvs) some l = ap (λ b. cond b (Ok (Reply.revoke, changed w (deletes_of m 0 (keys_of (kv ∷ kvs))))) (Err RevisionsSpent)) (le-ltb n last_main l)
+-- the store without the lease, before its keys are deleted
+abbrev unleased : CoreState → ℤ → CoreState
+unleased s id = leased s (without_lease id s.store.leases)
 
 abbrev without : Store → World → ℤ → World
 without s w id = record w { leases = without_lease id s.leases }
 
--- a revoke that is not refused at once
-revoke-clear : (s : Store) (w : World) → StandsFor s w → (id : ℤ) → refusal_of_revoke s id ≡ None
-    → made_in w (Call.revoke id) ≡ commit_at s.revision Reply.revoke (without s w id) (changes_of_revoke s id)
-revoke-clear s w h id clear = revoke_told s w h id ∙ ap (λ o. refused_or o (commit_at s.revision Reply.revoke (without s w id) (changes_of_revoke s id))) clear
+-- the lease may be taken out before its keys or after them
+any-leased : (s : CoreState) (ls : List Lease) (vs : List Version) → with_any (leased s ls) vs ≡ leased (with_any s vs) ls
+any-leased s ls [] = refl
+any-leased s ls (v ∷ vs) = refl
 
-some-empty : {X : Type 0} (xs : List X) → xs ≢ [] → is_empty xs ≡ false
-some-empty [] some = absurd (some refl)
-some-empty (x ∷ xs) some = refl
+any-rises : (s : CoreState) (main : ℕ) (kvs : List KeyValue)
+    → nat_lt s.store.revision (with_any s (tombstones main 0 kvs)).store.revision ≡ nat_lt 0 (length kvs)
+any-rises s main [] = le-ltb s.store.revision s.store.revision (omega arith)
+any-rises s main (kv ∷ kvs) =
+    lt-ltb s.store.revision (s.store.revision + 1) (omega arith) ∙ sym (lt-ltb 0 (length (kv ∷ kvs)) (omega arith))
 
-some-count : (n : ℕ) (kvs : List KeyValue) → kvs ≢ [] → n ≡ length kvs → 0 < n
-some-count n [] some e = absurd (some refl)
-some-count n (kv ∷ kvs) some e = omega (arith, e)
+revoke-left : (s new : CoreState) (id : ℤ) (n : ℕ) → WasRevoked s new id n → (with_any (unleased s id) (added_by_revoke s.store id)).store ≡ new.store
+revoke-left s new id n was = ap (λ (t : CoreState). t.store)
+    (any-leased s (without_lease id s.store.leases) (added_by_revoke s.store id) ∙ sym was.made)
 
-with-room : (s : Store) (id : ℤ) → leased_in s id ≢ [] → fault_of_revoke s id ≡ None → s.revision < last_main
-with-room s id some none = not-spent s.revision
-    (ap (λ b. refuse_if (not b && is_spent s.revision) RevisionsSpent) (sym (some-empty (leased_in s id) some)) ∙ or-none-second _ _ none)
+-- the revision rises where the lease had some key
+revoke-rises : (s new : CoreState) (id : ℤ) (n : ℕ) → WasRevoked s new id n → nat_lt s.store.revision new.store.revision ≡ nat_lt 0 n
+revoke-rises s new id n was =
+    ap (λ (t : CoreState). nat_lt s.store.revision t.store.revision) was.made
+    ∙ any-rises s (s.store.revision + 1) (leased_in s.store id) ∙ ap (λ m. nat_lt 0 m) (sym was.counted)
 
-some-revoked : (s new : CoreState) (w : World) (id : ℤ) (n : ℕ) → StandsFor s.store w → s.store.watches ≡ [] → fault_of_revoke s.store id ≡ None
-    → new ≡ after_revoke s id → n ≡ length (leased_in s.store id) → n ≤ 2 ^ 64 → leased_in s.store id ≢ [] → Revoked new w id n
-some-revoked s new w id n h quiet clear e counted few some =
-    let us = changes_of_revoke s.store id in
-    let same : new.store ≡ grown (with_leases s.store (without_lease id s.store.leases)) us
-    = ap (λ (t : CoreState). t.store) (e ∙ ap (λ t. leased t (without_lease id s.store.leases)) (any-some s (s.store.revision + 1) (leased_in s.store id) some)) ∙ sym (revoke-grows s id some) in
+-- what the model makes of it
+revoke-makes : (s new : CoreState) (id : ℤ) (n : ℕ) → WasRevoked s new id n → (w : World) → StandsFor s.store w
+    → Makes w (Call.revoke id) Reply.revoke new.store
+revoke-makes s new id n was w h =
+    let kvs : List KeyValue = leased_in s.store id in
+    let us : List Mutation = changes_of_revoke s.store id in
+    let left = revoke-left s new id n was in
     let fits : length (keys_of_lease s.store.versions s.store.revision id) ≤ 2 ^ 64
-    = subst (λ m. m ≤ 2 ^ 64) (counted ∙ sym (length-map (leased_in s.store id) (λ (kv : KeyValue). kv.key))) few in
-    let stands : StandsFor new.store (changed (without s.store w id) us)
-    = subst (λ t. StandsFor t (changed (without s.store w id) us)) (sym same) (revoke_stands s.store w h quiet id fits) in
-    let next : new.store.revision ≡ s.store.revision + 1
-    = ap (λ (t : Store). t.revision) same ∙ deletes-next s.store.revision (s.store.revision + 1) 0 (leased_in s.store id) some in
-    let grew : revision w < revision (changed (without s.store w id) us) = omega (arith, next, stands.revision_is, h.revision_is) in
+    = subst (λ m. m ≤ 2 ^ 64) (was.counted ∙ sym (length-map kvs (λ (kv : KeyValue). kv.key))) was.few in
     record {
-      after = changed (without s.store w id) us;
-      made = revoke-clear s.store w h id (or-none-first _ _ clear)
-          ∙ commit-some s.store.revision (s.store.revision + 1) (without s.store w id) (leased_in s.store id) some (with-room s.store id some clear);
-      stands = stands;
-      rises = lt-ltb (revision w) (revision (changed (without s.store w id) us)) grew ∙ sym (lt-ltb 0 n (some-count n (leased_in s.store id) some counted));
-      watches = refl;
+      after = changed_by (without s.store w id) us;
+      made = revoke_told s.store w h id ∙ made_first (refusal_of_revoke s.store id) _ _ _
+          (λ none. commit_made s.store.revision Reply.revoke (without s.store w id) us (deletes-spent s.store.revision (s.store.revision + 1) kvs ∙ none))
+          was.clear;
+      stands = committed (unleased s id).store new.store us (without s.store w id) (record {
+        stood = leases_stand s.store w (without_lease id s.store.leases) h;
+        stands = revoke_stands s.store w h was.quiet id fits;
+        grows = λ some. any-grows (unleased s id) kvs some ∙ left;
+        stays = λ none. any-stays (unleased s id) kvs none ∙ left;
+      });
     }
-
-none-revoked : (s new : CoreState) (w : World) (id : ℤ) (n : ℕ) → StandsFor s.store w → fault_of_revoke s.store id ≡ None
-    → new ≡ after_revoke s id → n ≡ length (leased_in s.store id) → leased_in s.store id ≡ [] → Revoked new w id n
-none-revoked s new w id n h clear e counted none =
-    let same : new.store ≡ with_leases s.store (without_lease id s.store.leases)
-    = ap (λ (t : CoreState). t.store) (e ∙ ap (λ t. leased t (without_lease id s.store.leases)) (any-none s (s.store.revision + 1) (leased_in s.store id) none)) in
-    let zero_of : n ≡ 0 = counted ∙ ap length none in
-    record {
-      after = without s.store w id;
-      made = revoke-clear s.store w h id (or-none-first _ _ clear)
-          ∙ ap (λ kvs. commit_at s.store.revision Reply.revoke (without s.store w id) (deletes_of (s.store.revision + 1) 0 (keys_of kvs))) none;
-      stands = subst (λ t. StandsFor t (without s.store w id)) (sym same) (leases_stand s.store w (without_lease id s.store.leases) h);
-      rises = le-ltb (revision w) (revision w) (omega arith) ∙ ap (λ m. nat_lt 0 m) (sym zero_of);
-      watches = refl;
-    }
-
-revoked : (s new : CoreState) (w : World) (id : ℤ) (n : ℕ) → StandsFor s.store w → s.store.watches ≡ [] → fault_of_revoke s.store id ≡ None
-    → new ≡ after_revoke s id → n ≡ length (leased_in s.store id) → n ≤ 2 ^ 64 → Revoked new w id n
-revoked s new w id n h quiet clear e counted few = by (leased_in s.store id) refl
-  where
-    by : (kvs : List KeyValue) → leased_in s.store id ≡ kvs → Revoked new w id n
-    by [] is = none-revoked s new w id n h clear e counted is
-    by (kv ∷ kvs) is =
-        let some : leased_in s.store id ≢ [] = λ none. let bad : kv ∷ kvs ≡ [] = sym is ∙ none in cc in
-        some-revoked s new w id n h quiet clear e counted few some
 
 -- ---- in the form that `apply_revoke` cites
 
-pub revoke_accepted : (s new : CoreState) (w : World) (id : ℤ) (n : ℕ) (r : Receipt) → StandsFor s.store w → s.store.watches ≡ [] → fault_of_revoke s.store id ≡ None
-    → new ≡ after_revoke s id → n ≡ length (leased_in s.store id) → n ≤ 2 ^ 64
-    → r.raised ≡ raised_by_delete n new.store.revision → r.watch ≡ None → answer_of r new ≡ record { reply = Reply.revoke; revision = new.store.revision }
-    → Accepts new r w (perform w (Call.revoke id)).0 (perform w (Call.revoke id)).1
-revoke_accepted s new w id n r h quiet clear e counted few up unwatched answered =
-    let done : Revoked new w id n = revoked s new w id n h quiet clear e counted few in
-    made_accepted new w done.after (Call.revoke id) r Reply.revoke done.made done.stands
-    (up ∙ λ i. cond (sym done.rises i) (Some (done.stands.revision_is i)) None)
-    (unwatched ∙ sym (raised-not w.made (Some w.made)) ∙ ap (λ m. cond (nat_lt w.made m) (Some m) None) (sym done.watches))
-    (answered ∙ ap (λ m. record { reply = Reply.revoke; revision = m }) done.stands.revision_is)
-
-not-made : (s : Store) (w : World) (id : ℤ) (e : Refusal) → StandsFor s w → (o : Option Refusal) → refusal_of_revoke s id ≡ o
-    → option_or o (refuse_if (not (is_empty (leased_in s id)) && is_spent s.revision) RevisionsSpent) ≡ Some e → made_in w (Call.revoke id) ≡ Err e
-not-made s w id e h (Some f) is one = revoke_told s w h id ∙ ap (λ o. refused_or o (commit_at s.revision Reply.revoke (without s w id) (changes_of_revoke s id))) (is ∙ one)
-not-made s w id e h None is one = by (leased_in s id) refl one
+revoke-moves : (s new : CoreState) (id : ℤ) (n : ℕ) → WasRevoked s new id n → Moves s new true
+revoke-moves s new id n was = record {
+  unchanged = λ none. let bad : true ≡ false = sym (or-true (nat_lt s.store.revision new.store.revision)) ∙ none in cc;
+  stamp = ap (λ (t : CoreState). t.stamp) was.made ∙ any-stamp (added_by_revoke s.store id);
+  watches = ap (λ (t : CoreState). t.store.made) was.made ∙ any-made (added_by_revoke s.store id);
+}
   where
-    by : (kvs : List KeyValue) → leased_in s id ≡ kvs → refuse_if (not (is_empty kvs) && is_spent s.revision) RevisionsSpent ≡ Some e → made_in w (Call.revoke id) ≡ Err e
-    by [] none one = cc
-    by (kv ∷ kvs) same one =
-        let some : leased_in s id ≢ [] = λ none. let bad : kv ∷ kvs ≡ [] = sym same ∙ none in cc in
-        let spent = spent-by s.revision e one in
-        revoke-clear s w h id is ∙ commit-spent s.revision (s.revision + 1) (without s w id) (leased_in s id) some spent.0 ∙ ap (λ f. Err f) spent.1
+    or-true : (b : Bool) → (b || true) ≡ true
+    or-true true = refl
+    or-true false = refl
 
--- a refused revoke is refused by the model
-pub revoke_is_refused : (s : Store) (w : World) (id : ℤ) (e : Refusal) → StandsFor s w → IsRefusal e (fault_of_revoke s id)
-    → IsRefusal e (first_refusal (perform w (Call.revoke id)).0)
-revoke_is_refused s w id e h r = is_refused w (Call.revoke id) e (fault_of_revoke s id) r (λ f one. not-made s w id f h (refusal_of_revoke s id) refl one)
+    any-stamp : (vs : List Version) → (with_any s vs).stamp ≡ s.stamp
+    any-stamp [] = refl
+    any-stamp (v ∷ vs) = refl
+
+    any-made : (vs : List Version) → (with_any s vs).store.made ≡ s.store.made
+    any-made [] = refl
+    any-made (v ∷ vs) = refl
+
+pub revoke_done : (s new : CoreState) (id : ℤ) (n : ℕ) → WasRevoked s new id n → CarriesOut s new (Call.revoke id) todo.Revoke
+revoke_done s new id n was = record {
+  makes = λ w h. revoke-makes s new id n was w h;
+  allowed = tt;
+  beside = λ w h. refl;
+  moves = revoke-moves s new id n was;
+}
+
+-- the model refuses a revoke as the store does
+revoke-refused : (s : Store) (w : World) (id : ℤ) (e : Refusal) → StandsFor s w → fault_of_revoke s id ≡ Some e → made_in w (Call.revoke id) ≡ Err e
+revoke-refused s w id e h one = revoke_told s w h id ∙ refused_first (refusal_of_revoke s id) _ _ e
+    (λ spent. commit_spent s.revision Reply.revoke (without s w id) (changes_of_revoke s id) e
+        (deletes-spent s.revision (s.revision + 1) (leased_in s id) ∙ spent)) one
+
+pub revoke_refuses : (s new : CoreState) (id : ℤ) (e : Refusal) → IsRefusal e (fault_of_revoke s.store id) → new ≡ s
+    → Refuses s new (Call.revoke id) e
+revoke_refuses s new id e r same = record {
+  refused = λ w h. is_refused w (Call.revoke id) e (fault_of_revoke s.store id) r (λ f one. revoke-refused s.store w id f h one);
+  free = λ no. let bad : true ≡ false = no in cc;
+  kept = same;
+}
 
 -- ---- expiry
 
@@ -177,21 +149,24 @@ nothing_expired s w h none =
     let all : expire w ≡ (Expiry.nothing, w) = nothing-due w (due w.clock w.leases) (due-id s w h ∙ none) in
     (ap (λ x. x.0) (sym all), subst (λ u. StandsFor s u) (ap (λ x. x.1) (sym all)) h)
 
-pub lease_expired : (s new : CoreState) (w : World) (id : ℤ) (n : ℕ) (up : Bool) (at : ℕ) → StandsFor s.store w → s.store.watches ≡ [] → due_in s.store ≡ Some id
-    → fault_of_revoke s.store id ≡ None → new ≡ after_revoke s id → n ≡ length (leased_in s.store id) → n ≤ 2 ^ 64 → up ≡ nat_lt 0 n → at ≡ new.store.revision
-    → (Expiry.expired id at up ≡ (expire w).0) × StandsFor new.store (expire w).1
-lease_expired s new w id n up at h quiet is clear e counted few rose here =
-    let done : Revoked new w id n = revoked s new w id n h quiet clear e counted few in
+-- the lease that is due expires, and the step is counted
+pub lease_expired : (s new : CoreState) (w : World) (id : ℤ) (n : ℕ) → WasRevoked s new id n → (due_in s.store ≡ Some id) × StandsFor s.store w
+    → (Expiry.expired id new.store.revision (nat_lt 0 n) ≡ (expire w).0) × StandsFor new.store (expire w).1
+lease_expired s new w id n was on =
+    let h : StandsFor s.store w = on.1 in
+    let done : Makes w (Call.revoke id) Reply.revoke new.store = revoke-makes s new id n was w h in
     let all : expire w ≡ (Expiry.expired id (revision done.after) (nat_lt (revision w) (revision done.after)), done.after)
-    = some-due w (due w.clock w.leases) id (due-id s.store w h ∙ is) ∙ ap (λ m. expiry_of id w m) done.made in
-    let told : Expiry.expired id at up ≡ Expiry.expired id (revision done.after) (nat_lt (revision w) (revision done.after))
-    = λ i. Expiry.expired id ((here ∙ done.stands.revision_is) i) ((rose ∙ sym done.rises) i) in
+    = some-due w (due w.clock w.leases) id (due-id s.store w h ∙ on.0) ∙ ap (λ m. expiry_of id w m) done.made in
+    let rose : nat_lt 0 n ≡ nat_lt (revision w) (revision done.after)
+    = sym (revoke-rises s new id n was) ∙ λ i. nat_lt (h.revision_is i) (done.stands.revision_is i) in
+    let told : Expiry.expired id new.store.revision (nat_lt 0 n) ≡ Expiry.expired id (revision done.after) (nat_lt (revision w) (revision done.after))
+    = λ i. Expiry.expired id (done.stands.revision_is i) (rose i) in
     (told ∙ ap (λ x. x.0) (sym all), subst (λ u. StandsFor new.store u) (ap (λ x. x.1) (sym all)) done.stands)
 
 -- the lease that is due has keys, and no revision comes after the present one
 pub expiry_spent : (s : Store) (w : World) (id : ℤ) (e : Refusal) → StandsFor s w → due_in s ≡ Some id → fault_of_revoke s id ≡ Some e → (expire w).0 ≡ Expiry.spent
 expiry_spent s w id e h is one =
-    ap (λ x. x.0) (some-due w (due w.clock w.leases) id (due-id s w h ∙ is) ∙ ap (λ m. expiry_of id w m) (not-made s w id e h (refusal_of_revoke s id) refl one))
+    ap (λ x. x.0) (some-due w (due w.clock w.leases) id (due-id s w h ∙ is) ∙ ap (λ m. expiry_of id w m) (revoke-refused s w id e h one))
 
 -- a step of expiry that is refused wants memory, or the revisions are spent
 pub expiry_refused : (s : Store) (id : ℤ) (r e : Refusal) → e ≡ cond (is_memory r) Memory RevisionsSpent → due_in s ≡ Some id → IsRefusal r (fault_of_revoke s id)

@@ -1,4 +1,4 @@
-use Rattle.std.proofs.Common.{ℕ, subst, ap, sym, ◌∙◌}
+use Rattle.std.proofs.Common.{◌≡◌, ℕ, subst, ap, ◌∙◌}
 use Rattle.request_core.specs.State.{CoreState}
 use Rattle.request_core.specs.Commands.{IsIssued}
 use Rattle.request_core.proofs.Worlds.{does}
