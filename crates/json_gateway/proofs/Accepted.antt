@@ -5,9 +5,11 @@ use Rattle.kv_model.specs.Calls.{Call}
 use Rattle.kv_model.specs.Step.{Made, made_in, perform, answer_of as answer_of_made, world_of}
 use Rattle.kv_model.specs.Wire.{changes_beside, raised}
 use Rattle.kv_model.specs.World.{World, revision}
+use Rattle.store_laws.specs.Stands.{StandsFor}
 use Rattle.request_core.specs.declared.answer.Receipt.{Receipt}
 use Rattle.request_core.specs.State.{CoreState, stamp_after}
-use Rattle.request_core.specs.Answers.{Accepts, answer_of, has_changed, is_beside}
+use Rattle.request_core.specs.Answers.{answer_of, has_changed, is_beside}
+use Rattle.request_core.specs.Commands.{Accepts, Does}
 use Rattle.json_gateway.specs.Outcomes.{IsCounted, is_change}
 
 counted-by : (old new : CoreState) (b c : Bool) → b ≡ c → (b ≡ false → new ≡ old) → new.stamp ≡ stamp_after b old.stamp → IsCounted c old new
@@ -21,12 +23,11 @@ some-raised w u = by (nat_lt (revision w) (revision u))
     by true = refl
     by false = refl
 
-pub accepted_counted : (old new : CoreState) (r : Receipt) (w : World) (call : Call) → Accepts new r w (perform w call).0 (perform w call).1
-    → is_beside r.todo ≡ changes_beside w call → (has_changed r ≡ false → new ≡ old) → new.stamp ≡ stamp_after (has_changed r) old.stamp
+pub accepted_counted : (old new : CoreState) (r : Receipt) (call : Call) → Does old new call r → (w : World) → StandsFor old.store w
     → IsCounted (is_change w call (made_in w call)) old new
-accepted_counted old new r w call h beside same one = by (made_in w call) h.answers h.raised
+accepted_counted old new r call d w h = by (made_in w call) (d.accepted w h).answers (d.accepted w h).raised
   where
     by : (m : Made) → answer_of_made m ≡ Ok (answer_of r new) → r.raised ≡ raised w (world_of w m) → IsCounted (is_change w call m) old new
     by (Err e) answers up = cc
     by (Ok made) answers up = counted-by old new (has_changed r) (nat_lt (revision w) (revision made.1) || changes_beside w call)
-        (λ i. (ap is_some up ∙ some-raised w made.1) i || beside i) same one
+        (λ i. (ap is_some up ∙ some-raised w made.1) i || d.beside w h i) d.unchanged d.stamp

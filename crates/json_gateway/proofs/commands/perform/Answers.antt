@@ -4,5 +4,4 @@ use Rattle.json_gateway.proofs.commands.perform.Goals as goal
 
 pub returns-in-Ok-clause-counted : goal.returns-in-Ok-clause-counted
 returns-in-Ok-clause-counted c = λ w h is.
-    accepted_counted c.args.core.now c.apply.new.self c.in-Ok.receipt w (call_of c.args.command.now)
-    (c.in-Ok.ensures.accepted w h) (c.in-Ok.ensures.beside w h) c.in-Ok.ensures.unchanged c.in-Ok.ensures.stamp
+    accepted_counted c.args.core.now c.apply.new.self c.in-Ok.receipt (call_of c.args.command.now) c.in-Ok.ensures.done w h
