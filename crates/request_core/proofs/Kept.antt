@@ -88,10 +88,18 @@ tombstones-next r n (kv ∷ kvs) e few some = record {
   counted = dead-counted (r + 1) (r + 1) 0 (kv ∷ kvs);
 }
 
--- those of some keys, in the form that a revoke cites
-pub some-tombstones-next : (r n : ℕ) (kvs : List KeyValue) (vs : List Version) → vs ≡ tombstones (r + 1) 0 kvs → n ≡ length kvs → n ≤ 2 ^ 64 → vs ≢ [] → AreNext r vs
-some-tombstones-next r n [] vs e counted few some = absurd (some e)
-some-tombstones-next r n (kv ∷ kvs) vs e counted few some = subst (AreNext r) (sym e) (tombstones-next r n (kv ∷ kvs) counted few (omega (arith, counted)))
+-- versions that bury keys at the next revision, no more of them than have numbers
+pub record AreTombstones (r n : ℕ) (kvs : List KeyValue) (vs : List Version) : Type 0 where
+  pub made : vs ≡ tombstones (r + 1) 0 kvs
+  pub counted : n ≡ length kvs
+  pub few : n ≤ 2 ^ 64
+
+-- in the form that a delete and a revoke cite
+pub some-tombstones-next : (r n : ℕ) (kvs : List KeyValue) (vs : List Version) → AreTombstones r n kvs vs → vs ≢ [] → AreNext r vs
+some-tombstones-next r n [] vs h some = absurd (some h.made)
+some-tombstones-next r n (kv ∷ kvs) vs h some =
+    let counted : n ≡ length (kv ∷ kvs) = h.counted in
+    subst (AreNext r) (sym h.made) (tombstones-next r n (kv ∷ kvs) counted h.few (omega (arith, counted)))
 
 pub tombstones-length : (main sub : ℕ) (kvs : List KeyValue) → length (tombstones main sub kvs) ≡ length kvs
 tombstones-length main sub [] = refl

@@ -19,11 +19,14 @@ use Rattle.store_laws.specs.Stands.{Store, StandsFor, grown}
 use Rattle.store_laws.specs.Stores.{with_leases, refusal_of_revoke, changes_of_revoke}
 use Rattle.store_laws.proofs.StandsLeases.{leases_stand, revoke_told, due_stands}
 use Rattle.request_core.proofs.Quiet.{revoke_stands}
+use Rattle.request_core.specs.declared.answer.Expiry.{Expiry as CoreExpiry}
+use Rattle.request_core.specs.declared.answer.Expiry.TheVariants as expiry
 use Rattle.request_core.specs.declared.answer.Todo.TheVariants as todo
 use Rattle.request_core.specs.Writing.{tombstones}
 use Rattle.request_core.specs.State.{CoreState, leased_in, with_any, leased, fault_of_revoke, added_by_revoke, after_revoke, due_in}
-use Rattle.request_core.specs.Answers.{IsRefusal, is_memory}
-use Rattle.request_core.specs.Commands.{CarriesOut, Makes, Moves, Refuses}
+use Rattle.request_core.specs.State.{counted, stamp_after}
+use Rattle.request_core.specs.Answers.{IsRefusal, expiry_view, has_expired, is_memory}
+use Rattle.request_core.specs.Commands.{CarriesOut, Expires, Makes, Moves, Refuses, RefusesExpiry}
 use Rattle.request_core.proofs.Worlds.{changed_by, committed, made_first, refused_first, commit_made, commit_spent, is_refused}
 use Rattle.request_core.proofs.Deletes.{any-grows, any-stays, deletes-spent}
 
@@ -144,38 +147,64 @@ due-id : (s : Store) (w : World) → StandsFor s w → option_map (λ (l : Lease
 due-id s w h = ap (λ o. option_map (λ (l : Lease). l.id) o) (sym (due_stands s w h))
 
 -- no lease is due
-pub nothing_expired : (s : Store) (w : World) → StandsFor s w → due_in s ≡ None → (Expiry.nothing ≡ (expire w).0) × StandsFor s (expire w).1
-nothing_expired s w h none =
-    let all : expire w ≡ (Expiry.nothing, w) = nothing-due w (due w.clock w.leases) (due-id s w h ∙ none) in
-    (ap (λ x. x.0) (sym all), subst (λ u. StandsFor s u) (ap (λ x. x.1) (sym all)) h)
+pub nothing_expires : (s : CoreState) → due_in s.store ≡ None → Expires s s expiry.Nothing
+nothing_expires s none = record {
+  expired = λ w h.
+      let all : expire w ≡ (Expiry.nothing, w) = nothing-due w (due w.clock w.leases) (due-id s.store w h ∙ none) in
+      (ap (λ x. x.0) (sym all), subst (λ u. StandsFor s.store u) (ap (λ x. x.1) (sym all)) h);
+  unchanged = λ none. refl;
+  stamp = refl;
+}
 
 -- the lease that is due expires, and the step is counted
-pub lease_expired : (s new : CoreState) (w : World) (id : ℤ) (n : ℕ) → WasRevoked s new id n → (due_in s.store ≡ Some id) × StandsFor s.store w
+lease-expires : (s new : CoreState) (id : ℤ) (n : ℕ) → WasRevoked s new id n → due_in s.store ≡ Some id → (w : World) → StandsFor s.store w
     → (Expiry.expired id new.store.revision (nat_lt 0 n) ≡ (expire w).0) × StandsFor new.store (expire w).1
-lease_expired s new w id n was on =
-    let h : StandsFor s.store w = on.1 in
+lease-expires s new id n was is w h =
     let done : Makes w (Call.revoke id) Reply.revoke new.store = revoke-makes s new id n was w h in
     let all : expire w ≡ (Expiry.expired id (revision done.after) (nat_lt (revision w) (revision done.after)), done.after)
-    = some-due w (due w.clock w.leases) id (due-id s.store w h ∙ on.0) ∙ ap (λ m. expiry_of id w m) done.made in
+    = some-due w (due w.clock w.leases) id (due-id s.store w h ∙ is) ∙ ap (λ m. expiry_of id w m) done.made in
     let rose : nat_lt 0 n ≡ nat_lt (revision w) (revision done.after)
     = sym (revoke-rises s new id n was) ∙ λ i. nat_lt (h.revision_is i) (done.stands.revision_is i) in
-    let told : Expiry.expired id new.store.revision (nat_lt 0 n) ≡ Expiry.expired id (revision done.after) (nat_lt (revision w) (revision done.after))
+    let told : Expiry.expired id new.store.revision (nat_lt 0 n)
+    ≡ Expiry.expired id (revision done.after) (nat_lt (revision w) (revision done.after))
     = λ i. Expiry.expired id (done.stands.revision_is i) (rose i) in
     (told ∙ ap (λ x. x.0) (sym all), subst (λ u. StandsFor new.store u) (ap (λ x. x.1) (sym all)) done.stands)
 
+-- a lease that is due and was revoked, and what is told of it once that is counted
+pub record WasExpired (s new : CoreState) (id : ℤ) (e : CoreExpiry) : Type 0 where
+  pub keys : ℕ
+  pub revoked : CoreState
+  pub was : WasRevoked s revoked id keys
+  pub due_is : due_in s.store ≡ Some id
+  pub told : expiry_view e ≡ Expiry.expired id revoked.store.revision (nat_lt 0 keys)
+  pub counts : new ≡ counted true revoked
+
+pub lease_expires : (s new : CoreState) (id : ℤ) (e : CoreExpiry) → WasExpired s new id e → Expires s new e
+lease_expires s new id e x = record {
+  expired = λ w h.
+      let done = lease-expires s x.revoked id x.keys x.was x.due_is w h in
+      (x.told ∙ done.0, subst (λ (t : CoreState). StandsFor t.store (expire w).1) (sym x.counts) done.1);
+  unchanged = λ none. let bad : true ≡ false = sym (is-expired e _ _ _ x.told) ∙ none in cc;
+  stamp = ap (λ (t : CoreState). t.stamp) x.counts
+      ∙ ap (λ n. stamp_after true n) (revoke-moves s x.revoked id x.keys x.was).stamp
+      ∙ ap (λ b. stamp_after b s.stamp) (sym (is-expired e _ _ _ x.told));
+}
+  where
+    is-expired : (e : CoreExpiry) (id : ℤ) (n : ℕ) (b : Bool) → expiry_view e ≡ Expiry.expired id n b → has_expired e ≡ true
+    is-expired expiry.Nothing id n b h = cc
+    is-expired (expiry.Expired i m up) id n b h = refl
+
 -- the lease that is due has keys, and no revision comes after the present one
-pub expiry_spent : (s : Store) (w : World) (id : ℤ) (e : Refusal) → StandsFor s w → due_in s ≡ Some id → fault_of_revoke s id ≡ Some e → (expire w).0 ≡ Expiry.spent
+expiry_spent : (s : Store) (w : World) (id : ℤ) (e : Refusal) → StandsFor s w → due_in s ≡ Some id → fault_of_revoke s id ≡ Some e → (expire w).0 ≡ Expiry.spent
 expiry_spent s w id e h is one =
     ap (λ x. x.0) (some-due w (due w.clock w.leases) id (due-id s w h ∙ is) ∙ ap (λ m. expiry_of id w m) (revoke-refused s w id e h one))
 
 -- a step of expiry that is refused wants memory, or the revisions are spent
-pub expiry_refused : (s : Store) (id : ℤ) (r e : Refusal) → e ≡ cond (is_memory r) Memory RevisionsSpent → due_in s ≡ Some id → IsRefusal r (fault_of_revoke s id)
-    → MatchBool (is_memory e) ⊤ ((e ≡ RevisionsSpent) × ((w : World) → StandsFor s w → (expire w).0 ≡ Expiry.spent))
-expiry_refused s id r e is due h = subst Goal (sym is) (by (is_memory r) h)
+pub expiry_refuses : (s new : CoreState) (id : ℤ) (r : Refusal) → due_in s.store ≡ Some id → IsRefusal r (fault_of_revoke s.store id) → new ≡ s
+    → RefusesExpiry s new (cond (is_memory r) Memory RevisionsSpent)
+expiry_refuses s new id r due h same = record { refused = by (is_memory r) h; kept = same }
   where
-    Goal : Refusal → Type 0
-    Goal x = MatchBool (is_memory x) ⊤ ((x ≡ RevisionsSpent) × ((w : World) → StandsFor s w → (expire w).0 ≡ Expiry.spent))
-
-    by : (b : Bool) → MatchBool b ⊤ (fault_of_revoke s id ≡ Some r) → Goal (cond b Memory RevisionsSpent)
+    by : (b : Bool) → MatchBool b ⊤ (fault_of_revoke s.store id ≡ Some r) → MatchBool (is_memory (cond b Memory RevisionsSpent)) ⊤
+        ((cond b Memory RevisionsSpent ≡ RevisionsSpent) × ((w : World) → StandsFor s.store w → (expire w).0 ≡ Expiry.spent))
     by true h = tt
-    by false h = (refl, λ w stands. expiry_spent s w id r stands due h)
+    by false h = (refl, λ w stands. expiry_spent s.store w id r stands due h)

@@ -65,9 +65,19 @@ receipt-tells : (old mid new : CoreState) (t : Todo) (r : Receipt) → IsIssued 
 receipt-tells old mid new t r i =
     λ j. (ap is_some i.raised ∙ raised-rose old.store.revision mid.store.revision) j || is_beside (i.todo j)
 
-pub does : (old mid new : CoreState) (call : Call) (t : Todo) (r : Receipt) → CarriesOut old mid call t
-    → IsIssued old.store.revision t mid new r → Does old new call r
-does old mid new call t r d i =
+-- a command that is carried out, and then counted and told by its receipt
+pub record IsFinished (old new : CoreState) (call : Call) (r : Receipt) : Type 0 where
+  pub between : CoreState
+  pub left : Todo
+  pub carried : CarriesOut old between call left
+  pub issued : IsIssued old.store.revision left between new r
+
+pub does : (old new : CoreState) (call : Call) (r : Receipt) → IsFinished old new call r → Does old new call r
+does old new call r f =
+    let mid : CoreState = f.between in
+    let t : Todo = f.left in
+    let d : CarriesOut old mid call t = f.carried in
+    let i : IsIssued old.store.revision t mid new r = f.issued in
     let same : new.store ≡ mid.store = ap (λ (s : CoreState). s.store) i.counts in
     let rev : r.revision ≡ mid.store.revision = i.revision ∙ ap (λ (s : Store). s.revision) same in
     let left : answer_of r new ≡ record { reply = reply_left t mid.store mid.store.revision; revision = mid.store.revision }

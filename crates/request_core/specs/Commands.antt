@@ -1,22 +1,26 @@
 -- What a command does with a core, and what one that is refused leaves.
 use Rattle.std.specs.Prelude.{◌≡◌, ℕ, Bool, true, false, ◌||◌, nat_lt, Option, None, Some, Result, Ok, Err}
+use Rattle.std.specs.Prelude.{MatchBool, ⊤}
 use Rattle.kv_model.specs.declared.refusal.Refusal.{Refusal}
+use Rattle.kv_model.specs.declared.refusal.Refusal.TheVariants.{RevisionsSpent}
 use Rattle.kv_model.specs.Calls.{Call}
-use Rattle.kv_model.specs.Step.{made_in, perform}
-use Rattle.kv_model.specs.Told.{Reply, Answer}
+use Rattle.kv_model.specs.Step.{made_in, perform, expire}
+use Rattle.kv_model.specs.Told.{Reply, Answer, Expiry as ModelExpiry}
 use Rattle.kv_model.specs.Wire.{raised, number_made, changes_beside}
 use Rattle.kv_model.specs.World.{World}
 use Rattle.store_laws.specs.Stands.{Store, StandsFor}
+use Rattle.request_core.specs.declared.answer.Expiry.{Expiry}
 use Rattle.request_core.specs.declared.answer.Receipt.{Receipt}
 use Rattle.request_core.specs.declared.answer.Todo.{Todo}
 use Rattle.request_core.specs.State.{CoreState, counted, raised_from, stamp_after}
 use Rattle.request_core.specs.Answers.{IsAllowed, IsReadable, IsRefusal, answer_of, has_changed, is_beside, is_memory}
-use Rattle.request_core.specs.Answers.{reply_left}
+use Rattle.request_core.specs.Answers.{expiry_view, has_expired, reply_left}
 
 -- ---- a command that is accepted
 
 -- a command was accepted as the model accepts it in this world, which then is that one
-pub record Accepts (new : CoreState) (r : Receipt) (w : World) (told : Result Answer Refusal) (after : World) : Type 0 where
+pub record Accepts (new : CoreState) (r : Receipt) (w : World) (told : Result Answer Refusal)
+    (after : World) : Type 0 where
   pub answers : told ≡ Ok (answer_of r new)
   pub stands : StandsFor new.store after
   pub raised : r.raised ≡ raised w after
@@ -58,6 +62,25 @@ pub record Refuses (old new : CoreState) (call : Call) (e : Refusal) : Type 0 wh
   pub refused : (w : World) → StandsFor old.store w → IsRefusal e (first_refusal (perform w call).0)
   -- only a command that may want memory is refused for want of it
   pub free : takes_memory call ≡ false → is_memory e ≡ false
+  -- the core is as it was
+  pub kept : new ≡ old
+
+-- ---- a step of expiry
+
+-- what a step of expiry did with a core, from the first state to the second, and what it tells
+pub record Expires (old new : CoreState) (e : Expiry) : Type 0 where
+  -- in each world that the core stood for, it is what the model does
+  pub expired : (w : World) → StandsFor old.store w → (expiry_view e ≡ (expire w).0) × StandsFor new.store (expire w).1
+  -- where no lease was due, the core is as it was
+  pub unchanged : has_expired e ≡ false → new ≡ old
+  -- the step is counted where it revoked a lease
+  pub stamp : new.stamp ≡ stamp_after (has_expired e) old.stamp
+
+-- what one that is refused did
+pub record RefusesExpiry (old new : CoreState) (e : Refusal) : Type 0 where
+  -- memory was wanting, or the revisions are spent, and so they are in each world that the core stood for
+  pub refused : MatchBool (is_memory e) ⊤
+      ((e ≡ RevisionsSpent) × ((w : World) → StandsFor old.store w → (expire w).0 ≡ ModelExpiry.spent))
   -- the core is as it was
   pub kept : new ≡ old
 
