@@ -54,3 +54,21 @@ pub filter-behind : (p q : Version → Bool) (vs : List Version) (n : ℕ) → A
 filter-behind p q vs zero h = refl
 filter-behind p q [] (suc n) h = refl
 filter-behind p q (v ∷ vs) (suc n) h = filter-behind p q vs n h.1 ∙ sym (ap (λ b. cond (b && q v) (v ∷ filter (λ v. p v && q v) vs) (filter (λ v. p v && q v) vs)) h.0)
+
+pub after-point : (next : ℕ) (vs : List Version) (n : ℕ) → n ≤ length vs → IsPartitionPoint (λ v. nat_lt v.rev.main next ≡ true) (λ v. nat_lt v.rev.main next ≡ false) vs n
+    → AllByRecursion (λ v. nat_le next v.rev.main ≡ true) (drop n vs)
+after-point next [] zero h t = tt
+after-point next [] (suc n) h t = absurd (omega arith)
+after-point next (v ∷ vs) zero h t =
+    let from : nat_lt v.rev.main next ≡ false = t.1 0 v (omega arith) (omega arith) in
+    (grind (arith, nat_tests), after-point next vs zero (omega arith) ((λ k d l m. absurd (omega arith)), (λ k d l m. t.1 (suc k) d (omega arith) (omega arith))))
+after-point next (v ∷ vs) (suc n) h t = after-point next vs n (omega arith) ((λ k d l m. t.0 (suc k) d (omega arith) (omega arith)), (λ k d l m. t.1 (suc k) d (omega arith) (omega arith)))
+
+filter-passed : (p q : Version → Bool) (vs : List Version) → AllByRecursion (λ v. p v ≡ true) vs → filter q vs ≡ filter (λ v. p v && q v) vs
+filter-passed p q [] h = refl
+filter-passed p q (v ∷ vs) h = λ i. cond (sym h.0 i && q v) (v ∷ filter-passed p q vs h.1 i) (filter-passed p q vs h.1 i)
+
+-- the versions behind those that are before a revision are those from it on
+pub filter-from : (next : ℕ) (q : Version → Bool) (vs : List Version) (n : ℕ) → AllByRecursion (λ v. nat_le next v.rev.main ≡ false) (take n vs)
+    → AllByRecursion (λ v. nat_le next v.rev.main ≡ true) (drop n vs) → filter q (drop n vs) ≡ filter (λ v. nat_le next v.rev.main && q v) vs
+filter-from next q vs n h g = filter-passed (λ v. nat_le next v.rev.main) q (drop n vs) g ∙ filter-behind (λ v. nat_le next v.rev.main) q vs n h

@@ -1,5 +1,6 @@
 //! A watch as the hub keeps it.
-use crate::matching::{ahead_of, first_from, first_reached, still_ahead};
+use crate::matching::{ahead_of, first_reached, still_ahead};
+use crate::walk::first_from;
 use kv_model::call::Watched;
 use kv_model::version::Version;
 

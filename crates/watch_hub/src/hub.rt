@@ -11,7 +11,8 @@ ghost use Rattle.watch_hub.specs.Views.{pending_view};
 
 use crate::entries::Entries;
 use crate::entry::Entry;
-use crate::matching::{ahead_of, first_from};
+use crate::matching::ahead_of;
+use crate::walk::first_from;
 use bytes::Bytes;
 use kv_model::call::Watched;
 use kv_model::refusal::Refusal;

@@ -1,5 +1,5 @@
 //! Which versions a watch matches.
-ghost use Rattle.std.specs.Prelude.{◌≡◌, ◌≤◌, ◌&&◌, false, filter, find, length, nat_le, option_copied, take, drop};
+ghost use Rattle.std.specs.Prelude.{◌≡◌, ◌≤◌, ◌&&◌, true, false, filter, find, length, nat_le, option_copied, take, drop};
 ghost use Rattle.std.specs.List.{AllByRecursion};
 ghost use Rattle.kv_model.specs.Keys.{in_range, key_lt, key_le, same_key, zero_byte};
 ghost use Rattle.kv_model.specs.Events.{matches, wants};
@@ -42,7 +42,7 @@ fn wants(watched: &Watched, body: &Body) -> bool
 }
 
 /// Whether a watch matches a version: its key is in the range, and its kind is not left out.
-fn matches(watched: &Watched, version: &Version) -> bool
+pub(crate) fn matches(watched: &Watched, version: &Version) -> bool
     ensures { result ≡ matches watched.now version.now }
 {
     in_range(&watched.range, &version.key) && wants(watched, &version.body)
@@ -86,32 +86,13 @@ pub(crate) fn first_reached(
 }
 
 /// How many of the versions, which rise, are of a revision before this one. It halves.
-fn count_before(versions: &[Version], next: u64) -> usize
+pub(crate) fn count_before(versions: &[Version], next: u64) -> usize
     requires { IsRising versions.now }
     ensures bound { result ≤ length versions.now }
     ensures before { AllByRecursion (λ v. nat_le next v.rev.main ≡ false) (take result versions.now) }
+    ensures behind { AllByRecursion (λ v. nat_le next v.rev.main ≡ true) (drop result versions.now) }
 {
     versions.partition_point(|v| v.rev.main < next)
-}
-
-/// The versions from an index on.
-fn rest_from(versions: &[Version], index: usize) -> &[Version]
-    requires { index ≤ length versions.now }
-    ensures { result.now ≡ drop index versions.now }
-{
-    let (_, rest) = versions.split_at(index);
-    rest
-}
-
-/// The main revision of the first of the versions, which rise, that is from a revision on and that a watch matches.
-///
-/// The time is logarithmic in the number of versions, and linear in that of those from the revision on up to the match.
-pub(crate) fn first_from(versions: &[Version], next: u64, watched: &Watched) -> Option<u64>
-    requires { IsRising versions.now }
-    ensures { result ≡ first_from versions.now next watched.now }
-{
-    let before = count_before(versions, next);
-    first_reached(rest_from(versions, before), Some(next), watched)
 }
 
 /// The revision that a watch waits for, where it is above the present one.
