@@ -17,7 +17,7 @@ use Rattle.watch_hub.specs.Delivering.{message_from, delivery_kept, delivery_fro
 
 -- ---- the first match is the least
 
-abbrev AreFrom : ℕ → List Version → Type 0
+abbrev pub AreFrom : ℕ → List Version → Type 0
 AreFrom m vs = AllByRecursion (λ v. m ≤ v.rev.main) vs
 
 mains-from : (v : Version) (vs : List Version) → AllByRecursion (Precedes v) vs → AreFrom v.rev.main vs
@@ -52,7 +52,7 @@ left-out true x y = refl
 left-out false x y = refl
 
 -- from its first match on a watch matches what it matches from its next revision on
-least : (n m : ℕ) (q : Version → Bool) (vs : List Version) → AreRising vs → first_main_of (filter (λ v. nat_le n v.rev.main && q v) vs) ≡ Some m
+pub least : (n m : ℕ) (q : Version → Bool) (vs : List Version) → AreRising vs → first_main_of (filter (λ v. nat_le n v.rev.main && q v) vs) ≡ Some m
     → filter (λ v. nat_le m v.rev.main && q v) vs ≡ filter (λ v. nat_le n v.rev.main && q v) vs
 least n m q [] r e = refl
 least n m q (v ∷ vs) r e = by (least n m q vs r.1) (nat_le n v.rev.main) refl (q v) e

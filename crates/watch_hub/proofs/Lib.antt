@@ -5,3 +5,4 @@ pub mod Tallies
 pub mod Standing
 pub mod Delivering
 pub mod Courses
+pub mod Delivered

@@ -9,6 +9,7 @@ use Rattle.kv_model.specs.declared.version.Version.{Version}
 use Rattle.kv_model.specs.History.{rev_lt}
 use Rattle.kv_model.specs.Lists.{last_that}
 use Rattle.kv_model.specs.Watches.{count_up_to, last_revision, most_events}
+use Rattle.store_laws.specs.Stands.{first_main_of}
 use Rattle.version_table.specs.Rising.{IsRising}
 use Rattle.version_table.proofs.RevOrder.{main_le}
 use Rattle.watch_hub.specs.declared.tally.Tally.{Tally}
@@ -438,6 +439,14 @@ last-within n (u ∷ us) h = by (last_that (fits (u ∷ us)) (u ∷ us)) refl
     by : (o : Option Version) → last_that (fits (u ∷ us)) (u ∷ us) ≡ o → unwrap_or (option_map (λ v. v.rev.main) o) u.rev.main ≤ n
     by None e = h.0
     by (Some v) e = (passed (fits (u ∷ us)) (λ w. w.rev.main ≤ n) (u ∷ us) v h e).1
+
+pub last-from : (n main : ℕ) (us : List Version) → first_main_of us ≡ Some main → AreFrom n us → n ≤ last_revision us
+last-from n main [] e h = absurd (cc)
+last-from n main (u ∷ us) e h = by (last_that (fits (u ∷ us)) (u ∷ us)) refl
+  where
+    by : (o : Option Version) → last_that (fits (u ∷ us)) (u ∷ us) ≡ o → n ≤ unwrap_or (option_map (λ v. v.rev.main) o) u.rev.main
+    by None e = h.0
+    by (Some v) e = (passed (fits (u ∷ us)) (λ w. n ≤ w.rev.main) (u ∷ us) v h e).1
 
 pub filter-within : (n : ℕ) (p : Version → Bool) (vs : List Version) → AreUpTo n vs → AreUpTo n (filter p vs)
 filter-within n p [] h = tt

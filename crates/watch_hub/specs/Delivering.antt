@@ -5,7 +5,6 @@ use Rattle.kv_model.specs.declared.call.Watched.{Watched}
 use Rattle.kv_model.specs.Events.{WatchEvent, event_of, matches}
 use Rattle.kv_model.specs.Watches.{Delivery, last_revision}
 use Rattle.store_laws.specs.Stands.{Tracked}
-use Rattle.range_view.specs.Stored.{Stored}
 use Rattle.watch_hub.specs.Hub.{PendingWatch, pending_of, tracked_at, without_tracked, advanced_to}
 
 -- the events of a message: whole revisions from the front
@@ -46,13 +45,18 @@ taken_by vs now n ts Course.waits = ts
 taken_by vs now n ts Course.ends = without_tracked n ts
 taken_by vs now n ts (Course.passes last) = advanced_to vs now n last ts
 
-abbrev pub course_at : Stored → Option PendingWatch → Course
-course_at s None = Course.waits
-course_at s (Some p) = course_of s.versions s.compacted p
+abbrev pub course_at : List Version → ℕ → Option PendingWatch → Course
+course_at vs c None = Course.waits
+course_at vs c (Some p) = course_of vs c p
 
 -- the watches behind a delivery to the one of this number, by what is kept
-abbrev pub delivered : Stored → ℕ → List Tracked → List Tracked
-delivered s n ts = taken_by s.versions s.revision n ts (course_at s (option_map pending_of (tracked_at ts n)))
+abbrev pub delivered : List Version → ℕ → ℕ → ℕ → List Tracked → List Tracked
+delivered vs now c n ts = taken_by vs now n ts (course_at vs c (option_map pending_of (tracked_at ts n)))
+
+-- what is told of the watch of a number, if one has it
+abbrev pub told_at : List Version → ℕ → Option PendingWatch → Delivery
+told_at vs c None = Delivery.no_watch
+told_at vs c (Some p) = delivery_due vs c p
 
 -- it passes no later revision
 abbrev pub IsWithin : ℕ → Course → Type 0

@@ -1,5 +1,6 @@
 -- The watches of a store, and what befalls them.
-use Rattle.std.specs.Prelude.{ℕ, ◌+◌, ℤ, List, [], ◌∷◌, ◌++◌, filter, map, not, ◌==◌, ◌&&◌, nat_le, nat_lt, Bool, Option, find, if◌then◌else◌}
+use Rattle.std.specs.Prelude.{ℕ, ◌+◌, ◌<◌, ⊤, ℤ, List, [], ◌∷◌, ◌++◌, filter, map, not, ◌==◌, ◌&&◌, nat_le, nat_lt, Bool, Option, find, if◌then◌else◌}
+use Rattle.std.specs.List.{AllByRecursion}
 use Rattle.kv_model.specs.declared.version.Version.{Version}
 use Rattle.kv_model.specs.declared.call.Watched.{Watched}
 use Rattle.kv_model.specs.Events.{matches}
@@ -36,6 +37,11 @@ told_to vs now last t = record t { first = first_from vs (last + 1) t.watched; a
 -- the watch of this number was told of all up to a revision
 abbrev pub advanced_to : List Version → ℕ → ℕ → ℕ → List Tracked → List Tracked
 advanced_to vs now n last ts = map (λ t. if has_number n t then told_to vs now last t else t) ts
+
+-- the numbers ascend, so no two are the same
+abbrev pub NumbersAscend : List Tracked → Type 0
+NumbersAscend [] = ⊤
+NumbersAscend (t ∷ ts) = AllByRecursion (λ u. t.number < u.number) ts × NumbersAscend ts
 
 -- what a delivery needs of a watch
 pub record PendingWatch : Type 0 where

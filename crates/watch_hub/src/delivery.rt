@@ -2,7 +2,7 @@
 ghost use Rattle.std.specs.Prelude.{◌≡◌, ◌≤◌, ◌⊎◌, Some, None, is_some, true, option_map, IfOk, IfErr};
 ghost use Rattle.kv_model.specs.declared.refusal.Refusal.TheVariants.{Memory, NoWatch};
 ghost use Rattle.kv_model.specs.Step.{last_main};
-ghost use Rattle.watch_hub.specs.Delivering.{IsWithin, course_at, course_of, delivered, delivery_due, taken_by};
+ghost use Rattle.watch_hub.specs.Delivering.{IsWithin, course_at, course_of, delivered, delivery_due, taken_by, told_at};
 ghost use Rattle.watch_hub.specs.Hub.{pending_of, tracked_at};
 ghost use Rattle.watch_hub.specs.Messages.{course_view, delivery_view};
 ghost use Rattle.watch_hub.specs.Views.{pending_view};
@@ -51,8 +51,7 @@ impl WatchHub {
         tables: &'a Tables,
         number: u64,
     ) -> Result<Delivery<'a>, Refusal>
-        ensures told { IfOk result (λ d. option_map (λ t. delivery_due tables.now.versions tables.now.compacted (pending_of t)) (tracked_at self.now.watches number)
-            ≡ Some (delivery_view d)) }
+        ensures told { IfOk result (λ d. delivery_view d ≡ told_at tables.now.versions tables.now.compacted (option_map pending_of (tracked_at self.now.watches number))) }
         ensures refused { IfErr result (λ e. ((e ≡ NoWatch) × (tracked_at self.now.watches number ≡ None))
             ⊎ ((e ≡ Memory) × (is_some (tracked_at self.now.watches number) ≡ true))) }
     {
@@ -73,7 +72,7 @@ impl WatchHub {
     /// The time is that of `deliver` without previous values, and of `advance` or `cancel`.
     pub fn go_on(&mut self, tables: &Tables, number: u64)
         requires { tables.now.revision ≤ last_main }
-        ensures { self.new ≡ record self.old { watches = delivered tables.now number self.old.watches } }
+        ensures { self.new ≡ record self.old { watches = delivered tables.now.versions tables.now.revision tables.now.compacted number self.old.watches } }
     {
         let course = self.course(tables, number);
         self.take(tables, number, course);
@@ -81,7 +80,7 @@ impl WatchHub {
 
     /// How the watch of a number goes on.
     fn course(&self, tables: &Tables, number: u64) -> Course
-        ensures course { course_view result ≡ course_at tables.now (option_map pending_of (tracked_at self.now.watches number)) }
+        ensures course { course_view result ≡ course_at tables.now.versions tables.now.compacted (option_map pending_of (tracked_at self.now.watches number)) }
         ensures within { IsWithin tables.now.revision (course_view result) }
     {
         match self.pending(number) {
