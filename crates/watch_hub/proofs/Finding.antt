@@ -6,20 +6,15 @@ use Rattle.std.specs.List.Sorted.{IsPartitionedBy, IsPartitionPoint}
 use Rattle.std.proofs.lemmas.Bool.Decides.{nat_tests}
 use Rattle.watch_hub.specs.declared.entries.Place.{Place}
 use Rattle.watch_hub.specs.Entries.{AreAscending, index_of, key_of}
+use Rattle.watch_hub.proofs.Halving.{AreOrdered, partitioned as halves}
 
-above-at : (m : ℕ) (ps : List Place) (j : ℕ) (d : Place) → AllByRecursion (λ q. m < q.number) ps → j < length ps → m < (get_or ps j d).number
-above-at m [] j d a h = absurd (omega arith)
-above-at m (p ∷ ps) zero d a h = a.0
-above-at m (p ∷ ps) (suc j) d a h = above-at m ps j d a.1 (omega arith)
+ordered : (ps : List Place) → AreAscending ps → AreOrdered (λ p q. p.number < q.number) ps
+ordered [] r = tt
+ordered (p ∷ ps) r = (r.0, ordered ps r.1)
 
 pub partitioned : (n : ℕ) (ps : List Place) → AreAscending ps → IsPartitionedBy (λ p. nat_lt p.number n) ps
-partitioned n [] r i j d l m h = absurd (omega arith)
-partitioned n (p ∷ ps) r zero zero d l m h = h
-partitioned n (p ∷ ps) r zero (suc j) d l m h =
-    let below : p.number < (get_or ps j d).number = above-at p.number ps j d r.0 (omega arith) in
-    grind (arith, nat_tests)
-partitioned n (p ∷ ps) r (suc i) zero d l m h = absurd (omega arith)
-partitioned n (p ∷ ps) r (suc i) (suc j) d l m h = partitioned n ps r.1 i j d (omega arith) (omega arith) h
+partitioned n ps r =
+    halves (λ p q. p.number < q.number) (λ p. nat_lt p.number n) (λ p q l h. grind (arith, nat_tests)) ps (ordered ps r)
 
 -- the index, where the place there has the number
 abbrev pub index_if : ℕ → Option Place → ℕ → Option ℕ

@@ -9,6 +9,7 @@ use Rattle.kv_model.specs.History.{rev_lt}
 use Rattle.store_laws.specs.Stands.{first_main_of}
 use Rattle.version_table.specs.Rising.{IsRising}
 use Rattle.version_table.proofs.RevOrder.{main_le}
+use Rattle.watch_hub.proofs.Halving.{AreOrdered, partitioned as halves}
 
 -- ---- the first that passes a test
 
@@ -23,23 +24,18 @@ first-found p (v ∷ vs) = by (p v) (first-found p vs)
 
 -- ---- those before a revision
 
-above-at : (m : ℕ) (vs : List Version) (j : ℕ) (d : Version) → AllByRecursion (λ w. m ≤ w.rev.main) vs → j < length vs → m ≤ (get_or vs j d).rev.main
-above-at m [] j d a h = absurd (omega arith)
-above-at m (v ∷ vs) zero d a h = a.0
-above-at m (v ∷ vs) (suc j) d a h = above-at m vs j d a.1 (omega arith)
-
-mains-above : (v : Version) (vs : List Version) → AllByRecursion (λ w. rev_lt v.rev w.rev ≡ true) vs → AllByRecursion (λ w. v.rev.main ≤ w.rev.main) vs
+mains-above : (v : Version) (vs : List Version) → AllByRecursion (λ w. rev_lt v.rev w.rev ≡ true) vs
+    → AllByRecursion (λ w. v.rev.main ≤ w.rev.main) vs
 mains-above v [] a = tt
 mains-above v (w ∷ vs) a = (main_le v.rev w.rev a.0, mains-above v vs a.1)
 
+ordered : (vs : List Version) → IsRising vs → AreOrdered (λ v w. v.rev.main ≤ w.rev.main) vs
+ordered [] r = tt
+ordered (v ∷ vs) r = (mains-above v vs r.0, ordered vs r.1)
+
 pub partitioned : (next : ℕ) (vs : List Version) → IsRising vs → IsPartitionedBy (λ v. nat_lt v.rev.main next) vs
-partitioned next [] r i j d l m h = absurd (omega arith)
-partitioned next (v ∷ vs) r zero zero d l m h = h
-partitioned next (v ∷ vs) r zero (suc j) d l m h =
-    let below : v.rev.main ≤ (get_or vs j d).rev.main = above-at v.rev.main vs j d (mains-above v vs r.0) (omega arith) in
-    grind (arith, nat_tests)
-partitioned next (v ∷ vs) r (suc i) zero d l m h = absurd (omega arith)
-partitioned next (v ∷ vs) r (suc i) (suc j) d l m h = partitioned next vs r.1 i j d (omega arith) (omega arith) h
+partitioned next vs r =
+    halves (λ v w. v.rev.main ≤ w.rev.main) (λ v. nat_lt v.rev.main next) (λ v w l h. grind (arith, nat_tests)) vs (ordered vs r)
 
 pub before-point : (next : ℕ) (vs : List Version) (n : ℕ) → n ≤ length vs → IsPartitionPoint (λ v. nat_lt v.rev.main next ≡ true) (λ v. nat_lt v.rev.main next ≡ false) vs n
     → AllByRecursion (λ v. nat_le next v.rev.main ≡ false) (take n vs)

@@ -21,8 +21,8 @@ pub(crate) struct Place {
     key: usize,
 }
 
-/// The watches that stand, in the order of their numbers. The slab has these and no other: one that ends leaves it. Only `push`
-/// takes memory.
+/// The watches that stand, in the order of their numbers. The slab has these and no other: one that
+/// ends leaves it. Only `push` takes memory.
 #[derive(Drop)]
 pub(crate) struct Entries {
     slab: Slab<Entry>,
@@ -82,8 +82,8 @@ impl Entries {
         Ok(())
     }
 
-    /// Takes out the watch of a number, and tells whether there was one. It is found in logarithmic time; the places behind it
-    /// move.
+    /// Takes out the watch of a number, and tells whether there was one. It is found in logarithmic
+    /// time; the places behind it move.
     pub(crate) fn remove(&mut self, number: u64) -> bool
         ensures found { result ≡ is_some (tracked_at self.old number) }
         ensures left { self.new ≡ without_tracked number self.old }

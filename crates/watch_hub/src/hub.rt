@@ -33,17 +33,19 @@ pub struct Pending<'a> {
     pub id: i64,
     /// What it looks at.
     pub watched: &'a Watched,
-    /// Whether its start was below the last compaction when it was made. Such a watch is told nothing but that.
+    /// Whether its start was below the last compaction when it was made. Such a watch is told
+    /// nothing but that.
     pub late: bool,
-    /// The main revision of the first version that it matches and was not told of; nothing while it is caught up.
+    /// The main revision of the first version that it matches and was not told of; nothing while it
+    /// is caught up.
     pub first: Option<u64>,
 }
 
 /// The watches that stand, in the order in which they were made, and how many were made so far.
 ///
-/// A watch that is not late is behind, and holds the main revision of the first version that it matches and was not told of; or
-/// it is caught up, and what it looks at next is the next revision, or a later one that it waits for. Each stands at a place of a
-/// slab. Only `create` takes memory.
+/// A watch that is not late is behind, and holds the main revision of the first version that it
+/// matches and was not told of; or it is caught up, and what it looks at next is the next revision,
+/// or a later one that it waits for. Each stands at a place of a slab. Only `create` takes memory.
 #[derive(Drop)]
 pub struct WatchHub {
     entries: Entries,
@@ -72,14 +74,17 @@ impl WatchHub {
         }
     }
 
-    /// Makes a watch of what is kept, and answers its number: one more than the last one made, from 1 on.
+    /// Makes a watch of what is kept, and answers its number: one more than the last one made, from
+    /// 1 on.
     ///
-    /// `start` is the first revision that it looks at, where 0 and below mean the next one; it may be above the present revision.
-    /// An empty key counts as the byte 0. `id` is the client's number for the watch. A start below the last compaction makes a
-    /// watch that is late. Keys are shared, not copied.
+    /// `start` is the first revision that it looks at, where 0 and below mean the next one; it may
+    /// be above the present revision. An empty key counts as the byte 0. `id` is the client's
+    /// number for the watch. A start below the last compaction makes a watch that is late. Keys are
+    /// shared, not copied.
     ///
-    /// The refusals, in this order: `TooManyWatches` where 1,024 stand or 2^63 - 1 were made, `Memory`. A refusal changes nothing.
-    /// The time is logarithmic in the number of versions, and linear in that of those from the start up to the first match.
+    /// The refusals, in this order: `TooManyWatches` where 1,024 stand or 2^63 - 1 were made,
+    /// `Memory`. A refusal changes nothing. The time is logarithmic in the number of versions, and
+    /// linear in that of those from the start up to the first match.
     pub fn create(
         &mut self,
         tables: &Tables,
@@ -123,19 +128,21 @@ impl WatchHub {
         Ok(())
     }
 
-    /// Takes note of the versions of a new revision, which is now the present one, `now`. A watch that is caught up and matches one
-    /// of them is then behind; those that are behind already are passed over. Takes no memory.
+    /// Takes note of the versions of a new revision, which is now the present one, `now`. A watch
+    /// that is caught up and matches one of them is then behind; those that are behind already are
+    /// passed over. Takes no memory.
     ///
-    /// The time is linear in the room that the slab has, which is for as many watches as stood at once, at most 1,024, and as much
-    /// again by the way that lists grow; and for each watch that is caught up in the number of the versions.
+    /// The time is linear in the room that the slab has, which is for as many watches as stood at
+    /// once, at most 1,024, and as much again by the way that lists grow; and for each watch that
+    /// is caught up in the number of the versions.
     pub fn note(&mut self, versions: &[Version], now: u64)
         ensures { self.new ≡ record self.old { watches = map (noted versions.now now) self.old.watches } }
     {
         self.entries.note(versions, now);
     }
 
-    /// What a delivery to the watch of a number needs. `NoWatch` comes where no watch has the number. Takes no memory. Logarithmic
-    /// time.
+    /// What a delivery to the watch of a number needs. `NoWatch` comes where no watch has the
+    /// number. Takes no memory. Logarithmic time.
     pub fn pending(&self, number: u64) -> Result<Pending<'_>, Refusal>
         ensures found { IfOk result (λ p. option_map pending_of (tracked_at self.now.watches number) ≡ Some (pending_view p)) }
         ensures missing { IfErr result (λ e. (e ≡ NoWatch) × (tracked_at self.now.watches number ≡ None)) }
@@ -151,10 +158,11 @@ impl WatchHub {
         }
     }
 
-    /// The watch of a number was told of all that it matches up to the revision `last`: it goes on behind that. Where no watch has
-    /// the number, nothing changes. Takes no memory.
+    /// The watch of a number was told of all that it matches up to the revision `last`: it goes on
+    /// behind that. Where no watch has the number, nothing changes. Takes no memory.
     ///
-    /// The time is logarithmic in the number of versions, and linear in that of those from there on up to the next match.
+    /// The time is logarithmic in the number of versions, and linear in that of those from there on
+    /// up to the next match.
     pub fn advance(&mut self, tables: &Tables, number: u64, last: u64)
         requires { last ≤ last_main }
         ensures { self.new ≡ record self.old { watches = advanced_to tables.now.versions tables.now.revision number last self.old.watches } }
@@ -163,7 +171,8 @@ impl WatchHub {
             .advance(number, tables.versions(), tables.revision(), last);
     }
 
-    /// Ends the watch of a number. `NoWatch` comes where no watch has the number, and then nothing changes. Takes no memory.
+    /// Ends the watch of a number. `NoWatch` comes where no watch has the number, and then nothing
+    /// changes. Takes no memory.
     ///
     /// It is found in logarithmic time; the places of those that were made later move.
     pub fn cancel(&mut self, number: u64) -> Result<(), Refusal>

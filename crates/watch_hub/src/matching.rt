@@ -1,35 +1,13 @@
 //! Which versions a watch matches.
 ghost use Rattle.std.specs.Prelude.{◌≡◌, ◌≤◌, ◌&&◌, false, filter, find, length, nat_le, option_copied, take, drop};
 ghost use Rattle.std.specs.List.{AllByRecursion};
-ghost use Rattle.kv_model.specs.Keys.{in_range, key_lt, key_le, same_key, zero_byte};
 ghost use Rattle.kv_model.specs.Events.{matches, wants};
 ghost use Rattle.store_laws.specs.Stands.{ahead_of, first_main_of, is_reached, still_ahead};
 ghost use Rattle.version_table.specs.Rising.{IsRising};
 ghost use Rattle.watch_hub.specs.Hub.{first_from};
 
-use bytes::Bytes;
 use kv_model::call::Watched;
-use kv_model::version::{Body, KeyRange, Version};
-
-/// Whether a key is the single byte 0.
-fn is_zero_byte(key: &Bytes) -> bool
-    ensures { result ≡ same_key key.now zero_byte }
-{
-    key.as_slice() == [0].as_slice()
-}
-
-/// Whether a key is in a range.
-fn in_range(range: &KeyRange, key: &Bytes) -> bool
-    ensures { result ≡ in_range range.now key.now }
-{
-    if range.end.is_empty() {
-        return key.as_slice() == range.key.as_slice();
-    }
-    if is_zero_byte(&range.end) {
-        return is_zero_byte(&range.key) || range.key.cmp(key).is_le();
-    }
-    range.key.cmp(key).is_le() && key.cmp(&range.end).is_lt()
-}
+use kv_model::version::{Body, Version};
 
 /// Whether the kind of a version is not left out.
 fn wants(watched: &Watched, body: &Body) -> bool
@@ -45,7 +23,7 @@ fn wants(watched: &Watched, body: &Body) -> bool
 fn matches(watched: &Watched, version: &Version) -> bool
     ensures { result ≡ matches watched.now version.now }
 {
-    in_range(&watched.range, &version.key) && wants(watched, &version.body)
+    watched.range.contains(version.key.as_slice()) && wants(watched, &version.body)
 }
 
 /// Whether a revision is one that a watch waits for.
@@ -103,9 +81,11 @@ fn rest_from(versions: &[Version], index: usize) -> &[Version]
     rest
 }
 
-/// The main revision of the first of the versions, which rise, that is from a revision on and that a watch matches.
+/// The main revision of the first of the versions, which rise, that is from a revision on and that
+/// a watch matches.
 ///
-/// The time is logarithmic in the number of versions, and linear in that of those from the revision on up to the match.
+/// The time is logarithmic in the number of versions, and linear in that of those from the revision
+/// on up to the match.
 pub(crate) fn first_from(versions: &[Version], next: u64, watched: &Watched) -> Option<u64>
     requires { IsRising versions.now }
     ensures { result ≡ first_from versions.now next watched.now }
