@@ -1,5 +1,6 @@
 -- The first match among versions that rise.
-use Rattle.std.proofs.Common.{◌≡◌, ℕ, zero, suc, ◌<◌, ◌≤◌, List, [], ◌∷◌, length, take, drop, get_or, filter, Bool, true, false, ◌&&◌, cond, Some, option_map, refl, sym, ◌∙◌, ap, arith}
+use Rattle.std.proofs.Common.{◌≡◌, ℕ, zero, suc, ◌<◌, ◌≤◌, List, [], ◌∷◌, length, take, drop, get_or, filter, Bool, true, false, ◌&&◌, cond}
+use Rattle.std.proofs.Common.{Some, option_map, refl, sym, ◌∙◌, ap, arith}
 use Rattle.std.specs.Prelude.{nat_lt, nat_le}
 use Rattle.std.specs.List.{AllByRecursion, find}
 use Rattle.std.specs.List.Sorted.{IsPartitionedBy, IsPartitionPoint}
@@ -37,16 +38,21 @@ pub partitioned : (next : ℕ) (vs : List Version) → IsRising vs → IsPartiti
 partitioned next vs r =
     halves (λ v w. v.rev.main ≤ w.rev.main) (λ v. nat_lt v.rev.main next) (λ v w l h. grind (arith, nat_tests)) vs (ordered vs r)
 
-pub before-point : (next : ℕ) (vs : List Version) (n : ℕ) → n ≤ length vs → IsPartitionPoint (λ v. nat_lt v.rev.main next ≡ true) (λ v. nat_lt v.rev.main next ≡ false) vs n
+pub before-point : (next : ℕ) (vs : List Version) (n : ℕ) → n ≤ length vs
+    → IsPartitionPoint (λ v. nat_lt v.rev.main next ≡ true) (λ v. nat_lt v.rev.main next ≡ false) vs n
     → AllByRecursion (λ v. nat_le next v.rev.main ≡ false) (take n vs)
 before-point next vs zero h t = tt
 before-point next [] (suc n) h t = tt
 before-point next (v ∷ vs) (suc n) h t =
     let below : nat_lt v.rev.main next ≡ true = t.0 0 v (omega arith) (omega arith) in
-    (grind (arith, nat_tests), before-point next vs n (omega arith) ((λ k d l m. t.0 (suc k) d (omega arith) (omega arith)), (λ k d l m. t.1 (suc k) d (omega arith) (omega arith))))
+    let later : IsPartitionPoint (λ v. nat_lt v.rev.main next ≡ true) (λ v. nat_lt v.rev.main next ≡ false) vs n
+    = ((λ k d l m. t.0 (suc k) d (omega arith) (omega arith)), (λ k d l m. t.1 (suc k) d (omega arith) (omega arith))) in
+    (grind (arith, nat_tests), before-point next vs n (omega arith) later)
 
 -- those that a test leaves out at the front are passed over
-pub filter-behind : (p q : Version → Bool) (vs : List Version) (n : ℕ) → AllByRecursion (λ v. p v ≡ false) (take n vs) → filter (λ v. p v && q v) (drop n vs) ≡ filter (λ v. p v && q v) vs
+pub filter-behind : (p q : Version → Bool) (vs : List Version) (n : ℕ) → AllByRecursion (λ v. p v ≡ false) (take n vs)
+    → filter (λ v. p v && q v) (drop n vs) ≡ filter (λ v. p v && q v) vs
 filter-behind p q vs zero h = refl
 filter-behind p q [] (suc n) h = refl
-filter-behind p q (v ∷ vs) (suc n) h = filter-behind p q vs n h.1 ∙ sym (ap (λ b. cond (b && q v) (v ∷ filter (λ v. p v && q v) vs) (filter (λ v. p v && q v) vs)) h.0)
+filter-behind p q (v ∷ vs) (suc n) h = filter-behind p q vs n h.1
+    ∙ sym (ap (λ b. cond (b && q v) (v ∷ filter (λ v. p v && q v) vs) (filter (λ v. p v && q v) vs)) h.0)

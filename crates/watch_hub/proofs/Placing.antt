@@ -1,5 +1,6 @@
 -- Watches at places: what is listed, and how the list changes.
-use Rattle.std.proofs.Common.{◌≡◌, ◌≢◌, ℕ, zero, suc, ◌+◌, ◌<◌, ◌≤◌, List, [], ◌∷◌, ◌++◌, map, filter, get_or, Bool, true, false, not, ◌&&◌, ◌==◌, cond, Option, None, Some, option_map, option_and_then, refl, sym, ◌∙◌, ap, arith}
+use Rattle.std.proofs.Common.{◌≡◌, ◌≢◌, ℕ, zero, suc, ◌+◌, ◌<◌, ◌≤◌, List, [], ◌∷◌, ◌++◌, map, filter, get_or, Bool, true, false, not, ◌&&◌}
+use Rattle.std.proofs.Common.{◌==◌, cond, Option, None, Some, option_map, option_and_then, refl, sym, ◌∙◌, ap, arith}
 use Rattle.std.specs.Prelude.{unwrap_or, is_some, IfSome, OnSome}
 use Rattle.std.specs.List.{AllByRecursion, remove}
 use Rattle.std.proofs.lemmas.Bool.Decides.{nat_tests}
@@ -35,27 +36,34 @@ later-placed seen p ps h = record { ascending = h.ascending.1; present = h.prese
 
 -- ---- a look-up
 
-pub found : (seen : ℕ → Option Tracked) (n : ℕ) (ps : List Place) → ArePresent seen ps → tracked_at (listed seen ps) n ≡ option_and_then seen (key_of n ps)
+pub found : (seen : ℕ → Option Tracked) (n : ℕ) (ps : List Place) → ArePresent seen ps
+    → tracked_at (listed seen ps) n ≡ option_and_then seen (key_of n ps)
 found seen n [] h = refl
 found seen n (p ∷ ps) h =
-    ap (λ m. cond (m == n) (Some (unwrap_or (seen p.key) no_watch)) (tracked_at (listed seen ps) n)) (number-is (seen p.key) p.number h.0) ∙ by (found seen n ps h.1) (p.number == n)
+    ap (λ m. cond (m == n) (Some (unwrap_or (seen p.key) no_watch)) (tracked_at (listed seen ps) n)) (number-is (seen p.key) p.number h.0)
+    ∙ by (found seen n ps h.1) (p.number == n)
   where
-    by : tracked_at (listed seen ps) n ≡ option_and_then seen (key_of n ps) → (b : Bool) → cond b (Some (unwrap_or (seen p.key) no_watch)) (tracked_at (listed seen ps) n) ≡ option_and_then seen (cond b (Some p.key) (key_of n ps))
+    by : tracked_at (listed seen ps) n ≡ option_and_then seen (key_of n ps) → (b : Bool)
+        → cond b (Some (unwrap_or (seen p.key) no_watch)) (tracked_at (listed seen ps) n)
+        ≡ option_and_then seen (cond b (Some p.key) (key_of n ps))
     by later true = is-there (seen p.key) p.number h.0
     by later false = later
 
-pub key-number : (seen : ℕ → Option Tracked) (n : ℕ) (ps : List Place) (key : ℕ) → ArePresent seen ps → key_of n ps ≡ Some key → number_of (seen key) ≡ Some n
+pub key-number : (seen : ℕ → Option Tracked) (n : ℕ) (ps : List Place) (key : ℕ) → ArePresent seen ps → key_of n ps ≡ Some key
+    → number_of (seen key) ≡ Some n
 key-number seen n [] key h e = absurd (cc)
 key-number seen n (p ∷ ps) key h e = by (key-number seen n ps key h.1) (p.number == n) refl e
   where
-    by : (key_of n ps ≡ Some key → number_of (seen key) ≡ Some n) → (b : Bool) → (p.number == n) ≡ b → cond b (Some p.key) (key_of n ps) ≡ Some key → number_of (seen key) ≡ Some n
+    by : (key_of n ps ≡ Some key → number_of (seen key) ≡ Some n) → (b : Bool) → (p.number == n) ≡ b
+        → cond b (Some p.key) (key_of n ps) ≡ Some key → number_of (seen key) ≡ Some n
     by later true f e =
         let same : p.key ≡ key = cc in
         let number : p.number ≡ n = grind (arith, nat_tests) in
         ap (λ k. number_of (seen k)) (sym same) ∙ h.0 ∙ ap Some number
     by later false f e = later e
 
-pub some-found : (seen : ℕ → Option Tracked) (n : ℕ) (ps : List Place) (key : ℕ) → ArePresent seen ps → key_of n ps ≡ Some key → is_some (tracked_at (listed seen ps) n) ≡ true
+pub some-found : (seen : ℕ → Option Tracked) (n : ℕ) (ps : List Place) (key : ℕ) → ArePresent seen ps → key_of n ps ≡ Some key
+    → is_some (tracked_at (listed seen ps) n) ≡ true
 some-found seen n ps key h e = ap is_some (found seen n ps h ∙ ap (option_and_then seen) e) ∙ by (seen key) (key-number seen n ps key h e)
   where
     by : (o : Option Tracked) → number_of o ≡ Some n → is_some o ≡ true
@@ -148,8 +156,9 @@ changed-listed c f n (p ∷ ps) h e made = by (λ g. changed-listed c f n ps (la
         let same : p.key ≡ c.key = cc in
         let equal : p.number ≡ n = grind (arith, nat_tests) in
         let others : AreOthers n ps = above-others n p.number ps (omega arith) h.ascending.0 in
-        let head : unwrap_or (c.after p.key) no_watch ≡ f t = ap (λ k. unwrap_or (c.after k) no_watch) same ∙ ap (λ x. unwrap_or x no_watch) made
-            ∙ ap (λ k. unwrap_or (option_map f (c.before k)) no_watch) (sym same) ∙ unwrapped f (c.before p.key) p.number h.present.0 in
+        let head : unwrap_or (c.after p.key) no_watch ≡ f t
+        = ap (λ k. unwrap_or (c.after k) no_watch) same ∙ ap (λ x. unwrap_or x no_watch) made
+        ∙ ap (λ k. unwrap_or (option_map f (c.before k)) no_watch) (sym same) ∙ unwrapped f (c.before p.key) p.number h.present.0 in
         let rest : listed c.after ps ≡ changed_by f n (listed c.before ps)
         = others-listed c n ps number h.present.1 others ∙ sym (others-kept c.before f n ps h.present.1 others) in
         (λ i. head i ∷ rest i) ∙ ap (λ b. cond b (f t) t ∷ changed_by f n (listed c.before ps)) (sym (is ∙ g))
@@ -175,7 +184,8 @@ all-listed seen new f (p ∷ ps) e h =
 vacant-differs : (c : KeyChange) (p : Place) → c.before c.key ≡ None → number_of (c.before p.key) ≡ Some p.number → p.key ≢ c.key
 vacant-differs c p v h same = let none : Some p.number ≡ None = sym h ∙ ap (λ k. number_of (c.before k)) same ∙ ap number_of v in cc
 
-pub pushed-listed : (c : KeyChange) (t : Tracked) (ps : List Place) → c.before c.key ≡ None → c.after c.key ≡ Some t → ArePresent c.before ps
+pub pushed-listed : (c : KeyChange) (t : Tracked) (ps : List Place) → c.before c.key ≡ None → c.after c.key ≡ Some t
+    → ArePresent c.before ps
     → listed c.after (ps ++ (record { number = t.number; key = c.key }) ∷ []) ≡ listed c.before ps ++ t ∷ []
 pushed-listed c t [] v made h = ap (λ x. unwrap_or x no_watch ∷ []) made
 pushed-listed c t (p ∷ ps) v made h =
@@ -186,7 +196,8 @@ present-push : (c : KeyChange) (t : Tracked) (ps : List Place) → c.before c.ke
 present-push c t [] v made h = (ap number_of made, tt)
 present-push c t (p ∷ ps) v made h = (ap number_of (c.others p.key (vacant-differs c p v h.0)) ∙ h.0, present-push c t ps v made h.1)
 
-numbers-below : (seen : ℕ → Option Tracked) (n : ℕ) (ps : List Place) → ArePresent seen ps → AllByRecursion (λ t. t.number < n) (listed seen ps)
+numbers-below : (seen : ℕ → Option Tracked) (n : ℕ) (ps : List Place) → ArePresent seen ps
+    → AllByRecursion (λ t. t.number < n) (listed seen ps)
     → AllByRecursion (λ p. p.number < n) ps
 numbers-below seen n [] h a = tt
 numbers-below seen n (p ∷ ps) h a =
@@ -197,12 +208,14 @@ above-push : (m : ℕ) (ps : List Place) (q : Place) → AllByRecursion (λ p. m
 above-push m [] q a h = (h, tt)
 above-push m (p ∷ ps) q a h = (a.0, above-push m ps q a.1 h)
 
-ascending-push : (ps : List Place) (q : Place) → AreAscending ps → AllByRecursion (λ p. p.number < q.number) ps → AreAscending (ps ++ q ∷ [])
+ascending-push : (ps : List Place) (q : Place) → AreAscending ps → AllByRecursion (λ p. p.number < q.number) ps
+    → AreAscending (ps ++ q ∷ [])
 ascending-push [] q r a = (tt, tt)
 ascending-push (p ∷ ps) q r a = (above-push p.number ps q r.0 a.0, ascending-push ps q r.1 a.1)
 
 pub pushed-placed : (c : KeyChange) (t : Tracked) (ps : List Place) → c.before c.key ≡ None → c.after c.key ≡ Some t → ArePlaced c.before ps
-    → AllByRecursion (λ u. u.number < t.number) (listed c.before ps) → ArePlaced c.after (ps ++ (record { number = t.number; key = c.key }) ∷ [])
+    → AllByRecursion (λ u. u.number < t.number) (listed c.before ps)
+    → ArePlaced c.after (ps ++ (record { number = t.number; key = c.key }) ∷ [])
 pushed-placed c t ps v made h a = record {
   ascending = ascending-push ps (record { number = t.number; key = c.key }) h.ascending (numbers-below c.before t.number ps h.present a);
   present = present-push c t ps v made h.present;
@@ -281,18 +294,22 @@ within None i n e h = absurd (cc)
 within (Some j) i n e h = let same : j ≡ i = cc in omega arith
 
 -- no watch of the number
-pub missed : (seen : ℕ → Option Tracked) (n : ℕ) (ps : List Place) → ArePresent seen ps → key_of n ps ≡ None → AllByRecursion (λ t. has_number n t ≡ false) (listed seen ps)
+pub missed : (seen : ℕ → Option Tracked) (n : ℕ) (ps : List Place) → ArePresent seen ps → key_of n ps ≡ None
+    → AllByRecursion (λ t. has_number n t ≡ false) (listed seen ps)
 missed seen n [] h e = tt
 missed seen n (p ∷ ps) h e = by (missed seen n ps h.1) (p.number == n) refl e
   where
     t : Tracked
     t = unwrap_or (seen p.key) no_watch
 
-    by : (key_of n ps ≡ None → AllByRecursion (λ t. has_number n t ≡ false) (listed seen ps)) → (b : Bool) → (p.number == n) ≡ b → cond b (Some p.key) (key_of n ps) ≡ None → (has_number n t ≡ false) × AllByRecursion (λ t. has_number n t ≡ false) (listed seen ps)
+    by : (key_of n ps ≡ None → AllByRecursion (λ t. has_number n t ≡ false) (listed seen ps)) → (b : Bool) → (p.number == n) ≡ b
+        → cond b (Some p.key) (key_of n ps) ≡ None → (has_number n t ≡ false)
+        × AllByRecursion (λ t. has_number n t ≡ false) (listed seen ps)
     by later true g e = absurd (cc)
     by later false g e = (ap (λ m. m == n) (number-is (seen p.key) p.number h.0) ∙ g, later e)
 
-pub missed-changed : (f : Tracked → Tracked) (n : ℕ) (ts : List Tracked) → AllByRecursion (λ t. has_number n t ≡ false) ts → ts ≡ changed_by f n ts
+pub missed-changed : (f : Tracked → Tracked) (n : ℕ) (ts : List Tracked) → AllByRecursion (λ t. has_number n t ≡ false) ts
+    → ts ≡ changed_by f n ts
 missed-changed f n [] a = refl
 missed-changed f n (t ∷ ts) a = λ i. cond (sym a.0 i) (f t) t ∷ missed-changed f n ts a.1 i
 
@@ -302,7 +319,8 @@ missed-left n (t ∷ ts) a = λ i. cond (not (sym a.0 i)) (t ∷ missed-left n t
 
 -- ---- numbers stay at most what was made
 
-pub up-to-map : (n : ℕ) (f : Tracked → Tracked) → ((t : Tracked) → (f t).number ≡ t.number) → (ts : List Tracked) → AreUpTo n ts → AreUpTo n (map f ts)
+pub up-to-map : (n : ℕ) (f : Tracked → Tracked) → ((t : Tracked) → (f t).number ≡ t.number) → (ts : List Tracked) → AreUpTo n ts
+    → AreUpTo n (map f ts)
 up-to-map n f e [] a = tt
 up-to-map n f e (t ∷ ts) a = (let same = e t in let below = a.0 in omega arith, up-to-map n f e ts a.1)
 
@@ -318,7 +336,8 @@ pub up-to-push : (n : ℕ) (ts : List Tracked) (t : Tracked) → AreUpTo n ts �
 up-to-push n [] t a e = (omega arith, tt)
 up-to-push n (u ∷ ts) t a e = (let below = a.0 in omega arith, up-to-push n ts t a.1 e)
 
-pub changed-number : (f : Tracked → Tracked) (n : ℕ) → ((t : Tracked) → (f t).number ≡ t.number) → (t : Tracked) → (cond (has_number n t) (f t) t).number ≡ t.number
+pub changed-number : (f : Tracked → Tracked) (n : ℕ) → ((t : Tracked) → (f t).number ≡ t.number) → (t : Tracked)
+    → (cond (has_number n t) (f t) t).number ≡ t.number
 changed-number f n e t = by (has_number n t)
   where
     by : (b : Bool) → (cond b (f t) t).number ≡ t.number
@@ -328,6 +347,9 @@ changed-number f n e t = by (has_number n t)
 pub noted-number : (vs : List Version) (now : ℕ) (t : Tracked) → (noted vs now t).number ≡ t.number
 noted-number vs now t = by t.late
   where
-    by : (b : Bool) → (cond b t (record t { first = option_or t.first (first_main_of (filter (λ v. is_reached t.ahead v.rev.main && matches t.watched v) vs)); ahead = still_ahead now t.ahead })).number ≡ t.number
+    by : (b : Bool) → (cond b t (record t {
+      first = option_or t.first (first_main_of (filter (λ v. is_reached t.ahead v.rev.main && matches t.watched v) vs));
+      ahead = still_ahead now t.ahead;
+    })).number ≡ t.number
     by true = refl
     by false = refl

@@ -1,5 +1,6 @@
 //! The watches that stand, each at a place of a slab, found by number.
-ghost use Rattle.std.specs.Prelude.{◌≡◌, ◌≢◌, ℕ, ◌<◌, ◌≤◌, [], ◌∷◌, ◌++◌, length, map, is_some, option_map, option_copied, OnOk, OnErr, IfSome};
+ghost use Rattle.std.specs.Prelude.{◌≡◌, ◌≢◌, ℕ, ◌<◌, ◌≤◌, [], ◌∷◌, ◌++◌, length, map, is_some};
+ghost use Rattle.std.specs.Prelude.{option_map, option_copied, OnOk, OnErr, IfSome};
 ghost use Rattle.std.specs.List.{AllByRecursion, slice_get};
 ghost use Rattle.slab.specs.Slab.{get, slab_len};
 ghost use Rattle.store_laws.specs.Stands.{noted};
@@ -150,7 +151,8 @@ fn key_of(places: &[Place], number: u64) -> Option<usize>
 
 /// The watch under a key takes note.
 fn note_at(slab: &mut Slab<Entry>, key: usize, versions: &[Version], now: u64)
-    ensures here { seen_in slab.new key ≡ option_map (noted versions.now now) (seen_in slab.old key) }
+    ensures here { seen_in slab.new key
+        ≡ option_map (noted versions.now now) (seen_in slab.old key) }
     ensures others { (other : ℕ) → other ≢ key → get slab.new other ≡ get slab.old other }
     ensures count { slab_len slab.new ≡ slab_len slab.old }
 {
@@ -161,7 +163,8 @@ fn note_at(slab: &mut Slab<Entry>, key: usize, versions: &[Version], now: u64)
 
 /// The watch under each key takes note.
 fn note_all(slab: &mut Slab<Entry>, versions: &[Version], now: u64)
-    ensures each { (key : ℕ) → seen_in slab.new key ≡ option_map (noted versions.now now) (seen_in slab.old key) }
+    ensures each { (key : ℕ)
+        → seen_in slab.new key ≡ option_map (noted versions.now now) (seen_in slab.old key) }
     ensures count { slab_len slab.new ≡ slab_len slab.old }
 {
     let keys = slab.capacity();
@@ -174,7 +177,8 @@ fn note_all(slab: &mut Slab<Entry>, versions: &[Version], now: u64)
 fn advance_at(slab: &mut Slab<Entry>, key: usize, versions: &[Version], now: u64, last: u64)
     requires rising { IsRising versions.now }
     requires fits { last ≤ last_main }
-    ensures here { seen_in slab.new key ≡ option_map (told_to versions.now now last) (seen_in slab.old key) }
+    ensures here { seen_in slab.new key
+        ≡ option_map (told_to versions.now now last) (seen_in slab.old key) }
     ensures others { (other : ℕ) → other ≢ key → get slab.new other ≡ get slab.old other }
     ensures count { slab_len slab.new ≡ slab_len slab.old }
 {

@@ -1,11 +1,13 @@
 //! The watches of a store (etcd: Watch).
-ghost use Rattle.std.specs.Prelude.{◌≡◌, ◌⊎◌, ◌+◌, ◌<◌, ◌≤◌, Some, None, [], map, is_ok, is_some, option_map, IfOk, IfErr, OnOk, OnErr};
+ghost use Rattle.std.specs.Prelude.{◌≡◌, ◌⊎◌, ◌+◌, ◌<◌, ◌≤◌, Some, None, [], map, is_ok, is_some};
+ghost use Rattle.std.specs.Prelude.{option_map, IfOk, IfErr, OnOk, OnErr};
 ghost use Rattle.kv_model.specs.declared.refusal.Refusal.TheVariants.{Memory, NoWatch};
 ghost use Rattle.kv_model.specs.Lists as lists;
 ghost use Rattle.store_laws.specs.Stands.{noted};
 ghost use Rattle.kv_model.specs.Step.{last_main, start_of, watched_range};
 ghost use Rattle.store_laws.specs.Stores.{refusal_of_watch, tracked_made};
-ghost use Rattle.watch_hub.specs.Hub.{advanced_to, entry_made, pending_of, store_with, tracked_at, with_watch, without_tracked};
+ghost use Rattle.watch_hub.specs.Hub.{advanced_to, entry_made, pending_of, store_with, tracked_at};
+ghost use Rattle.watch_hub.specs.Hub.{with_watch, without_tracked};
 ghost use Rattle.watch_hub.specs.Entries.{tracked_of};
 ghost use Rattle.watch_hub.specs.Views.{pending_view};
 
@@ -95,8 +97,10 @@ impl WatchHub {
         requires { tables.now.revision ≤ last_main }
         ensures allowed { OnOk result (refusal_of_watch (store_with tables.now self.old) ≡ None) }
         ensures number { IfOk result (λ n. n ≡ self.old.made + 1) }
-        ensures made { OnOk result (self.new ≡ with_watch self.old (tracked_made (store_with tables.now self.old) watched.now start id)) }
-        ensures refused { IfErr result (λ e. (refusal_of_watch (store_with tables.now self.old) ≡ Some e)
+        ensures made { OnOk result (self.new ≡ with_watch self.old
+            (tracked_made (store_with tables.now self.old) watched.now start id)) }
+        ensures refused { IfErr result (λ e.
+            (refusal_of_watch (store_with tables.now self.old) ≡ Some e)
             ⊎ ((refusal_of_watch (store_with tables.now self.old) ≡ None) × (e ≡ Memory))) }
         ensures unchanged { OnErr result (self.new ≡ self.old) }
     {
@@ -119,7 +123,8 @@ impl WatchHub {
     ) -> Result<(), AllocError>
         requires revision { tables.now.revision ≤ last_main }
         requires room { self.old.made < last_main }
-        ensures made { OnOk result (self.new ≡ with_watch self.old (tracked_made (store_with tables.now self.old) watched.now start id)) }
+        ensures made { OnOk result (self.new ≡ with_watch self.old
+            (tracked_made (store_with tables.now self.old) watched.now start id)) }
         ensures unchanged { OnErr result (self.new ≡ self.old) }
     {
         let entry = entry_for(tables, watched, start, id, self.made + 1)?;
@@ -136,7 +141,8 @@ impl WatchHub {
     /// once, at most 1,024, and as much again by the way that lists grow; and for each watch that
     /// is caught up in the number of the versions.
     pub fn note(&mut self, versions: &[Version], now: u64)
-        ensures { self.new ≡ record self.old { watches = map (noted versions.now now) self.old.watches } }
+        ensures { self.new
+            ≡ record self.old { watches = map (noted versions.now now) self.old.watches } }
     {
         self.entries.note(versions, now);
     }
@@ -144,8 +150,10 @@ impl WatchHub {
     /// What a delivery to the watch of a number needs. `NoWatch` comes where no watch has the
     /// number. Takes no memory. Logarithmic time.
     pub fn pending(&self, number: u64) -> Result<Pending<'_>, Refusal>
-        ensures found { IfOk result (λ p. option_map pending_of (tracked_at self.now.watches number) ≡ Some (pending_view p)) }
-        ensures missing { IfErr result (λ e. (e ≡ NoWatch) × (tracked_at self.now.watches number ≡ None)) }
+        ensures found { IfOk result (λ p.
+            option_map pending_of (tracked_at self.now.watches number) ≡ Some (pending_view p)) }
+        ensures missing { IfErr result (λ e. (e ≡ NoWatch)
+            × (tracked_at self.now.watches number ≡ None)) }
     {
         match self.entries.get(number) {
             Some(entry) => Ok(Pending {
@@ -165,7 +173,11 @@ impl WatchHub {
     /// up to the next match.
     pub fn advance(&mut self, tables: &Tables, number: u64, last: u64)
         requires { last ≤ last_main }
-        ensures { self.new ≡ record self.old { watches = advanced_to tables.now.versions tables.now.revision number last self.old.watches } }
+        ensures { self.new
+            ≡ record self.old {
+              watches = advanced_to tables.now.versions tables.now.revision
+                  number last self.old.watches;
+            } }
     {
         self.entries
             .advance(number, tables.versions(), tables.revision(), last);
@@ -178,7 +190,8 @@ impl WatchHub {
     pub fn cancel(&mut self, number: u64) -> Result<(), Refusal>
         ensures found { is_ok result ≡ is_some (tracked_at self.old.watches number) }
         ensures missing { IfErr result (λ e. e ≡ NoWatch) }
-        ensures left { self.new ≡ record self.old { watches = without_tracked number self.old.watches } }
+        ensures left { self.new
+            ≡ record self.old { watches = without_tracked number self.old.watches } }
     {
         if self.entries.remove(number) {
             Ok(())
@@ -222,7 +235,8 @@ fn start_of(now: u64, start: i64) -> u64
 
 /// What a watch looks at, where an empty key counts as the byte 0.
 fn watched_of(watched: &Watched) -> Result<Watched, AllocError>
-    ensures { IfOk result (λ w. w ≡ record watched.now { range = watched_range watched.now.range }) }
+    ensures { IfOk result (λ w. w
+        ≡ record watched.now { range = watched_range watched.now.range }) }
 {
     Ok(Watched {
         range: range_of(&watched.range)?,

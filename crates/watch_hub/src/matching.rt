@@ -1,5 +1,6 @@
 //! Which versions a watch matches.
-ghost use Rattle.std.specs.Prelude.{◌≡◌, ◌≤◌, ◌&&◌, false, filter, find, length, nat_le, option_copied, take, drop};
+ghost use Rattle.std.specs.Prelude.{◌≡◌, ◌≤◌, ◌&&◌, false, filter, find, length, nat_le};
+ghost use Rattle.std.specs.Prelude.{option_copied, take, drop};
 ghost use Rattle.std.specs.List.{AllByRecursion};
 ghost use Rattle.kv_model.specs.Events.{matches, wants};
 ghost use Rattle.store_laws.specs.Stands.{ahead_of, first_main_of, is_reached, still_ahead};
@@ -42,7 +43,8 @@ fn find_reached<'a>(
     ahead: Option<u64>,
     watched: &Watched,
 ) -> Option<&'a Version>
-    ensures { option_copied result ≡ find (λ v. is_reached ahead v.rev.main && matches watched.now v) versions.now }
+    ensures { option_copied result
+        ≡ find (λ v. is_reached ahead v.rev.main && matches watched.now v) versions.now }
 {
     versions
         .iter()
@@ -55,7 +57,9 @@ pub(crate) fn first_reached(
     ahead: Option<u64>,
     watched: &Watched,
 ) -> Option<u64>
-    ensures { result ≡ first_main_of (filter (λ v. is_reached ahead v.rev.main && matches watched.now v) versions.now) }
+    ensures { result
+        ≡ first_main_of
+        (filter (λ v. is_reached ahead v.rev.main && matches watched.now v) versions.now) }
 {
     match find_reached(versions, ahead, watched) {
         Some(version) => Some(version.rev.main),
@@ -67,7 +71,8 @@ pub(crate) fn first_reached(
 fn count_before(versions: &[Version], next: u64) -> usize
     requires { IsRising versions.now }
     ensures bound { result ≤ length versions.now }
-    ensures before { AllByRecursion (λ v. nat_le next v.rev.main ≡ false) (take result versions.now) }
+    ensures before { AllByRecursion (λ v. nat_le next v.rev.main ≡ false)
+        (take result versions.now) }
 {
     versions.partition_point(|v| v.rev.main < next)
 }

@@ -11,7 +11,8 @@ returns-in-Some c =
     let places = c.self.inside.places.items in
     let key : key_of n places ≡ Some c.in-Some.key = ap (key_of n) (sym c.deref.ensures.value) ∙ sym c.key_of.ensures ∙ c.in-Some.is in
     let change = slab-change c.self.inside.slab c.advance_at.new.slab c.in-Some.key c.advance_at.ensures.others in
-    changed-listed change (told_to c.args.versions.now c.args.now c.args.last) n places c.self.invariant.placed key c.advance_at.ensures.here
+    changed-listed change
+    (told_to c.args.versions.now c.args.now c.args.last) n places c.self.invariant.placed key c.advance_at.ensures.here
     ∙ ap (λ ts. advanced_to c.args.versions.now c.args.now n c.args.last ts) c.self.view_is
 
 pub returns-in_default : goal.returns-in_default

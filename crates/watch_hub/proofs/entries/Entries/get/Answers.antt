@@ -7,13 +7,17 @@ use Rattle.watch_hub.proofs.entries.Entries.get.Goals as goal
 
 pub returns-in-Some : goal.returns-in-Some
 returns-in-Some c =
-    let key : key_of c.args.number c.self.inside.places.items ≡ Some c.in-Some.key = ap (key_of c.args.number) (sym c.deref.ensures.value) ∙ sym c.key_of.ensures ∙ c.in-Some.is in
+    let key : key_of c.args.number c.self.inside.places.items ≡ Some c.in-Some.key
+    = ap (key_of c.args.number) (sym c.deref.ensures.value) ∙ sym c.key_of.ensures ∙ c.in-Some.is in
     ap (λ (o : Option Entry). option_map tracked_of o) c.get.ensures
-    ∙ sym (found (seen_in c.self.inside.slab) c.args.number c.self.inside.places.items c.self.invariant.placed.present ∙ ap (option_and_then (seen_in c.self.inside.slab)) key)
+    ∙ sym (found (seen_in c.self.inside.slab) c.args.number c.self.inside.places.items c.self.invariant.placed.present
+    ∙ ap (option_and_then (seen_in c.self.inside.slab)) key)
     ∙ ap (λ ts. tracked_at ts c.args.number) c.self.view_is
 
 pub returns-in-None : goal.returns-in-None
 returns-in-None c =
-    let key : key_of c.args.number c.self.inside.places.items ≡ None = ap (key_of c.args.number) (sym c.deref.ensures.value) ∙ sym c.key_of.ensures ∙ c.in-None.is in
-    sym (found (seen_in c.self.inside.slab) c.args.number c.self.inside.places.items c.self.invariant.placed.present ∙ ap (option_and_then (seen_in c.self.inside.slab)) key)
+    let key : key_of c.args.number c.self.inside.places.items ≡ None
+    = ap (key_of c.args.number) (sym c.deref.ensures.value) ∙ sym c.key_of.ensures ∙ c.in-None.is in
+    sym (found (seen_in c.self.inside.slab) c.args.number c.self.inside.places.items c.self.invariant.placed.present
+    ∙ ap (option_and_then (seen_in c.self.inside.slab)) key)
     ∙ ap (λ ts. tracked_at ts c.args.number) c.self.view_is

@@ -1,4 +1,5 @@
-use Rattle.std.proofs.Common.{◌≡◌, ◌≢◌, ℕ, false, option_map, option_and_then, Option, None, Some, sym, ◌∙◌, ap, subst, arith, ◌+◌, ◌<◌, length}
+use Rattle.std.proofs.Common.{◌≡◌, ◌≢◌, ℕ, false, option_map, option_and_then, Option, None, Some, sym, ◌∙◌, ap, subst, arith, ◌+◌, ◌<◌}
+use Rattle.std.proofs.Common.{length}
 use Rattle.std.specs.Prelude.{is_some}
 use Rattle.std.specs.List.{AllByRecursion, remove}
 use Rattle.std.proofs.lemmas.List.Edits.{length-remove}
@@ -8,7 +9,8 @@ use Rattle.watch_hub.specs.declared.entries.Place.{Place}
 use Rattle.watch_hub.specs.Hub.{has_number, tracked_at, without_tracked}
 use Rattle.watch_hub.specs.Entries.{AreAll, tracked_of, seen_in, listed, index_of}
 use Rattle.watch_hub.proofs.Finding.{key-found, key-missed}
-use Rattle.watch_hub.proofs.Placing.{slab-change, number_of, found, some-found, key-number, where-there, within, removed, missed, missed-left}
+use Rattle.watch_hub.proofs.Placing.{slab-change, number_of, found, some-found, key-number, where-there, within, removed, missed}
+use Rattle.watch_hub.proofs.Placing.{missed-left}
 use Rattle.watch_hub.proofs.entries.Entries.remove.Goals as goal
 
 pub invariant_of-self : goal.invariant_of-self
@@ -19,7 +21,8 @@ invariant_of-self c =
     let places = c.self.inside.places.items in
     let placed = c.self.invariant.placed in
     let place = c.remove-place.result in
-    let index : index_of n places ≡ Some i = ap (index_of n) (sym c.deref.ensures.value) ∙ sym c.index_of.ensures.index ∙ c.in-Some.is in
+    let index : index_of n places ≡ Some i
+    = ap (index_of n) (sym c.deref.ensures.value) ∙ sym c.index_of.ensures.index ∙ c.in-Some.is in
     let key = key-found n places i place index ∙ ap (λ (p : Place). Some p.key) (sym c.remove-place.ensures.value) in
     subst (λ ps. AreAll c.try_remove.new.self ps) (sym c.remove-place.ensures.items) (record {
       placed = (removed (slab-change slab c.try_remove.new.self place.key c.try_remove.ensures.updates.others) n i places placed index key).1;
@@ -38,9 +41,11 @@ pub returns-in-Some-clause-found : goal.returns-in-Some-clause-found
 returns-in-Some-clause-found c =
     let n = c.args.number in
     let places = c.self.inside.places.items in
-    let index : index_of n places ≡ Some c.in-Some.index = ap (index_of n) (sym c.deref.ensures.value) ∙ sym c.index_of.ensures.index ∙ c.in-Some.is in
+    let index : index_of n places ≡ Some c.in-Some.index
+    = ap (index_of n) (sym c.deref.ensures.value) ∙ sym c.index_of.ensures.index ∙ c.in-Some.is in
     sym (ap (λ ts. is_some (tracked_at ts n)) (sym c.self.view_is)
-    ∙ some-found (seen_in c.self.inside.slab) n places _ c.self.invariant.placed.present (key-found n places c.in-Some.index c.remove-place.result index))
+    ∙ some-found (seen_in c.self.inside.slab) n places _ c.self.invariant.placed.present
+    (key-found n places c.in-Some.index c.remove-place.result index))
 
 pub returns-in-Some-clause-left : goal.returns-in-Some-clause-left
 returns-in-Some-clause-left c =
@@ -48,7 +53,8 @@ returns-in-Some-clause-left c =
     let i = c.in-Some.index in
     let places = c.self.inside.places.items in
     let place = c.remove-place.result in
-    let index : index_of n places ≡ Some i = ap (index_of n) (sym c.deref.ensures.value) ∙ sym c.index_of.ensures.index ∙ c.in-Some.is in
+    let index : index_of n places ≡ Some i
+    = ap (index_of n) (sym c.deref.ensures.value) ∙ sym c.index_of.ensures.index ∙ c.in-Some.is in
     let key = key-found n places i place index ∙ ap (λ (p : Place). Some p.key) (sym c.remove-place.ensures.value) in
     ap (λ ps. listed (seen_in c.try_remove.new.self) ps) c.remove-place.ensures.items
     ∙ (removed (slab-change c.self.inside.slab c.try_remove.new.self place.key c.try_remove.ensures.updates.others) n i places
@@ -60,14 +66,17 @@ returns-in-None-clause-found c =
     let n = c.args.number in
     let slab = c.self.inside.slab in
     let places = c.self.inside.places.items in
-    let index : index_of n places ≡ None = ap (index_of n) (sym c.deref.ensures.value) ∙ sym c.index_of.ensures.index ∙ c.in-None.is in
+    let index : index_of n places ≡ None
+    = ap (index_of n) (sym c.deref.ensures.value) ∙ sym c.index_of.ensures.index ∙ c.in-None.is in
     sym (ap (λ ts. is_some (tracked_at ts n)) (sym c.self.view_is)
-    ∙ ap is_some (found (seen_in slab) n places c.self.invariant.placed.present ∙ ap (option_and_then (seen_in slab)) (key-missed n places index)))
+    ∙ ap is_some (found (seen_in slab) n places c.self.invariant.placed.present
+    ∙ ap (option_and_then (seen_in slab)) (key-missed n places index)))
 
 pub returns-in-None-clause-left : goal.returns-in-None-clause-left
 returns-in-None-clause-left c =
     let n = c.args.number in
     let places = c.self.inside.places.items in
-    let index : index_of n places ≡ None = ap (index_of n) (sym c.deref.ensures.value) ∙ sym c.index_of.ensures.index ∙ c.in-None.is in
+    let index : index_of n places ≡ None
+    = ap (index_of n) (sym c.deref.ensures.value) ∙ sym c.index_of.ensures.index ∙ c.in-None.is in
     missed-left n c.args.self.now (subst (λ ts. AllByRecursion (λ t. has_number n t ≡ false) ts) c.self.view_is
     (missed (seen_in c.self.inside.slab) n places c.self.invariant.placed.present (key-missed n places index)))
