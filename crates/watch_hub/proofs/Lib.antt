@@ -1,3 +1,4 @@
+pub mod Halving
 pub mod Finding
 pub mod Placing
 pub mod Matches

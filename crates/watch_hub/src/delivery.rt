@@ -3,7 +3,7 @@ ghost use Rattle.std.specs.Prelude.{◌≡◌, ◌≤◌, ◌⊎◌, Some, None,
 ghost use Rattle.kv_model.specs.declared.refusal.Refusal.TheVariants.{Memory, NoWatch};
 ghost use Rattle.kv_model.specs.Step.{last_main};
 ghost use Rattle.watch_hub.specs.Delivering.{IsWithin, course_at, course_of, delivered, delivery_due, taken_by, told_at};
-ghost use Rattle.watch_hub.specs.Hub.{pending_of, tracked_at};
+ghost use Rattle.watch_hub.specs.Hub.{NumbersAscend, pending_of, tracked_at};
 ghost use Rattle.watch_hub.specs.Messages.{course_view, delivery_view};
 ghost use Rattle.watch_hub.specs.Views.{pending_view};
 
@@ -72,7 +72,8 @@ impl WatchHub {
     /// The time is that of `deliver` without previous values, and of `advance` or `cancel`.
     pub fn go_on(&mut self, tables: &Tables, number: u64)
         requires { tables.now.revision ≤ last_main }
-        ensures { self.new ≡ record self.old { watches = delivered tables.now.versions tables.now.revision tables.now.compacted number self.old.watches } }
+        ensures ascending { NumbersAscend self.old.watches }
+        ensures left { self.new ≡ record self.old { watches = delivered tables.now.versions tables.now.revision tables.now.compacted number self.old.watches } }
     {
         let course = self.course(tables, number);
         self.take(tables, number, course);
@@ -82,6 +83,7 @@ impl WatchHub {
     fn course(&self, tables: &Tables, number: u64) -> Course
         ensures course { course_view result ≡ course_at tables.now.versions tables.now.compacted (option_map pending_of (tracked_at self.now.watches number)) }
         ensures within { IsWithin tables.now.revision (course_view result) }
+        ensures ascending { NumbersAscend self.now.watches }
     {
         match self.pending(number) {
             Ok(pending) => course_of(tables, pending),

@@ -7,7 +7,8 @@ use Rattle.watch_hub.proofs.matching.count_before.Goals as goal
 
 pub returns-clause-before : goal.returns-clause-before
 returns-clause-before c =
-    let point = IsPartitionPoint-from_clause (λ v. nat_lt v.rev.main c.args.next) _ _ c.partition_point.ensures.partitioned (partitioned c.args.next _ c.requires) (λ a r q k. search rules) in
+    let point = IsPartitionPoint-from_clause (λ v. nat_lt v.rev.main c.args.next) _ _ c.partition_point.ensures.partitioned
+    (partitioned c.args.next _ c.requires) (λ a r q k. search rules) in
     before-point c.args.next _ _ c.partition_point.ensures.bound point
 
 pub returns-clause-behind : goal.returns-clause-behind
