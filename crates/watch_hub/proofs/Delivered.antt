@@ -31,7 +31,7 @@ found vs now n (t ∷ ts) (w ∷ ws) h = by (t.number == n) refl (w.number == n)
   where
     by : (a : Bool) → (t.number == n) ≡ a → (b : Bool) → (w.number == n) ≡ b → Found vs now n ts ws
         → ((cond a (Some t) (tracked_at ts n) ≡ None) × (cond b (Some w) (watch_at ws n) ≡ None))
-            ⊎ ((u : Tracked) × (x : Watch) × (cond a (Some t) (tracked_at ts n) ≡ Some u) × (cond b (Some w) (watch_at ws n) ≡ Some x) × Tracks vs now u x)
+        ⊎ ((u : Tracked) × (x : Watch) × (cond a (Some t) (tracked_at ts n) ≡ Some u) × (cond b (Some w) (watch_at ws n) ≡ Some x) × Tracks vs now u x)
     by true f true g later = inr (t, w, refl, refl, h.0)
     by true f false g later = absurd (let e : t.number ≡ w.number = h.0.number in grind (arith, nat_tests))
     by false f true g later = absurd (let e : t.number ≡ w.number = h.0.number in grind (arith, nat_tests))
@@ -94,21 +94,21 @@ module _ (s : Store) (w : World) (h : StandsFor s w) (n : ℕ) (ascend : Numbers
       let next : TracksNext (versions w) (revision w) t x = subst (λ b. MatchBool b ⊤ (TracksNext (versions w) (revision w) t x)) (sym k.late ∙ late) k.next in
       let begins : first_main_of (undelivered (versions w) x) ≡ Some m = sym next.first ∙ first in
       let same : from m t.watched ≡ undelivered (versions w) x =
-          ap (from m) k.watched
-          ∙ good-undelivered s.versions w.mutations w.compacted (record x { next = m }) h.good h.sound.history (omega (arith, above, h.compacted))
-          ∙ least x.next m (matches x.watched) (versions w) (rising-dress w.mutations h.sound.history) begins in
+      ap (from m) k.watched
+      ∙ good-undelivered s.versions w.mutations w.compacted (record x { next = m }) h.good h.sound.history (omega (arith, above, h.compacted))
+      ∙ least x.next m (matches x.watched) (versions w) (rising-dress w.mutations h.sound.history) begins in
       (same, ap first_main_of same ∙ begins)
 
   goes-on : (t : Tracked) (x : Watch) → watch_at w.watches n ≡ Some x → Tracks (versions w) (revision w) t x → (b : Bool) → t.late ≡ b → (o : Option ℕ) → t.first ≡ o
       → StandsFor (record s { watches = taken_by s.versions s.revision n s.watches (cond b Course.ends (course_from s.versions s.compacted t.watched o)) })
-          (after_delivery w n (cond b (Delivery.cancelled s.compacted) (delivery_from s.versions s.compacted t.watched o)))
+      (after_delivery w n (cond b (Delivery.cancelled s.compacted) (delivery_from s.versions s.compacted t.watched o)))
   goes-on t x at k true late o first = ended_stands s w h n
   goes-on t x at k false late None first = h
   goes-on t x at k false late (Some m) first = by (nat_lt m s.compacted) refl
     where
       by : (b : Bool) → nat_lt m s.compacted ≡ b
           → StandsFor (record s { watches = taken_by s.versions s.revision n s.watches (cond b Course.ends (Course.passes (last_revision (from m t.watched)))) })
-              (after_delivery w n (cond b (Delivery.cancelled s.compacted) (Delivery.events (message_from s.versions s.compacted t.watched (from m t.watched)))))
+          (after_delivery w n (cond b (Delivery.cancelled s.compacted) (Delivery.events (message_from s.versions s.compacted t.watched (from m t.watched)))))
       by true f = ended_stands s w h n
       by false f =
           let above : s.compacted ≤ m = grind (arith, nat_tests) in

@@ -364,6 +364,8 @@ numbers-above seen m (p ∷ ps) h a =
 
 pub listed-ascends : (seen : ℕ → Option Tracked) (ps : List Place) → ArePlaced seen ps → NumbersAscend (listed seen ps)
 listed-ascends seen [] h = tt
-listed-ascends seen (p ∷ ps) h =
-    (subst (λ n. AllByRecursion (λ t. n < t.number) (listed seen ps)) (sym (number-is (seen p.key) p.number h.present.0))
-    (numbers-above seen p.number ps h.present.1 h.ascending.0), listed-ascends seen ps (later-placed seen p ps h))
+listed-ascends seen (p ∷ ps) h = (
+  subst (λ n. AllByRecursion (λ t. n < t.number) (listed seen ps)) (sym (number-is (seen p.key) p.number h.present.0))
+      (numbers-above seen p.number ps h.present.1 h.ascending.0),
+  listed-ascends seen ps (later-placed seen p ps h),
+)

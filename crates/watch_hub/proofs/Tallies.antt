@@ -226,7 +226,7 @@ module _ (m : ℕ) (taken : List Version) (t : Tally) (u : Version) (h : IsTally
   state-more : (a b : Bool) → nat_lt t.events most_events ≡ a → (u.rev.main == t.current) ≡ b → (a || (b && t.whole == t.current)) ≡ true
       → IsFirst m taken t ⊎ IsLater taken t
       → IsFirst m (taken ++ u ∷ []) (record { events = cond a (t.events + 1) t.events; whole = cond b t.whole t.current; current = u.rev.main })
-          ⊎ IsLater (taken ++ u ∷ []) (record { events = cond a (t.events + 1) t.events; whole = cond b t.whole t.current; current = u.rev.main })
+      ⊎ IsLater (taken ++ u ∷ []) (record { events = cond a (t.events + 1) t.events; whole = cond b t.whole t.current; current = u.rev.main })
   state-more a true f g r (inl s) = inl (same-first s.whole (grind (arith, nat_tests)) s (cond a (t.events + 1) t.events))
   state-more true true f g r (inr s) =
       let few : length taken < most_events = let e : t.events ≡ length taken = h.some (grind (arith, nat_tests)) in grind (arith, nat_tests) in

@@ -10,9 +10,9 @@ use crate::tally::Tally;
 use crate::walk::Walk;
 use kv_model::call::Watched;
 use kv_model::version::Version;
+use range_view::Tables;
 use range_view::reply::KvRef;
 use range_view::revision::end_of;
-use range_view::Tables;
 use std::alloc::{AllocError, Global};
 
 /// What a watch is told of one version (the etcd documentation's Event). It lends from what is kept.
