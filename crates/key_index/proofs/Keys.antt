@@ -1,14 +1,11 @@
 -- Keys in order, and the bounds of a range.
-use Rattle.std.proofs.Common.{◌≡◌, ℕ, List, [], ◌∷◌, length, Bool, true, false, not, ◌&&◌, nat_eq, cond, refl, sym, ◌∙◌, ap, arith}
-use Rattle.std.proofs.lemmas.Bool.Decides.{nat_tests}
+use Rattle.std.proofs.Common.{◌≡◌, ℕ, List, Bool, true, false, not, ◌&&◌, refl, sym, ◌∙◌, ap}
 use Rattle.std.specs.declared.cmp.Ordering.{Ordering}
 use Rattle.std.specs.declared.cmp.Ordering.TheVariants.{Less, Equal, Greater}
 use Rattle.std.specs.Ordering.{ordering_reverse, is_eq, is_lt, is_le, is_gt}
 use Rattle.std.specs.Cmp.Lexicographic.{bytes_decides, nat_list_cmp_total}
 use Rattle.std.proofs.lemmas.Map.Lookups.{exact_bytes}
-use Rattle.kv_model.specs.declared.version.KeyRange.{KeyRange}
-use Rattle.kv_model.specs.Lists.{is_empty}
-use Rattle.kv_model.specs.Keys.{key_cmp, key_lt, key_le, same_key, zero_byte, in_range}
+use Rattle.kv_model.specs.Keys.{key_cmp, key_lt, key_le, same_key}
 
 pub same-refl : (k : List ℕ) → same_key k k ≡ true
 same-refl k = (bytes_decides k k).1 refl
@@ -46,15 +43,6 @@ one_key-cmp : (a k : List ℕ) → (o : Ordering) → key_cmp a k ≡ o → (is_
 one_key-cmp a k Less e = refl
 one_key-cmp a k Equal e = refl
 one_key-cmp a k Greater e = refl
-
-same-comm : (k l : List ℕ) → same_key k l ≡ same_key l k
-same-comm k l = by (same_key k l) refl (same_key l k) refl
-  where
-    by : (b : Bool) → same_key k l ≡ b → (c : Bool) → same_key l k ≡ c → b ≡ c
-    by true e true f = refl
-    by true e false f = sym (ap (λ j. same_key l j) (same-eq k l e) ∙ same-refl l) ∙ f
-    by false e true f = sym e ∙ ap (λ j. same_key k j) (same-eq l k f) ∙ same-refl k
-    by false e false f = refl
 
 pub contains-one : (a k : List ℕ) → (is_le (key_cmp a k) && not (is_lt (key_cmp a k))) ≡ same_key k a
 contains-one a k = one_key-cmp a k (key_cmp a k) refl ∙ eq-same a k
@@ -104,17 +92,3 @@ forward a b h = by (key_cmp b a) h (nat_list_cmp_total.antisymm a b)
     by Less h e = cc
     by Equal h e = ap is_gt e
     by Greater h e = ap is_gt e
-
-pub empty-length : (xs : List ℕ) (b : Bool) → nat_eq (length xs) 0 ≡ b → is_empty xs ≡ b
-empty-length [] b h = h
-empty-length (x ∷ xs) true h = grind (arith, nat_tests)
-empty-length (x ∷ xs) false h = refl
-
-pub in_range-one : (r : KeyRange) (k : List ℕ) → is_empty r.end ≡ true → in_range r k ≡ same_key k r.key
-in_range-one r k e =
-    ap (λ b. cond b (same_key k r.key) (cond (same_key r.end zero_byte && same_key r.key zero_byte) true (cond (same_key r.end zero_byte) (key_le r.key k) (key_le r.key k && key_lt k r.end)))) e
-
-pub in_range-between : (r : KeyRange) (k : List ℕ) → is_empty r.end ≡ false → same_key r.end zero_byte ≡ false → in_range r k ≡ (key_le r.key k && key_lt k r.end)
-in_range-between r k e z =
-    ap (λ b. cond b (same_key k r.key) (cond (same_key r.end zero_byte && same_key r.key zero_byte) true (cond (same_key r.end zero_byte) (key_le r.key k) (key_le r.key k && key_lt k r.end)))) e
-    ∙ ap (λ b. cond (b && same_key r.key zero_byte) true (cond b (key_le r.key k) (key_le r.key k && key_lt k r.end))) z

@@ -1,5 +1,6 @@
 pub mod Lists
 pub mod Keys
+pub mod Spans
 pub mod Refusals
 pub mod History
 pub mod Ranges

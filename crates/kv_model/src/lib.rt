@@ -5,4 +5,5 @@ pub mod call;
 pub mod feed;
 pub mod ids;
 pub mod refusal;
+pub mod span;
 pub mod version;

@@ -141,13 +141,11 @@ tracks-push vs n [] (x ∷ ws) t w h k = absurd h
 tracks-push vs n (u ∷ ts) [] t w h k = absurd h
 tracks-push vs n (u ∷ ts) (x ∷ ws) t w h k = (h.0, tracks-push vs n ts ws t w h.1 k)
 
--- the store goes on standing for the world with the watch
-pub watch_stands : (s : Store) (w : World) → StandsFor s w → (watched : Watched) (start id : ℤ)
-    → StandsFor (with_watch s (tracked_made s watched start id)) (record w {
-      watches = w.watches ++ watch_made s watched start id ∷ [];
-      made = s.made + 1;
-    })
-watch_stands s w h watched start id = record {
+-- a store whose watches are others stands for the world that has those
+pub watches_stand : (s : Store) (w : World) → StandsFor s w → (made : ℕ) (ts : List Tracked) (ws : List Watch)
+    → TracksAll (versions w) (revision w) ts ws
+    → StandsFor (record s { watches = ts; made = made }) (record w { watches = ws; made = made })
+watches_stand s w h made ts ws tracked = record {
   sound = record { history = h.sound.history; floor = h.sound.floor };
   good = h.good;
   revision_is = h.revision_is;
@@ -155,15 +153,26 @@ watch_stands s w h watched start id = record {
   leases = h.leases;
   clock = h.clock;
   made = refl;
-  watches = tracks-push (versions w) (revision w) s.watches w.watches (tracked_made s watched start id) (watch_made s watched start id)
-      h.watches (record {
-        number = refl;
-        id = refl;
-        watched = refl;
-        late = refl;
-        next = by (nat_lt (start_of s.revision start) s.compacted) refl;
-      });
+  watches = tracked;
 }
+
+-- the store goes on standing for the world with the watch
+pub watch_stands : (s : Store) (w : World) → StandsFor s w → (watched : Watched) (start id : ℤ)
+    → StandsFor (with_watch s (tracked_made s watched start id)) (record w {
+      watches = w.watches ++ watch_made s watched start id ∷ [];
+      made = s.made + 1;
+    })
+watch_stands s w h watched start id =
+    let t : Tracked = tracked_made s watched start id in
+    let x : Watch = watch_made s watched start id in
+    watches_stand s w h (s.made + 1) (s.watches ++ t ∷ []) (w.watches ++ x ∷ [])
+    (tracks-push (versions w) (revision w) s.watches w.watches t x h.watches (record {
+      number = refl;
+      id = refl;
+      watched = refl;
+      late = refl;
+      next = by (nat_lt (start_of s.revision start) s.compacted) refl;
+    }))
   where
     by : (b : Bool) → nat_lt (start_of s.revision start) s.compacted ≡ b
         → MatchBool b ⊤ (TracksNext (versions w) (revision w) (tracked_made s watched start id) (watch_made s watched start id))

@@ -5,7 +5,8 @@ use kv_model::call::Watched;
 use kv_model::refusal::Refusal;
 use kv_model::version::KeyRange;
 use range_view::Tables;
-use watch_hub::WatchHub;
+use std::alloc::Global;
+use watch_hub::{Delivery, WatchHub};
 
 /// Puts of the key a.
 const PUTS: [Change; 3] = [
@@ -26,7 +27,7 @@ fn watch(hub: &mut WatchHub, tables: &Tables, start: i64) -> Result<u64, Refusal
         },
         no_put: false,
         no_delete: false,
-        prev_kv: false,
+        prev_kv: true,
     };
     let made = hub.create(tables, &watched, start, 7);
     drop(watched);
@@ -78,6 +79,53 @@ fn watches_wait_for_what_they_match(rt: HostRuntime) {
             [Ok(Some(5)), Ok(Some(3)), Ok(None)],
             [Ok(Some(5)), Ok(Some(4)), Ok(None)],
             [Err(Refusal::NoWatch), Ok(Some(4)), Ok(None)]
+        ]
+    );
+}
+
+/// Of the first two versions that a watch is told of next the main revisions, and those of the
+/// key-values before them; 0 for no version.
+type Told = Result<[(u64, Option<u64>); 2], Refusal>;
+
+/// What a watch is told next; then it goes on behind that.
+fn told(alloc: Global, hub: &mut WatchHub, tables: &Tables, number: u64) -> Told {
+    let mut seen = [(0, None); 2];
+    match hub.deliver(alloc, tables, number) {
+        Ok(Delivery::Events(events)) => {
+            for (place, event) in seen.iter_mut().zip(events.as_slice()) {
+                let before = match event.previous {
+                    Some(kv) => Some(kv.modified),
+                    None => None,
+                };
+                *place = (event.version.rev.main, before);
+            }
+        }
+        Ok(_) => {}
+        Err(refusal) => return Err(refusal),
+    }
+    hub.go_on(tables, number);
+    Ok(seen)
+}
+
+#[test]
+fn a_watch_is_told_each_revision_once(rt: HostRuntime) {
+    let mut tables = Tables::new(rt.alloc());
+    fill(rt.alloc(), &mut tables, PUTS.as_slice());
+    let mut hub = WatchHub::new(rt.alloc());
+    let _ = watch(&mut hub, &tables, 3);
+    let deliveries = [
+        told(rt.alloc(), &mut hub, &tables, 1),
+        told(rt.alloc(), &mut hub, &tables, 1),
+        told(rt.alloc(), &mut hub, &tables, 2),
+    ];
+    drop(hub);
+    drop(tables);
+    assert_eq!(rt;
+        deliveries,
+        [
+            Ok([(3, Some(2)), (4, Some(3))]),
+            Ok([(0, None), (0, None)]),
+            Err(Refusal::NoWatch)
         ]
     );
 }

@@ -1,5 +1,6 @@
 -- What is told to a watch, found in what is kept.
-use Rattle.std.proofs.Common.{◌≡◌, ◌≤◌, ℕ, ◌-◌, List, [], ◌∷◌, map, filter, Bool, true, false, ◌&&◌, ◌||◌, cond, None, Some, refl, sym, ◌∙◌, ap, subst, arith}
+use Rattle.std.proofs.Common.{◌≡◌, ◌≤◌, ℕ, ◌-◌, List, [], ◌∷◌, map, filter, Bool, true, false, ◌&&◌, ◌||◌, cond, None, Some, refl, sym, ◌∙◌}
+use Rattle.std.proofs.Common.{ap, subst, arith}
 use Rattle.std.specs.Prelude.{nat_lt, nat_le, MatchBool, ⊤}
 use Rattle.std.specs.List.{AllByRecursion, list_any}
 use Rattle.std.proofs.lemmas.Bool.Decides.{nat_tests}
@@ -17,7 +18,7 @@ use Rattle.watch_hub.specs.Delivering.{message_from, delivery_kept, delivery_fro
 
 -- ---- the first match is the least
 
-abbrev AreFrom : ℕ → List Version → Type 0
+abbrev pub AreFrom : ℕ → List Version → Type 0
 AreFrom m vs = AllByRecursion (λ v. m ≤ v.rev.main) vs
 
 mains-from : (v : Version) (vs : List Version) → AllByRecursion (Precedes v) vs → AreFrom v.rev.main vs
@@ -29,20 +30,24 @@ from-later m n [] l h = tt
 from-later m n (v ∷ vs) l h = (let a = h.0 in omega arith, from-later m n vs l h.1)
 
 -- the tests from two revisions on agree where all is behind both
-same-from : (n m : ℕ) (q : Version → Bool) (vs : List Version) → AreFrom n vs → AreFrom m vs → filter (λ v. nat_le n v.rev.main && q v) vs ≡ filter (λ v. nat_le m v.rev.main && q v) vs
+same-from : (n m : ℕ) (q : Version → Bool) (vs : List Version) → AreFrom n vs → AreFrom m vs
+    → filter (λ v. nat_le n v.rev.main && q v) vs ≡ filter (λ v. nat_le m v.rev.main && q v) vs
 same-from n m q [] g h = refl
 same-from n m q (v ∷ vs) g h =
     let left : nat_le n v.rev.main ≡ true = let a = g.0 in grind (arith, nat_tests) in
     let right : nat_le m v.rev.main ≡ true = let a = h.0 in grind (arith, nat_tests) in
-    ap (λ b. cond (b && q v) (v ∷ filter (λ w. nat_le n w.rev.main && q w) vs) (filter (λ w. nat_le n w.rev.main && q w) vs)) (left ∙ sym right)
+    ap (λ b. cond (b && q v) (v ∷ filter (λ w. nat_le n w.rev.main && q w) vs) (filter (λ w. nat_le n w.rev.main && q w) vs))
+    (left ∙ sym right)
     ∙ ap (λ ws. cond (nat_le m v.rev.main && q v) (v ∷ ws) ws) (same-from n m q vs g.1 h.1)
 
-first-least : (n m : ℕ) (q : Version → Bool) (vs : List Version) → first_main_of (filter (λ v. nat_le n v.rev.main && q v) vs) ≡ Some m → n ≤ m
+first-least : (n m : ℕ) (q : Version → Bool) (vs : List Version) → first_main_of (filter (λ v. nat_le n v.rev.main && q v) vs) ≡ Some m
+    → n ≤ m
 first-least n m q [] e = absurd (cc)
 first-least n m q (v ∷ vs) e = by (first-least n m q vs) (nat_le n v.rev.main) refl (q v) e
   where
     by : (first_main_of (filter (λ w. nat_le n w.rev.main && q w) vs) ≡ Some m → n ≤ m) → (a : Bool) → nat_le n v.rev.main ≡ a → (b : Bool)
-        → first_main_of (cond (a && b) (v ∷ filter (λ w. nat_le n w.rev.main && q w) vs) (filter (λ w. nat_le n w.rev.main && q w) vs)) ≡ Some m → n ≤ m
+        → first_main_of (cond (a && b) (v ∷ filter (λ w. nat_le n w.rev.main && q w) vs) (filter (λ w. nat_le n w.rev.main && q w) vs))
+        ≡ Some m → n ≤ m
     by later true f true e = let same : v.rev.main ≡ m = cc in grind (arith, nat_tests)
     by later true f false e = later e
     by later false f b e = later e
@@ -52,14 +57,17 @@ left-out true x y = refl
 left-out false x y = refl
 
 -- from its first match on a watch matches what it matches from its next revision on
-least : (n m : ℕ) (q : Version → Bool) (vs : List Version) → AreRising vs → first_main_of (filter (λ v. nat_le n v.rev.main && q v) vs) ≡ Some m
+pub least : (n m : ℕ) (q : Version → Bool) (vs : List Version) → AreRising vs
+    → first_main_of (filter (λ v. nat_le n v.rev.main && q v) vs) ≡ Some m
     → filter (λ v. nat_le m v.rev.main && q v) vs ≡ filter (λ v. nat_le n v.rev.main && q v) vs
 least n m q [] r e = refl
 least n m q (v ∷ vs) r e = by (least n m q vs r.1) (nat_le n v.rev.main) refl (q v) e
   where
-    by : (first_main_of (filter (λ w. nat_le n w.rev.main && q w) vs) ≡ Some m → filter (λ w. nat_le m w.rev.main && q w) vs ≡ filter (λ w. nat_le n w.rev.main && q w) vs)
+    by : (first_main_of (filter (λ w. nat_le n w.rev.main && q w) vs) ≡ Some m
+        → filter (λ w. nat_le m w.rev.main && q w) vs ≡ filter (λ w. nat_le n w.rev.main && q w) vs)
         → (a : Bool) → nat_le n v.rev.main ≡ a → (b : Bool)
-        → first_main_of (cond (a && b) (v ∷ filter (λ w. nat_le n w.rev.main && q w) vs) (filter (λ w. nat_le n w.rev.main && q w) vs)) ≡ Some m
+        → first_main_of (cond (a && b) (v ∷ filter (λ w. nat_le n w.rev.main && q w) vs) (filter (λ w. nat_le n w.rev.main && q w) vs))
+        ≡ Some m
         → cond (nat_le m v.rev.main && b) (v ∷ filter (λ w. nat_le m w.rev.main && q w) vs) (filter (λ w. nat_le m w.rev.main && q w) vs)
         ≡ cond (a && b) (v ∷ filter (λ w. nat_le n w.rev.main && q w) vs) (filter (λ w. nat_le n w.rev.main && q w) vs)
     by later true f true e =
@@ -73,7 +81,8 @@ least n m q (v ∷ vs) r e = by (least n m q vs r.1) (nat_le n v.rev.main) refl 
     by later false f b e =
         let behind : n ≤ m = first-least n m q vs e in
         let below : nat_le m v.rev.main ≡ false = grind (arith, nat_tests) in
-        ap (λ a. cond (a && b) (v ∷ filter (λ w. nat_le m w.rev.main && q w) vs) (filter (λ w. nat_le m w.rev.main && q w) vs)) below ∙ later e
+        ap (λ a. cond (a && b) (v ∷ filter (λ w. nat_le m w.rev.main && q w) vs) (filter (λ w. nat_le m w.rev.main && q w) vs)) below
+        ∙ later e
 
 each-filter : (P : Version → Type 0) (p : Version → Bool) (vs : List Version) → AllByRecursion P vs → AllByRecursion P (filter p vs)
 each-filter P p [] h = tt
@@ -84,11 +93,13 @@ each-filter P p (v ∷ vs) h = by (each-filter P p vs h.1) (p v)
     by later false = later
 
 -- what passes a test begins with the least of it
-matched-from : (m : ℕ) (p : Version → Bool) (vs : List Version) → AreRising vs → first_main_of (filter p vs) ≡ Some m → AreFrom m (filter p vs)
+matched-from : (m : ℕ) (p : Version → Bool) (vs : List Version) → AreRising vs → first_main_of (filter p vs) ≡ Some m
+    → AreFrom m (filter p vs)
 matched-from m p [] r e = tt
 matched-from m p (v ∷ vs) r e = by (matched-from m p vs r.1) (p v) e
   where
-    by : (first_main_of (filter p vs) ≡ Some m → AreFrom m (filter p vs)) → (b : Bool) → first_main_of (cond b (v ∷ filter p vs) (filter p vs)) ≡ Some m → AreFrom m (cond b (v ∷ filter p vs) (filter p vs))
+    by : (first_main_of (filter p vs) ≡ Some m → AreFrom m (filter p vs)) → (b : Bool)
+        → first_main_of (cond b (v ∷ filter p vs) (filter p vs)) ≡ Some m → AreFrom m (cond b (v ∷ filter p vs) (filter p vs))
     by later true e =
         let same : v.rev.main ≡ m = cc in
         (omega arith, each-filter (λ w. m ≤ w.rev.main) p vs (from-later v.rev.main m vs (omega arith) (mains-from v vs r.0)))
@@ -104,12 +115,14 @@ none-below c (v ∷ vs) h =
 
 module _ (kept ds : List Version) (c : ℕ) (x : Watch) (rising : AreRising ds)
     (values : (r : ℕ) (k : List ℕ) → c ≤ r → value_at kept (end_of r) k ≡ value_at ds (end_of r) k)
-    (same : (m : ℕ) → c ≤ m → filter (λ v. nat_le m v.rev.main && matches x.watched v) kept ≡ filter (λ v. nat_le m v.rev.main && matches x.watched v) ds) where
+    (same : (m : ℕ) → c ≤ m → filter (λ v. nat_le m v.rev.main && matches x.watched v) kept
+    ≡ filter (λ v. nat_le m v.rev.main && matches x.watched v) ds) where
   event-same : (v : Version) → event_of ds c x.watched v ≡ event_of kept c x.watched v
   event-same v = by (nat_lt c v.rev.main) refl
     where
       by : (b : Bool) → nat_lt c v.rev.main ≡ b
-          → ◌≡◌ {A = WatchEvent} (record { version = v; before = cond (b && x.watched.prev_kv) (value_at ds (end_of (v.rev.main - 1)) v.key) None })
+          → ◌≡◌ {A = WatchEvent}
+          (record { version = v; before = cond (b && x.watched.prev_kv) (value_at ds (end_of (v.rev.main - 1)) v.key) None })
           (record { version = v; before = cond (b && x.watched.prev_kv) (value_at kept (end_of (v.rev.main - 1)) v.key) None })
       by true f =
           let kept_before : c ≤ v.rev.main - 1 = grind (arith, nat_tests) in
@@ -124,28 +137,37 @@ module _ (kept ds : List Version) (c : ℕ) (x : Watch) (rising : AreRising ds)
       first = ap first_main_of e
 
       from : AreFrom u.rev.main (u ∷ us)
-      from = subst (λ vs. AreFrom u.rev.main vs) e (matched-from u.rev.main (λ v. nat_le x.next v.rev.main && matches x.watched v) ds rising first)
+      from = subst (λ vs. AreFrom u.rev.main vs) e (matched-from u.rev.main
+          (λ v. nat_le x.next v.rev.main && matches x.watched v) ds rising first)
 
       by : (b : Bool) → nat_lt u.rev.main c ≡ b
-          → cond (b || list_any (λ (v : Version). nat_lt v.rev.main c) us) (Delivery.cancelled c) (Delivery.events (message_from ds c x.watched (u ∷ us)))
-          ≡ cond b (Delivery.cancelled c) (Delivery.events (message_from kept c x.watched (filter (λ v. nat_le u.rev.main v.rev.main && matches x.watched v) kept)))
+          → cond (b || list_any (λ (v : Version). nat_lt v.rev.main c) us) (Delivery.cancelled c)
+          (Delivery.events (message_from ds c x.watched (u ∷ us)))
+          ≡ cond b (Delivery.cancelled c) (Delivery.events
+          (message_from kept c x.watched (filter (λ v. nat_le u.rev.main v.rev.main && matches x.watched v) kept)))
       by true f = refl
       by false f =
           let after : c ≤ u.rev.main = grind (arith, nat_tests) in
           let back : u ∷ us ≡ filter (λ v. nat_le u.rev.main v.rev.main && matches x.watched v) kept
           = sym e ∙ sym (least x.next u.rev.main (matches x.watched) ds rising first) ∙ sym (same u.rev.main after) in
-          ap (λ b. cond b (Delivery.cancelled c) (Delivery.events (message_from ds c x.watched (u ∷ us)))) (none-below c us (from-later u.rev.main c us after from.1))
-          ∙ ap (λ (g : Version → WatchEvent). Delivery.events (map g (filter (λ z. nat_le z.rev.main (last_revision (u ∷ us))) (u ∷ us)))) (λ i v. event-same v i)
+          ap (λ b. cond b (Delivery.cancelled c) (Delivery.events (message_from ds c x.watched (u ∷ us))))
+          (none-below c us (from-later u.rev.main c us after from.1))
+          ∙ ap (λ (g : Version → WatchEvent). Delivery.events (map g (filter (λ z. nat_le z.rev.main (last_revision (u ∷ us))) (u ∷ us))))
+          (λ i v. event-same v i)
           ∙ ap (λ zs. Delivery.events (message_from kept c x.watched zs)) back
 
 -- what the hub holds of a watch and what is kept tell the delivery that the whole history tells
-pub delivery_stands : (s : Store) (w : World) → StandsFor s w → (t : Tracked) (x : Watch) → Tracks (versions w) (revision w) t x → watch_delivery (versions w) w.compacted x ≡ delivery_kept s.versions s.compacted t
+pub delivery_stands : (s : Store) (w : World) → StandsFor s w → (t : Tracked) (x : Watch) → Tracks (versions w) (revision w) t x
+    → watch_delivery (versions w) w.compacted x ≡ delivery_kept s.versions s.compacted t
 delivery_stands s w h t x k = by x.late refl
   where
-    by : (b : Bool) → x.late ≡ b → cond b (Delivery.cancelled w.compacted) (delivery_of (versions w) w.compacted x (undelivered (versions w) x)) ≡ delivery_kept s.versions s.compacted t
-    by true e = ap Delivery.cancelled (sym h.compacted) ∙ ap (λ b. cond b (Delivery.cancelled s.compacted) (delivery_from s.versions s.compacted t.watched t.first)) (sym (k.late ∙ e))
+    by : (b : Bool) → x.late ≡ b → cond b (Delivery.cancelled w.compacted)
+        (delivery_of (versions w) w.compacted x (undelivered (versions w) x)) ≡ delivery_kept s.versions s.compacted t
+    by true e = ap Delivery.cancelled (sym h.compacted)
+        ∙ ap (λ b. cond b (Delivery.cancelled s.compacted) (delivery_from s.versions s.compacted t.watched t.first)) (sym (k.late ∙ e))
     by false e =
-        let next : TracksNext (versions w) (revision w) t x = subst (λ b. MatchBool b ⊤ (TracksNext (versions w) (revision w) t x)) e k.next in
+        let next : TracksNext (versions w) (revision w) t x
+        = subst (λ b. MatchBool b ⊤ (TracksNext (versions w) (revision w) t x)) e k.next in
         told s.versions (versions w) w.compacted x (rising-dress w.mutations h.sound.history)
         (λ r j l. all-values w.mutations w.compacted s.versions h.sound.history h.sound.floor h.good r j l)
         (λ m l. good-undelivered s.versions w.mutations w.compacted (record x { next = m }) h.good h.sound.history l)

@@ -1,5 +1,6 @@
 -- The first match among versions that rise.
-use Rattle.std.proofs.Common.{◌≡◌, ℕ, zero, suc, ◌<◌, ◌≤◌, List, [], ◌∷◌, length, take, drop, get_or, filter, Bool, true, false, ◌&&◌, cond, Some, option_map, refl, sym, ◌∙◌, ap, arith}
+use Rattle.std.proofs.Common.{◌≡◌, ℕ, zero, suc, ◌<◌, ◌≤◌, List, [], ◌∷◌, length, take, drop, get_or, filter, Bool, true, false, ◌&&◌, cond}
+use Rattle.std.proofs.Common.{Some, option_map, refl, sym, ◌∙◌, ap, arith}
 use Rattle.std.specs.Prelude.{nat_lt, nat_le}
 use Rattle.std.specs.List.{AllByRecursion, find}
 use Rattle.std.specs.List.Sorted.{IsPartitionedBy, IsPartitionPoint}
@@ -9,6 +10,7 @@ use Rattle.kv_model.specs.History.{rev_lt}
 use Rattle.store_laws.specs.Stands.{first_main_of}
 use Rattle.version_table.specs.Rising.{IsRising}
 use Rattle.version_table.proofs.RevOrder.{main_le}
+use Rattle.watch_hub.proofs.Halving.{AreOrdered, partitioned as halves}
 
 -- ---- the first that passes a test
 
@@ -23,34 +25,61 @@ first-found p (v ∷ vs) = by (p v) (first-found p vs)
 
 -- ---- those before a revision
 
-above-at : (m : ℕ) (vs : List Version) (j : ℕ) (d : Version) → AllByRecursion (λ w. m ≤ w.rev.main) vs → j < length vs → m ≤ (get_or vs j d).rev.main
-above-at m [] j d a h = absurd (omega arith)
-above-at m (v ∷ vs) zero d a h = a.0
-above-at m (v ∷ vs) (suc j) d a h = above-at m vs j d a.1 (omega arith)
-
-mains-above : (v : Version) (vs : List Version) → AllByRecursion (λ w. rev_lt v.rev w.rev ≡ true) vs → AllByRecursion (λ w. v.rev.main ≤ w.rev.main) vs
+mains-above : (v : Version) (vs : List Version) → AllByRecursion (λ w. rev_lt v.rev w.rev ≡ true) vs
+    → AllByRecursion (λ w. v.rev.main ≤ w.rev.main) vs
 mains-above v [] a = tt
 mains-above v (w ∷ vs) a = (main_le v.rev w.rev a.0, mains-above v vs a.1)
 
-pub partitioned : (next : ℕ) (vs : List Version) → IsRising vs → IsPartitionedBy (λ v. nat_lt v.rev.main next) vs
-partitioned next [] r i j d l m h = absurd (omega arith)
-partitioned next (v ∷ vs) r zero zero d l m h = h
-partitioned next (v ∷ vs) r zero (suc j) d l m h =
-    let below : v.rev.main ≤ (get_or vs j d).rev.main = above-at v.rev.main vs j d (mains-above v vs r.0) (omega arith) in
-    grind (arith, nat_tests)
-partitioned next (v ∷ vs) r (suc i) zero d l m h = absurd (omega arith)
-partitioned next (v ∷ vs) r (suc i) (suc j) d l m h = partitioned next vs r.1 i j d (omega arith) (omega arith) h
+ordered : (vs : List Version) → IsRising vs → AreOrdered (λ v w. v.rev.main ≤ w.rev.main) vs
+ordered [] r = tt
+ordered (v ∷ vs) r = (mains-above v vs r.0, ordered vs r.1)
 
-pub before-point : (next : ℕ) (vs : List Version) (n : ℕ) → n ≤ length vs → IsPartitionPoint (λ v. nat_lt v.rev.main next ≡ true) (λ v. nat_lt v.rev.main next ≡ false) vs n
+pub partitioned : (next : ℕ) (vs : List Version) → IsRising vs → IsPartitionedBy (λ v. nat_lt v.rev.main next) vs
+partitioned next vs r =
+    halves (λ v w. v.rev.main ≤ w.rev.main) (λ v. nat_lt v.rev.main next) (λ v w l h. grind (arith, nat_tests)) vs (ordered vs r)
+
+pub before-point : (next : ℕ) (vs : List Version) (n : ℕ) → n ≤ length vs
+    → IsPartitionPoint (λ v. nat_lt v.rev.main next ≡ true) (λ v. nat_lt v.rev.main next ≡ false) vs n
     → AllByRecursion (λ v. nat_le next v.rev.main ≡ false) (take n vs)
 before-point next vs zero h t = tt
 before-point next [] (suc n) h t = tt
 before-point next (v ∷ vs) (suc n) h t =
     let below : nat_lt v.rev.main next ≡ true = t.0 0 v (omega arith) (omega arith) in
-    (grind (arith, nat_tests), before-point next vs n (omega arith) ((λ k d l m. t.0 (suc k) d (omega arith) (omega arith)), (λ k d l m. t.1 (suc k) d (omega arith) (omega arith))))
+    let later : IsPartitionPoint (λ v. nat_lt v.rev.main next ≡ true) (λ v. nat_lt v.rev.main next ≡ false) vs n
+    = ((λ k d l m. t.0 (suc k) d (omega arith) (omega arith)), (λ k d l m. t.1 (suc k) d (omega arith) (omega arith))) in
+    (grind (arith, nat_tests), before-point next vs n (omega arith) later)
 
 -- those that a test leaves out at the front are passed over
-pub filter-behind : (p q : Version → Bool) (vs : List Version) (n : ℕ) → AllByRecursion (λ v. p v ≡ false) (take n vs) → filter (λ v. p v && q v) (drop n vs) ≡ filter (λ v. p v && q v) vs
+pub filter-behind : (p q : Version → Bool) (vs : List Version) (n : ℕ) → AllByRecursion (λ v. p v ≡ false) (take n vs)
+    → filter (λ v. p v && q v) (drop n vs) ≡ filter (λ v. p v && q v) vs
 filter-behind p q vs zero h = refl
 filter-behind p q [] (suc n) h = refl
-filter-behind p q (v ∷ vs) (suc n) h = filter-behind p q vs n h.1 ∙ sym (ap (λ b. cond (b && q v) (v ∷ filter (λ v. p v && q v) vs) (filter (λ v. p v && q v) vs)) h.0)
+filter-behind p q (v ∷ vs) (suc n) h = filter-behind p q vs n h.1
+    ∙ sym (ap (λ b. cond (b && q v) (v ∷ filter (λ v. p v && q v) vs) (filter (λ v. p v && q v) vs)) h.0)
+
+pub after-point : (next : ℕ) (vs : List Version) (n : ℕ) → n ≤ length vs
+    → IsPartitionPoint (λ v. nat_lt v.rev.main next ≡ true) (λ v. nat_lt v.rev.main next ≡ false) vs n
+    → AllByRecursion (λ v. nat_le next v.rev.main ≡ true) (drop n vs)
+after-point next [] zero h t = tt
+after-point next [] (suc n) h t = absurd (omega arith)
+after-point next (v ∷ vs) zero h t =
+    let from : nat_lt v.rev.main next ≡ false = t.1 0 v (omega arith) (omega arith) in
+    let later : IsPartitionPoint (λ v. nat_lt v.rev.main next ≡ true) (λ v. nat_lt v.rev.main next ≡ false) vs 0
+    = ((λ k d l m. absurd (omega arith)), (λ k d l m. t.1 (suc k) d (omega arith) (omega arith))) in
+    (grind (arith, nat_tests), after-point next vs zero (omega arith) later)
+after-point next (v ∷ vs) (suc n) h t =
+    let later : IsPartitionPoint (λ v. nat_lt v.rev.main next ≡ true) (λ v. nat_lt v.rev.main next ≡ false) vs n
+    = ((λ k d l m. t.0 (suc k) d (omega arith) (omega arith)), (λ k d l m. t.1 (suc k) d (omega arith) (omega arith))) in
+    after-point next vs n (omega arith) later
+
+filter-passed : (p q : Version → Bool) (vs : List Version) → AllByRecursion (λ v. p v ≡ true) vs → filter q vs ≡ filter (λ v. p v && q v) vs
+filter-passed p q [] h = refl
+filter-passed p q (v ∷ vs) h = λ i. cond (sym h.0 i && q v) (v ∷ filter-passed p q vs h.1 i) (filter-passed p q vs h.1 i)
+
+-- the versions behind those that are before a revision are those from it on
+pub filter-from : (next : ℕ) (q : Version → Bool) (vs : List Version) (n : ℕ)
+    → AllByRecursion (λ v. nat_le next v.rev.main ≡ false) (take n vs)
+    → AllByRecursion (λ v. nat_le next v.rev.main ≡ true) (drop n vs)
+    → filter q (drop n vs) ≡ filter (λ v. nat_le next v.rev.main && q v) vs
+filter-from next q vs n h g =
+    filter-passed (λ v. nat_le next v.rev.main) q (drop n vs) g ∙ filter-behind (λ v. nat_le next v.rev.main) q vs n h

@@ -1,5 +1,6 @@
 -- Watches at the places of a slab, by number.
-use Rattle.std.specs.Prelude.{◌≡◌, ℕ, suc, ◌<◌, ◌≤◌, pos, List, [], ◌∷◌, length, map, false, ◌==◌, Option, None, Some, option_map, unwrap_or, if◌then◌else◌, ⊤}
+use Rattle.std.specs.Prelude.{◌≡◌, ℕ, suc, ◌<◌, ◌≤◌, pos, List, [], ◌∷◌, length, map, false, ◌==◌, Option, None, Some}
+use Rattle.std.specs.Prelude.{option_map, unwrap_or, if◌then◌else◌, ⊤}
 use Rattle.std.specs.List.{AllByRecursion}
 use Rattle.slab.specs.Slab.{Slab, get, slab_len}
 use Rattle.kv_model.specs.Events.{plain_watch}
@@ -8,7 +9,14 @@ use Rattle.watch_hub.specs.declared.entry.Entry.{Entry}
 use Rattle.watch_hub.specs.declared.entries.Place.{Place}
 
 abbrev pub tracked_of : Entry → Tracked
-tracked_of e = record { number = e.number; id = e.id; watched = e.watched; late = e.late; first = e.first; ahead = e.ahead }
+tracked_of e = record {
+  number = e.number;
+  id = e.id;
+  watched = e.watched;
+  late = e.late;
+  first = e.first;
+  ahead = e.ahead;
+}
 
 -- the watch that stands under a key of the slab
 abbrev pub seen_in : Slab Entry → ℕ → Option Tracked

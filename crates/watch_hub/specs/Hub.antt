@@ -1,5 +1,7 @@
 -- The watches of a store, and what befalls them.
-use Rattle.std.specs.Prelude.{ℕ, ◌+◌, ℤ, List, [], ◌∷◌, ◌++◌, filter, map, not, ◌==◌, ◌&&◌, nat_le, nat_lt, Bool, Option, find, if◌then◌else◌}
+use Rattle.std.specs.Prelude.{ℕ, ◌+◌, ◌<◌, ⊤, ℤ, List, [], ◌∷◌, ◌++◌, filter, map, not, ◌==◌, ◌&&◌, nat_le, nat_lt, Bool}
+use Rattle.std.specs.Prelude.{Option, find, if◌then◌else◌}
+use Rattle.std.specs.List.{AllByRecursion}
 use Rattle.kv_model.specs.declared.version.Version.{Version}
 use Rattle.kv_model.specs.declared.call.Watched.{Watched}
 use Rattle.kv_model.specs.Events.{matches}
@@ -14,7 +16,15 @@ pub record Hub : Type 0 where
 
 -- the store that keeps these versions and has these watches
 abbrev pub store_with : Stored → Hub → Store
-store_with s h = record { versions = s.versions; revision = s.revision; compacted = s.compacted; leases = []; clock = 0; watches = h.watches; made = h.made }
+store_with s h = record {
+  versions = s.versions;
+  revision = s.revision;
+  compacted = s.compacted;
+  leases = [];
+  clock = 0;
+  watches = h.watches;
+  made = h.made;
+}
 
 abbrev pub has_number : ℕ → Tracked → Bool
 has_number n t = t.number == n
@@ -37,6 +47,11 @@ told_to vs now last t = record t { first = first_from vs (last + 1) t.watched; a
 abbrev pub advanced_to : List Version → ℕ → ℕ → ℕ → List Tracked → List Tracked
 advanced_to vs now n last ts = map (λ t. if has_number n t then told_to vs now last t else t) ts
 
+-- the numbers ascend, so no two are the same
+abbrev pub NumbersAscend : List Tracked → Type 0
+NumbersAscend [] = ⊤
+NumbersAscend (t ∷ ts) = AllByRecursion (λ u. t.number < u.number) ts × NumbersAscend ts
+
 -- what a delivery needs of a watch
 pub record PendingWatch : Type 0 where
   pub id : ℤ
@@ -56,4 +71,11 @@ abbrev pub entry_made : Stored → Watched → ℤ → ℤ → ℕ → Tracked
 entry_made s watched start id number =
     let next : ℕ = start_of s.revision start in
     let looked : Watched = record watched { range = watched_range watched.range } in
-    record { number = number; id = id; watched = looked; late = nat_lt next s.compacted; first = first_from s.versions next looked; ahead = ahead_of s.revision next }
+    record {
+      number = number;
+      id = id;
+      watched = looked;
+      late = nat_lt next s.compacted;
+      first = first_from s.versions next looked;
+      ahead = ahead_of s.revision next;
+    }

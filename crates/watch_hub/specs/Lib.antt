@@ -2,3 +2,4 @@ pub mod Hub
 pub mod Entries
 pub mod Views
 pub mod Delivering
+pub mod Messages

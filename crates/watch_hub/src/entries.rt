@@ -1,11 +1,12 @@
 //! The watches that stand, each at a place of a slab, found by number.
-ghost use Rattle.std.specs.Prelude.{◌≡◌, ◌≢◌, ℕ, ◌<◌, ◌≤◌, [], ◌∷◌, ◌++◌, length, map, is_some, option_map, option_copied, OnOk, OnErr, IfSome};
+ghost use Rattle.std.specs.Prelude.{◌≡◌, ◌≢◌, ℕ, ◌<◌, ◌≤◌, [], ◌∷◌, ◌++◌, length, map, is_some};
+ghost use Rattle.std.specs.Prelude.{option_map, option_copied, OnOk, OnErr, IfSome};
 ghost use Rattle.std.specs.List.{AllByRecursion, slice_get};
 ghost use Rattle.slab.specs.Slab.{get, slab_len};
 ghost use Rattle.store_laws.specs.Stands.{noted};
 ghost use Rattle.kv_model.specs.Step.{last_main};
 ghost use Rattle.version_table.specs.Rising.{IsRising};
-ghost use Rattle.watch_hub.specs.Hub.{advanced_to, told_to, tracked_at, without_tracked};
+ghost use Rattle.watch_hub.specs.Hub.{NumbersAscend, advanced_to, told_to, tracked_at, without_tracked};
 ghost use Rattle.watch_hub.specs.Entries.{tracked_of, seen_in, AreAscending, index_of, key_of};
 
 use crate::entry::Entry;
@@ -21,8 +22,8 @@ pub(crate) struct Place {
     key: usize,
 }
 
-/// The watches that stand, in the order of their numbers. The slab has these and no other: one that ends leaves it. Only `push`
-/// takes memory.
+/// The watches that stand, in the order of their numbers. The slab has these and no other: one that
+/// ends leaves it. Only `push` takes memory.
 #[derive(Drop)]
 pub(crate) struct Entries {
     slab: Slab<Entry>,
@@ -61,7 +62,8 @@ impl Entries {
 
     /// The watch of a number. Logarithmic time.
     pub(crate) fn get(&self, number: u64) -> Option<&Entry>
-        ensures { option_map tracked_of (option_copied result) ≡ tracked_at self.now number }
+        ensures found { option_map tracked_of (option_copied result) ≡ tracked_at self.now number }
+        ensures ascending { NumbersAscend self.now }
     {
         match key_of(&self.places, number) {
             Some(key) => self.slab.get(key),
@@ -82,8 +84,8 @@ impl Entries {
         Ok(())
     }
 
-    /// Takes out the watch of a number, and tells whether there was one. It is found in logarithmic time; the places behind it
-    /// move.
+    /// Takes out the watch of a number, and tells whether there was one. It is found in logarithmic
+    /// time; the places behind it move.
     pub(crate) fn remove(&mut self, number: u64) -> bool
         ensures found { result ≡ is_some (tracked_at self.old number) }
         ensures left { self.new ≡ without_tracked number self.old }
@@ -150,7 +152,8 @@ fn key_of(places: &[Place], number: u64) -> Option<usize>
 
 /// The watch under a key takes note.
 fn note_at(slab: &mut Slab<Entry>, key: usize, versions: &[Version], now: u64)
-    ensures here { seen_in slab.new key ≡ option_map (noted versions.now now) (seen_in slab.old key) }
+    ensures here { seen_in slab.new key
+        ≡ option_map (noted versions.now now) (seen_in slab.old key) }
     ensures others { (other : ℕ) → other ≢ key → get slab.new other ≡ get slab.old other }
     ensures count { slab_len slab.new ≡ slab_len slab.old }
 {
@@ -161,7 +164,8 @@ fn note_at(slab: &mut Slab<Entry>, key: usize, versions: &[Version], now: u64)
 
 /// The watch under each key takes note.
 fn note_all(slab: &mut Slab<Entry>, versions: &[Version], now: u64)
-    ensures each { (key : ℕ) → seen_in slab.new key ≡ option_map (noted versions.now now) (seen_in slab.old key) }
+    ensures each { (key : ℕ)
+        → seen_in slab.new key ≡ option_map (noted versions.now now) (seen_in slab.old key) }
     ensures count { slab_len slab.new ≡ slab_len slab.old }
 {
     let keys = slab.capacity();
@@ -174,7 +178,8 @@ fn note_all(slab: &mut Slab<Entry>, versions: &[Version], now: u64)
 fn advance_at(slab: &mut Slab<Entry>, key: usize, versions: &[Version], now: u64, last: u64)
     requires rising { IsRising versions.now }
     requires fits { last ≤ last_main }
-    ensures here { seen_in slab.new key ≡ option_map (told_to versions.now now last) (seen_in slab.old key) }
+    ensures here { seen_in slab.new key
+        ≡ option_map (told_to versions.now now last) (seen_in slab.old key) }
     ensures others { (other : ℕ) → other ≢ key → get slab.new other ≡ get slab.old other }
     ensures count { slab_len slab.new ≡ slab_len slab.old }
 {

@@ -1,10 +1,12 @@
 //! A watch as the hub keeps it.
-use crate::matching::{ahead_of, first_from, first_reached, still_ahead};
+use crate::matching::{ahead_of, first_reached, still_ahead};
+use crate::walk::first_from;
 use kv_model::call::Watched;
 use kv_model::version::Version;
 
-/// A watch that stands. Where it is not late it is behind, and holds the main revision of the first version that it matches and
-/// was not told of, or it is caught up. Then what it looks at next is the next revision, or a later one that it waits for.
+/// A watch that stands. Where it is not late it is behind, and holds the main revision of the first
+/// version that it matches and was not told of, or it is caught up. Then what it looks at next is
+/// the next revision, or a later one that it waits for.
 #[derive(Debug, Drop)]
 pub(crate) struct Entry {
     pub(crate) number: u64,

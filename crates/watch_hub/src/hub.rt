@@ -1,17 +1,20 @@
 //! The watches of a store (etcd: Watch).
-ghost use Rattle.std.specs.Prelude.{◌≡◌, ◌⊎◌, ◌+◌, ◌<◌, ◌≤◌, Some, None, [], map, is_ok, is_some, option_map, IfOk, IfErr, OnOk, OnErr};
+ghost use Rattle.std.specs.Prelude.{◌≡◌, ◌⊎◌, ◌+◌, ◌<◌, ◌≤◌, Some, None, [], map, is_ok, is_some};
+ghost use Rattle.std.specs.Prelude.{option_map, IfOk, IfErr, OnOk, OnErr};
 ghost use Rattle.kv_model.specs.declared.refusal.Refusal.TheVariants.{Memory, NoWatch};
 ghost use Rattle.kv_model.specs.Lists as lists;
 ghost use Rattle.store_laws.specs.Stands.{noted};
 ghost use Rattle.kv_model.specs.Step.{last_main, start_of, watched_range};
 ghost use Rattle.store_laws.specs.Stores.{refusal_of_watch, tracked_made};
-ghost use Rattle.watch_hub.specs.Hub.{advanced_to, entry_made, pending_of, store_with, tracked_at, with_watch, without_tracked};
+ghost use Rattle.watch_hub.specs.Hub.{advanced_to, entry_made, pending_of, store_with, tracked_at};
+ghost use Rattle.watch_hub.specs.Hub.{with_watch, without_tracked, NumbersAscend};
 ghost use Rattle.watch_hub.specs.Entries.{tracked_of};
 ghost use Rattle.watch_hub.specs.Views.{pending_view};
 
 use crate::entries::Entries;
 use crate::entry::Entry;
-use crate::matching::{ahead_of, first_from};
+use crate::matching::ahead_of;
+use crate::walk::first_from;
 use bytes::Bytes;
 use kv_model::call::Watched;
 use kv_model::refusal::Refusal;
@@ -33,17 +36,19 @@ pub struct Pending<'a> {
     pub id: i64,
     /// What it looks at.
     pub watched: &'a Watched,
-    /// Whether its start was below the last compaction when it was made. Such a watch is told nothing but that.
+    /// Whether its start was below the last compaction when it was made. Such a watch is told
+    /// nothing but that.
     pub late: bool,
-    /// The main revision of the first version that it matches and was not told of; nothing while it is caught up.
+    /// The main revision of the first version that it matches and was not told of; nothing while it
+    /// is caught up.
     pub first: Option<u64>,
 }
 
 /// The watches that stand, in the order in which they were made, and how many were made so far.
 ///
-/// A watch that is not late is behind, and holds the main revision of the first version that it matches and was not told of; or
-/// it is caught up, and what it looks at next is the next revision, or a later one that it waits for. Each stands at a place of a
-/// slab. Only `create` takes memory.
+/// A watch that is not late is behind, and holds the main revision of the first version that it
+/// matches and was not told of; or it is caught up, and what it looks at next is the next revision,
+/// or a later one that it waits for. Each stands at a place of a slab. Only `create` takes memory.
 #[derive(Drop)]
 pub struct WatchHub {
     entries: Entries,
@@ -72,14 +77,17 @@ impl WatchHub {
         }
     }
 
-    /// Makes a watch of what is kept, and answers its number: one more than the last one made, from 1 on.
+    /// Makes a watch of what is kept, and answers its number: one more than the last one made, from
+    /// 1 on.
     ///
-    /// `start` is the first revision that it looks at, where 0 and below mean the next one; it may be above the present revision.
-    /// An empty key counts as the byte 0. `id` is the client's number for the watch. A start below the last compaction makes a
-    /// watch that is late. Keys are shared, not copied.
+    /// `start` is the first revision that it looks at, where 0 and below mean the next one; it may
+    /// be above the present revision. An empty key counts as the byte 0. `id` is the client's
+    /// number for the watch. A start below the last compaction makes a watch that is late. Keys are
+    /// shared, not copied.
     ///
-    /// The refusals, in this order: `TooManyWatches` where 1,024 stand or 2^63 - 1 were made, `Memory`. A refusal changes nothing.
-    /// The time is logarithmic in the number of versions, and linear in that of those from the start up to the first match.
+    /// The refusals, in this order: `TooManyWatches` where 1,024 stand or 2^63 - 1 were made,
+    /// `Memory`. A refusal changes nothing. The time is logarithmic in the number of versions, and
+    /// linear in that of those from the start up to the first match.
     pub fn create(
         &mut self,
         tables: &Tables,
@@ -90,8 +98,10 @@ impl WatchHub {
         requires { tables.now.revision ≤ last_main }
         ensures allowed { OnOk result (refusal_of_watch (store_with tables.now self.old) ≡ None) }
         ensures number { IfOk result (λ n. n ≡ self.old.made + 1) }
-        ensures made { OnOk result (self.new ≡ with_watch self.old (tracked_made (store_with tables.now self.old) watched.now start id)) }
-        ensures refused { IfErr result (λ e. (refusal_of_watch (store_with tables.now self.old) ≡ Some e)
+        ensures made { OnOk result (self.new ≡ with_watch self.old
+            (tracked_made (store_with tables.now self.old) watched.now start id)) }
+        ensures refused { IfErr result (λ e.
+            (refusal_of_watch (store_with tables.now self.old) ≡ Some e)
             ⊎ ((refusal_of_watch (store_with tables.now self.old) ≡ None) × (e ≡ Memory))) }
         ensures unchanged { OnErr result (self.new ≡ self.old) }
     {
@@ -114,7 +124,8 @@ impl WatchHub {
     ) -> Result<(), AllocError>
         requires revision { tables.now.revision ≤ last_main }
         requires room { self.old.made < last_main }
-        ensures made { OnOk result (self.new ≡ with_watch self.old (tracked_made (store_with tables.now self.old) watched.now start id)) }
+        ensures made { OnOk result (self.new ≡ with_watch self.old
+            (tracked_made (store_with tables.now self.old) watched.now start id)) }
         ensures unchanged { OnErr result (self.new ≡ self.old) }
     {
         let entry = entry_for(tables, watched, start, id, self.made + 1)?;
@@ -123,22 +134,28 @@ impl WatchHub {
         Ok(())
     }
 
-    /// Takes note of the versions of a new revision, which is now the present one, `now`. A watch that is caught up and matches one
-    /// of them is then behind; those that are behind already are passed over. Takes no memory.
+    /// Takes note of the versions of a new revision, which is now the present one, `now`. A watch
+    /// that is caught up and matches one of them is then behind; those that are behind already are
+    /// passed over. Takes no memory.
     ///
-    /// The time is linear in the room that the slab has, which is for as many watches as stood at once, at most 1,024, and as much
-    /// again by the way that lists grow; and for each watch that is caught up in the number of the versions.
+    /// The time is linear in the room that the slab has, which is for as many watches as stood at
+    /// once, at most 1,024, and as much again by the way that lists grow; and for each watch that
+    /// is caught up in the number of the versions.
     pub fn note(&mut self, versions: &[Version], now: u64)
-        ensures { self.new ≡ record self.old { watches = map (noted versions.now now) self.old.watches } }
+        ensures { self.new
+            ≡ record self.old { watches = map (noted versions.now now) self.old.watches } }
     {
         self.entries.note(versions, now);
     }
 
-    /// What a delivery to the watch of a number needs. `NoWatch` comes where no watch has the number. Takes no memory. Logarithmic
-    /// time.
+    /// What a delivery to the watch of a number needs. `NoWatch` comes where no watch has the
+    /// number. Takes no memory. Logarithmic time.
     pub fn pending(&self, number: u64) -> Result<Pending<'_>, Refusal>
-        ensures found { IfOk result (λ p. option_map pending_of (tracked_at self.now.watches number) ≡ Some (pending_view p)) }
-        ensures missing { IfErr result (λ e. (e ≡ NoWatch) × (tracked_at self.now.watches number ≡ None)) }
+        ensures found { IfOk result (λ p.
+            option_map pending_of (tracked_at self.now.watches number) ≡ Some (pending_view p)) }
+        ensures missing { IfErr result (λ e. (e ≡ NoWatch)
+            × (tracked_at self.now.watches number ≡ None)) }
+        ensures ascending { NumbersAscend self.now.watches }
     {
         match self.entries.get(number) {
             Some(entry) => Ok(Pending {
@@ -151,25 +168,32 @@ impl WatchHub {
         }
     }
 
-    /// The watch of a number was told of all that it matches up to the revision `last`: it goes on behind that. Where no watch has
-    /// the number, nothing changes. Takes no memory.
+    /// The watch of a number was told of all that it matches up to the revision `last`: it goes on
+    /// behind that. Where no watch has the number, nothing changes. Takes no memory.
     ///
-    /// The time is logarithmic in the number of versions, and linear in that of those from there on up to the next match.
+    /// The time is logarithmic in the number of versions, and linear in that of those from there on
+    /// up to the next match.
     pub fn advance(&mut self, tables: &Tables, number: u64, last: u64)
         requires { last ≤ last_main }
-        ensures { self.new ≡ record self.old { watches = advanced_to tables.now.versions tables.now.revision number last self.old.watches } }
+        ensures { self.new
+            ≡ record self.old {
+              watches = advanced_to tables.now.versions tables.now.revision
+                  number last self.old.watches;
+            } }
     {
         self.entries
             .advance(number, tables.versions(), tables.revision(), last);
     }
 
-    /// Ends the watch of a number. `NoWatch` comes where no watch has the number, and then nothing changes. Takes no memory.
+    /// Ends the watch of a number. `NoWatch` comes where no watch has the number, and then nothing
+    /// changes. Takes no memory.
     ///
     /// It is found in logarithmic time; the places of those that were made later move.
     pub fn cancel(&mut self, number: u64) -> Result<(), Refusal>
         ensures found { is_ok result ≡ is_some (tracked_at self.old.watches number) }
         ensures missing { IfErr result (λ e. e ≡ NoWatch) }
-        ensures left { self.new ≡ record self.old { watches = without_tracked number self.old.watches } }
+        ensures left { self.new
+            ≡ record self.old { watches = without_tracked number self.old.watches } }
     {
         if self.entries.remove(number) {
             Ok(())
@@ -213,7 +237,8 @@ fn start_of(now: u64, start: i64) -> u64
 
 /// What a watch looks at, where an empty key counts as the byte 0.
 fn watched_of(watched: &Watched) -> Result<Watched, AllocError>
-    ensures { IfOk result (λ w. w ≡ record watched.now { range = watched_range watched.now.range }) }
+    ensures { IfOk result (λ w. w
+        ≡ record watched.now { range = watched_range watched.now.range }) }
 {
     Ok(Watched {
         range: range_of(&watched.range)?,

@@ -1,9 +1,35 @@
-//! The watches of a store: what each still waits for (etcd: Watch).
+//! The watches of a store (etcd: Watch): what each still waits for.
+//!
+//! The one contract is that of [`WatchHub`]: its value is the list of the watches that stand, in
+//! the order in which they were made, and how many were made so far; each call is a function on
+//! such lists. A watch that is behind holds the main revision of the first version that it matches
+//! and was not told of. One that is caught up holds none, and a delivery to it costs nothing. What
+//! it is told of a revision is read from `range_view`'s tables when it is delivered.
+//!
+//! For example, where the key a was put at the revisions 2, 3 and 4, with the first undelivered
+//! match of each watch behind its number:
+//!
+//! ```text
+//! create a from 0       1: none                    caught up; 0 means the next revision, 5
+//! create a from 3       1: none, 2: 3              behind
+//! create a from 6       1: none, 2: 3, 3: none     caught up, and waits for 6
+//! note a put at 5       1: 5,    2: 3, 3: none     2 is behind already, 3 waits on
+//! advance 2 to 3        1: 5,    2: 4, 3: none     2 was told of all up to 3
+//! cancel 1              2: 4, 3: none              no later watch gets the number 1
+//! ```
+//!
+//! The tests stand in the crate `store_tests`, in `src/watches.rt`.
 #![tactic(auto)]
 
+pub mod delivery;
 mod entries;
 mod entry;
 pub mod hub;
 mod matching;
+pub mod message;
+mod tally;
+mod walk;
 
+pub use delivery::Delivery;
 pub use hub::{Pending, WatchHub};
+pub use message::Event;

@@ -1,35 +1,13 @@
 //! Which versions a watch matches.
-ghost use Rattle.std.specs.Prelude.{◌≡◌, ◌≤◌, ◌&&◌, false, filter, find, length, nat_le, option_copied, take, drop};
+ghost use Rattle.std.specs.Prelude.{◌≡◌, ◌≤◌, ◌&&◌, true, false, filter, find, length, nat_le};
+ghost use Rattle.std.specs.Prelude.{option_copied, take, drop};
 ghost use Rattle.std.specs.List.{AllByRecursion};
-ghost use Rattle.kv_model.specs.Keys.{in_range, key_lt, key_le, same_key, zero_byte};
 ghost use Rattle.kv_model.specs.Events.{matches, wants};
 ghost use Rattle.store_laws.specs.Stands.{ahead_of, first_main_of, is_reached, still_ahead};
 ghost use Rattle.version_table.specs.Rising.{IsRising};
-ghost use Rattle.watch_hub.specs.Hub.{first_from};
 
-use bytes::Bytes;
 use kv_model::call::Watched;
-use kv_model::version::{Body, KeyRange, Version};
-
-/// Whether a key is the single byte 0.
-fn is_zero_byte(key: &Bytes) -> bool
-    ensures { result ≡ same_key key.now zero_byte }
-{
-    key.as_slice() == [0].as_slice()
-}
-
-/// Whether a key is in a range.
-fn in_range(range: &KeyRange, key: &Bytes) -> bool
-    ensures { result ≡ in_range range.now key.now }
-{
-    if range.end.is_empty() {
-        return key.as_slice() == range.key.as_slice();
-    }
-    if is_zero_byte(&range.end) {
-        return is_zero_byte(&range.key) || range.key.cmp(key).is_le();
-    }
-    range.key.cmp(key).is_le() && key.cmp(&range.end).is_lt()
-}
+use kv_model::version::{Body, Version};
 
 /// Whether the kind of a version is not left out.
 fn wants(watched: &Watched, body: &Body) -> bool
@@ -42,10 +20,10 @@ fn wants(watched: &Watched, body: &Body) -> bool
 }
 
 /// Whether a watch matches a version: its key is in the range, and its kind is not left out.
-fn matches(watched: &Watched, version: &Version) -> bool
+pub(crate) fn matches(watched: &Watched, version: &Version) -> bool
     ensures { result ≡ matches watched.now version.now }
 {
-    in_range(&watched.range, &version.key) && wants(watched, &version.body)
+    watched.range.contains(version.key.as_slice()) && wants(watched, &version.body)
 }
 
 /// Whether a revision is one that a watch waits for.
@@ -64,7 +42,8 @@ fn find_reached<'a>(
     ahead: Option<u64>,
     watched: &Watched,
 ) -> Option<&'a Version>
-    ensures { option_copied result ≡ find (λ v. is_reached ahead v.rev.main && matches watched.now v) versions.now }
+    ensures { option_copied result
+        ≡ find (λ v. is_reached ahead v.rev.main && matches watched.now v) versions.now }
 {
     versions
         .iter()
@@ -77,7 +56,9 @@ pub(crate) fn first_reached(
     ahead: Option<u64>,
     watched: &Watched,
 ) -> Option<u64>
-    ensures { result ≡ first_main_of (filter (λ v. is_reached ahead v.rev.main && matches watched.now v) versions.now) }
+    ensures { result
+        ≡ first_main_of
+        (filter (λ v. is_reached ahead v.rev.main && matches watched.now v) versions.now) }
 {
     match find_reached(versions, ahead, watched) {
         Some(version) => Some(version.rev.main),
@@ -86,32 +67,15 @@ pub(crate) fn first_reached(
 }
 
 /// How many of the versions, which rise, are of a revision before this one. It halves.
-fn count_before(versions: &[Version], next: u64) -> usize
+pub(crate) fn count_before(versions: &[Version], next: u64) -> usize
     requires { IsRising versions.now }
     ensures bound { result ≤ length versions.now }
-    ensures before { AllByRecursion (λ v. nat_le next v.rev.main ≡ false) (take result versions.now) }
+    ensures before { AllByRecursion (λ v. nat_le next v.rev.main ≡ false)
+        (take result versions.now) }
+    ensures behind { AllByRecursion (λ v. nat_le next v.rev.main ≡ true)
+        (drop result versions.now) }
 {
     versions.partition_point(|v| v.rev.main < next)
-}
-
-/// The versions from an index on.
-fn rest_from(versions: &[Version], index: usize) -> &[Version]
-    requires { index ≤ length versions.now }
-    ensures { result.now ≡ drop index versions.now }
-{
-    let (_, rest) = versions.split_at(index);
-    rest
-}
-
-/// The main revision of the first of the versions, which rise, that is from a revision on and that a watch matches.
-///
-/// The time is logarithmic in the number of versions, and linear in that of those from the revision on up to the match.
-pub(crate) fn first_from(versions: &[Version], next: u64, watched: &Watched) -> Option<u64>
-    requires { IsRising versions.now }
-    ensures { result ≡ first_from versions.now next watched.now }
-{
-    let before = count_before(versions, next);
-    first_reached(rest_from(versions, before), Some(next), watched)
 }
 
 /// The revision that a watch waits for, where it is above the present one.

@@ -1,26 +1,25 @@
-use Rattle.std.proofs.Common.{true, false, sym, ◌∙◌, ap}
+use Rattle.std.proofs.Common.{sym, ◌∙◌, ap}
 use Rattle.std.specs.Ordering.{is_lt}
-use Rattle.key_index.proofs.Keys.{contains-one, contains-below, contains-none, forward-same, forward, empty-length, in_range-one, in_range-between}
+use Rattle.key_index.proofs.Keys.{contains-one, contains-below, contains-none, forward-same, forward}
 use Rattle.key_index.proofs.interval.bounds.Goals as goal
 
-pub returns-then-is_empty-clause-forward : goal.returns-then-is_empty-clause-forward
-returns-then-is_empty-clause-forward c = forward-same c.args.range.now.key
+pub returns-in-Key-clause-forward : goal.returns-in-Key-clause-forward
+returns-in-Key-clause-forward c = forward-same c.in-Key.key.now
 
-pub returns-then-is_empty-clause-contains : goal.returns-then-is_empty-clause-contains
-returns-then-is_empty-clause-contains c = λ k. contains-one c.args.range.now.key k ∙ sym (in_range-one c.args.range.now k (empty-length _ true (sym c.is_empty.ensures ∙ c.if-is_empty.true)))
+pub returns-in-Key-clause-contains : goal.returns-in-Key-clause-contains
+returns-in-Key-clause-contains c = λ k. contains-one c.in-Key.key.now k ∙ c.in-Key.ensures k
 
-pub returns-then-is_lt-clause-forward : goal.returns-then-is_lt-clause-forward
-returns-then-is_lt-clause-forward c = forward-same c.args.range.now.key
+pub returns-in-Interval-clause-forward : goal.returns-in-Interval-clause-forward
+returns-in-Interval-clause-forward c = forward-same c.in-Interval.from.now
 
-pub returns-then-is_lt-clause-contains : goal.returns-then-is_lt-clause-contains
-returns-then-is_lt-clause-contains c = λ k.
-    contains-none c.args.range.now.key c.args.range.now.end k (ap is_lt (sym c.cmp.ensures) ∙ sym c.is_lt.ensures ∙ c.if-is_lt.true)
-    ∙ sym (in_range-between c.args.range.now k (empty-length _ false (sym c.is_empty.ensures ∙ c.if-is_empty.false)) (sym c.is_zero_byte.ensures ∙ c.if-is_zero_byte.false))
+pub returns-in-Interval-clause-contains : goal.returns-in-Interval-clause-contains
+returns-in-Interval-clause-contains c = λ k.
+    contains-none c.in-Interval.from.now c.in-Interval.to.now k (ap is_lt (sym c.cmp.ensures) ∙ sym c.is_lt.ensures ∙ c.if-is_lt.true)
+    ∙ c.in-Interval.ensures k
 
-pub returns-clause-forward : goal.returns-clause-forward
-returns-clause-forward c = forward c.args.range.now.key c.args.range.now.end (ap is_lt (sym c.cmp.ensures) ∙ sym c.is_lt.ensures ∙ c.if-is_lt.false)
+pub returns-in-Interval-2-clause-forward : goal.returns-in-Interval-2-clause-forward
+returns-in-Interval-2-clause-forward c =
+    forward c.in-Interval.from.now c.in-Interval.to.now (ap is_lt (sym c.cmp.ensures) ∙ sym c.is_lt.ensures ∙ c.if-is_lt.false)
 
-pub returns-clause-contains : goal.returns-clause-contains
-returns-clause-contains c = λ k.
-    contains-below c.args.range.now.key c.args.range.now.end k
-    ∙ sym (in_range-between c.args.range.now k (empty-length _ false (sym c.is_empty.ensures ∙ c.if-is_empty.false)) (sym c.is_zero_byte.ensures ∙ c.if-is_zero_byte.false))
+pub returns-in-Interval-2-clause-contains : goal.returns-in-Interval-2-clause-contains
+returns-in-Interval-2-clause-contains c = λ k. contains-below c.in-Interval.from.now c.in-Interval.to.now k ∙ c.in-Interval.ensures k

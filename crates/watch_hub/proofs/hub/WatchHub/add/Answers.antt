@@ -7,4 +7,5 @@ use Rattle.watch_hub.proofs.hub.WatchHub.add.Goals as goal
 
 pub invariant_of-self-2 : goal.invariant_of-self-2
 invariant_of-self-2 c = subst (λ ts. AreUpTo (c.self.inside.made + 1) ts) (sym c.in_ok-push.ensures.ok)
-    (up-to-push c.self.inside.made c.self.inside.entries (tracked_of c.in_ok-entry.entry) c.self.invariant (ap (λ (t : Tracked). t.number) c.in_ok-entry.ensures))
+    (up-to-push c.self.inside.made c.self.inside.entries (tracked_of c.in_ok-entry.entry) c.self.invariant
+    (ap (λ (t : Tracked). t.number) c.in_ok-entry.ensures))

@@ -6,4 +6,5 @@ use Rattle.watch_hub.proofs.Placing.{up-to-filter}
 use Rattle.watch_hub.proofs.hub.WatchHub.cancel.Goals as goal
 
 pub invariant_of-self : goal.invariant_of-self
-invariant_of-self c = subst (λ ts. AreUpTo c.self.inside.made ts) (sym c.remove.ensures.left) (up-to-filter c.self.inside.made (λ t. not (has_number c.args.number t)) c.self.inside.entries c.self.invariant)
+invariant_of-self c = subst (λ ts. AreUpTo c.self.inside.made ts) (sym c.remove.ensures.left)
+    (up-to-filter c.self.inside.made (λ t. not (has_number c.args.number t)) c.self.inside.entries c.self.invariant)
