@@ -15,19 +15,18 @@ use Rattle.kv_model.specs.Told.{Reply}
 use Rattle.kv_model.specs.Txns.{extend_all, deletes_of, if_asked}
 use Rattle.kv_model.specs.World.{World, changed}
 use Rattle.kv_model.specs.Step.{made_in}
-use Rattle.store_laws.specs.Stands.{Store, StandsFor, grown}
+use Rattle.store_laws.specs.Stands.{Store, StandsFor, grown_noted}
 use Rattle.store_laws.specs.Stores.{refusal_of_delete, reply_of_delete, changes_of_delete}
 use Rattle.store_laws.proofs.KeyLaws.{live-same}
 use Rattle.store_laws.proofs.PlaceLaws.{AreBehind, rev_le-after, value_at-behind}
-use Rattle.store_laws.proofs.StandsCommands.{delete_told}
-use Rattle.request_core.proofs.Quiet.{delete_stands}
+use Rattle.store_laws.proofs.StandsCommands.{delete_told, delete_stands}
 use Rattle.request_core.specs.declared.answer.Todo.TheVariants as todo
 use Rattle.txn_core.specs.KeyWrites.{tombstone}
 use Rattle.request_core.specs.Writing.{tombstones}
 use Rattle.request_core.specs.State.{CoreState, live_in, is_spent, with_any, fault_of_delete, added_by_delete, after_delete}
 use Rattle.request_core.specs.Answers.{IsRefusal}
 use Rattle.request_core.specs.Commands.{CarriesOut, Makes, Refuses}
-use Rattle.request_core.proofs.Worlds.{any_moves, changed_by, committed, made_first, refused_first, commit_made, commit_spent, is_refused}
+use Rattle.request_core.proofs.Worlds.{any_moves, changed_by, committed, grows_by, made_first, refused_first, commit_made, commit_spent, is_refused}
 
 -- ---- deletes in a row make tombstones
 
@@ -45,12 +44,11 @@ deletes-next r main sub (kv ∷ kvs) some = deletes-now main (suc sub) (keys_of 
 
 -- they grow a store as the tombstones do, and no keys leave it as it is
 pub any-grows : (s : CoreState) (kvs : List KeyValue) → deletes_of (s.store.revision + 1) 0 (keys_of kvs) ≢ []
-    → grown s.store (deletes_of (s.store.revision + 1) 0 (keys_of kvs)) ≡ (with_any s (tombstones (s.store.revision + 1) 0 kvs)).store
+    → grown_noted s.store (deletes_of (s.store.revision + 1) 0 (keys_of kvs)) ≡ (with_any s (tombstones (s.store.revision + 1) 0 kvs)).store
 any-grows s [] some = absurd (some refl)
-any-grows s (kv ∷ kvs) some = λ i. record s.store {
-  versions = deletes-extend s.store.versions (s.store.revision + 1) 0 (kv ∷ kvs) i;
-  revision = deletes-next s.store.revision (s.store.revision + 1) 0 (kv ∷ kvs) (λ e. let bad : kv ∷ kvs ≡ [] = e in cc) i;
-}
+any-grows s (kv ∷ kvs) some = grows_by s (deletes_of (s.store.revision + 1) 0 (keys_of (kv ∷ kvs))) (tombstones (s.store.revision + 1) 0 (kv ∷ kvs))
+    (deletes-extend s.store.versions (s.store.revision + 1) 0 (kv ∷ kvs))
+    (deletes-next s.store.revision (s.store.revision + 1) 0 (kv ∷ kvs) (λ e. let bad : kv ∷ kvs ≡ [] = e in cc))
 
 pub any-stays : (s : CoreState) (kvs : List KeyValue) → deletes_of (s.store.revision + 1) 0 (keys_of kvs) ≡ []
     → s.store ≡ (with_any s (tombstones (s.store.revision + 1) 0 kvs)).store
@@ -107,9 +105,8 @@ shown-kept s asked r (kv ∷ kvs) is =
 
 -- ---- a delete
 
--- a delete that a core without watches made, of so many keys
+-- a delete that a core made, of so many keys
 pub record WasDeleted (s new : CoreState) (d : DeleteRequest) (n : ℕ) : Type 0 where
-  pub quiet : s.store.watches ≡ []
   pub clear : fault_of_delete s.store d ≡ None
   pub made : new ≡ after_delete s d
   pub counted : n ≡ length (live_in s.store d.range)
@@ -127,7 +124,7 @@ delete-makes s new d n was w h =
           was.clear;
       stands = committed s.store (after_delete s d).store us w (record {
         stood = h;
-        stands = delete_stands s.store w h was.quiet d (subst (λ m. m ≤ 2 ^ 64) was.counted was.few);
+        stands = delete_stands s.store w h d (subst (λ m. m ≤ 2 ^ 64) was.counted was.few);
         grows = any-grows s kvs;
         stays = any-stays s kvs;
       });

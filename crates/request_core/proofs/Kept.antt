@@ -22,7 +22,10 @@ use Rattle.range_view.proofs.Growing.{next-revision}
 use Rattle.txn_core.specs.KeyWrites.{CanCount, IsCountedTo, put_version, tombstone}
 use Rattle.txn_core.proofs.PutCounts.{last_that-holds}
 use Rattle.request_core.specs.Writing.{IsHeldTo, AreNext, next_rev, tombstones}
-use Rattle.request_core.specs.State.{IsSound, core_state, with_versions}
+use Rattle.std.proofs.Math.Seq.{drop-append_seam}
+use Rattle.store_laws.specs.Stands.{noted}
+use Rattle.watch_hub.specs.Hub.{Hub}
+use Rattle.request_core.specs.State.{CoreState, IsSound, core_state, noted_from, with_unnoted, with_versions}
 
 -- ---- counting
 
@@ -130,6 +133,16 @@ sound-appended t vs h room n = subst (λ r. IsSound (record t { versions = t.ver
 })
 
 -- a core whose tables grew
-pub grown-state : (t : Stored) (b : Book) (vs : List Version) (stamp : ℕ) → AreNext t.revision vs
-    → core_state (appended t vs) b stamp ≡ with_versions (core_state t b stamp) vs
-grown-state t b vs stamp n = ap (λ r. core_state (record t { versions = t.versions ++ vs; revision = r }) b stamp) (next-main t.revision vs n)
+pub grown-state : (t : Stored) (b : Book) (h : Hub) (vs : List Version) (stamp : ℕ) → AreNext t.revision vs
+    → core_state (appended t vs) b h stamp ≡ with_unnoted (core_state t b h stamp) vs
+grown-state t b h vs stamp n = ap (λ r. core_state (record t { versions = t.versions ++ vs; revision = r }) b h stamp) (next-main t.revision vs n)
+
+-- the watches take note of the versions that were appended
+pub noted-behind : (s : CoreState) (vs : List Version) → noted_from (length s.store.versions) (with_unnoted s vs) ≡ with_versions s vs
+noted-behind s vs = ap (λ us. record s {
+  store = record s.store {
+    versions = s.store.versions ++ vs;
+    revision = s.store.revision + 1;
+    watches = map (noted us (s.store.revision + 1)) s.store.watches;
+  };
+}) (drop-append_seam s.store.versions vs)

@@ -4,7 +4,6 @@ pub mod Leased
 pub mod Leases
 pub mod Planned
 pub mod Puts
-pub mod Quiet
 pub mod Ranges
 pub mod Revokes
 pub mod Starting

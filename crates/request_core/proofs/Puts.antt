@@ -1,5 +1,5 @@
 -- What a Put does, in each world that the core stands for.
-use Rattle.std.proofs.Common.{◌≡◌, ℕ, ◌+◌, ◌-◌, List, [], ◌∷◌, ◌++◌, Bor, true, false, Option, None, Some, Err, refl, sym, ◌∙◌, ap, subst}
+use Rattle.std.proofs.Common.{◌≡◌, ℕ, ◌+◌, ◌-◌, List, [], ◌∷◌, ◌++◌, map, Bor, true, false, Option, None, Some, Err, refl, sym, ◌∙◌, ap, subst}
 use Rattle.std.proofs.Common.{arith}
 use Rattle.std.specs.Option.{option_or}
 use Rattle.kv_model.specs.declared.refusal.Refusal.{Refusal}
@@ -13,12 +13,11 @@ use Rattle.kv_model.specs.Told.{Reply}
 use Rattle.kv_model.specs.Txns.{put_fault, previous_value}
 use Rattle.kv_model.specs.World.{World, changed}
 use Rattle.kv_model.specs.Step.{made_in}
-use Rattle.store_laws.specs.Stands.{Store, StandsFor, grown}
+use Rattle.store_laws.specs.Stands.{Store, StandsFor, grown_noted, noted}
 use Rattle.store_laws.specs.Stores.{refusal_of_put, reply_of_put, changes_of_put}
 use Rattle.store_laws.proofs.PlaceLaws.{AreBehind, rev_le-after, value_at-behind}
 use Rattle.store_laws.proofs.StandsLaws.{value_now_is}
-use Rattle.store_laws.proofs.StandsCommands.{put_told, put_has_key}
-use Rattle.request_core.proofs.Quiet.{put_stands}
+use Rattle.store_laws.proofs.StandsCommands.{put_told, put_stands, put_has_key}
 use Rattle.request_core.specs.declared.answer.Todo.TheVariants as todo
 use Rattle.txn_core.specs.KeyWrites.{held_refusal, put_version}
 use Rattle.request_core.specs.Writing.{next_rev}
@@ -33,10 +32,11 @@ fault-held : (s : Store) (w : World) → StandsFor s w → (p : PutRequest)
 fault-held s w h p = ap (λ o. option_or (option_or (put_fault p) (held_refusal (is_granted s.leases) p o))
     (refuse_if (is_spent s.revision) RevisionsSpent)) (value_now_is s w h p.key)
 
-put-grows : (s : CoreState) (w : World) → StandsFor s.store w → (p : PutRequest) → grown s.store (changes_of_put s.store p) ≡ (after_put s p).store
+put-grows : (s : CoreState) (w : World) → StandsFor s.store w → (p : PutRequest) → grown_noted s.store (changes_of_put s.store p) ≡ (after_put s p).store
 put-grows s w h p = λ i. record s.store {
   versions = s.store.versions ++ put_version (next_rev s.store.revision) p (value_now_is s.store w h p.key i) ∷ [];
   revision = s.store.revision + 1;
+  watches = map (noted (put_version (next_rev s.store.revision) p (value_now_is s.store w h p.key i) ∷ []) (s.store.revision + 1)) s.store.watches;
 }
 
 -- what a put finds before it is still found at the end of the revision before
@@ -51,21 +51,20 @@ previous-kept s p key same =
     ∙ ap (λ o. Reply.put (previous_value p.prev_kv o))
     (value_at-behind s.store.versions (added_by_put s.store p ∷ []) (end_of s.store.revision) p.key behind)
 
-put-makes : (s : CoreState) (p : PutRequest) → s.store.watches ≡ [] → fault_of_put s.store p ≡ None
+put-makes : (s : CoreState) (p : PutRequest) → fault_of_put s.store p ≡ None
     → (w : World) → StandsFor s.store w → Makes w (Call.put p) (reply_of_put s.store p) (after_put s p).store
-put-makes s p quiet clear w h =
+put-makes s p clear w h =
     let us : List Mutation = changes_of_put s.store p in
     let none : option_or (refusal_of_put s.store p) (refuse_if (is_spent s.store.revision) RevisionsSpent) ≡ None = fault-held s.store w h p ∙ clear in
     record {
       after = changed w us;
       made = put_told s.store w h p ∙ made_first (refusal_of_put s.store p) _ _ _ (commit_made s.store.revision (reply_of_put s.store p) w us) none;
       stands = subst (λ t. StandsFor t (changed w us)) (put-grows s w h p)
-          (put_stands s.store w h quiet p (put_has_key s.store p (or-none-first _ _ none)));
+          (put_stands s.store w h p (put_has_key s.store p (or-none-first _ _ none)));
     }
 
--- a put that a core without watches made
+-- a put that a core made
 pub record WasPut (s new : CoreState) (p : PutRequest) : Type 0 where
-  pub quiet : s.store.watches ≡ []
   pub clear : fault_of_put s.store p ≡ None
   pub made : new ≡ after_put s p
 
@@ -73,7 +72,7 @@ pub put_done : (s new : CoreState) (p : PutRequest) (key : Bor (List ℕ)) → k
     → CarriesOut s new (Call.put p) (todo.Put key p.prev_kv)
 put_done s new p key same d = subst (λ (n : CoreState). CarriesOut s n (Call.put p) (todo.Put key p.prev_kv)) (sym d.made) (record {
   makes = λ w h. subst (λ told. Makes w (Call.put p) told (after_put s p).store) (sym (previous-kept s p key.now same))
-      (put-makes s p d.quiet d.clear w h);
+      (put-makes s p d.clear w h);
   allowed = tt;
   beside = λ w h. refl;
   moves = any_moves s (added_by_put s.store p ∷ []) false;

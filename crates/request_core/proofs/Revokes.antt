@@ -17,8 +17,7 @@ use Rattle.kv_model.specs.World.{World, revision}
 use Rattle.kv_model.specs.Step.{made_in, expiry_of, expire, expire_at, revoke_in}
 use Rattle.store_laws.specs.Stands.{Store, StandsFor, grown}
 use Rattle.store_laws.specs.Stores.{with_leases, refusal_of_revoke, changes_of_revoke}
-use Rattle.store_laws.proofs.StandsLeases.{leases_stand, revoke_told, due_stands}
-use Rattle.request_core.proofs.Quiet.{revoke_stands}
+use Rattle.store_laws.proofs.StandsLeases.{leases_stand, revoke_told, revoke_stands, due_stands}
 use Rattle.request_core.specs.declared.answer.Expiry.{Expiry as CoreExpiry}
 use Rattle.request_core.specs.declared.answer.Expiry.TheVariants as expiry
 use Rattle.request_core.specs.declared.answer.Todo.TheVariants as todo
@@ -30,9 +29,8 @@ use Rattle.request_core.specs.Commands.{CarriesOut, Expires, Makes, Moves, Refus
 use Rattle.request_core.proofs.Worlds.{changed_by, committed, made_first, refused_first, commit_made, commit_spent, is_refused}
 use Rattle.request_core.proofs.Deletes.{any-grows, any-stays, deletes-spent}
 
--- a revoke that a core without watches made, of a lease with so many keys
+-- a revoke that a core made, of a lease with so many keys
 pub record WasRevoked (s new : CoreState) (id : ℤ) (n : ℕ) : Type 0 where
-  pub quiet : s.store.watches ≡ []
   pub clear : fault_of_revoke s.store id ≡ None
   pub made : new ≡ after_revoke s id
   pub counted : n ≡ length (leased_in s.store id)
@@ -84,7 +82,7 @@ revoke-makes s new id n was w h =
           was.clear;
       stands = committed (unleased s id).store new.store us (without s.store w id) (record {
         stood = leases_stand s.store w (without_lease id s.store.leases) h;
-        stands = revoke_stands s.store w h was.quiet id fits;
+        stands = revoke_stands s.store w h id fits;
         grows = λ some. any-grows (unleased s id) kvs some ∙ left;
         stays = λ none. any-stays (unleased s id) kvs none ∙ left;
       });

@@ -5,7 +5,7 @@ use Rattle.kv_model.specs.History.{dress}
 use Rattle.store_laws.specs.Stands.{StandsFor}
 use Rattle.range_view.specs.Stored.{blank_at}
 use Rattle.request_core.specs.Writing.{AreNext}
-use Rattle.request_core.specs.State.{CoreState, core_state, put_at, with_versions, world_of_put}
+use Rattle.request_core.specs.State.{CoreState, core_state, no_watches, put_at, with_versions, world_of_put}
 
 pub first_next : (r : ℕ) → AreNext r (dress (put_at (r + 1) (codes "b") ∷ []))
 unfolding dress
@@ -17,7 +17,7 @@ first_next r = record {
 }
 
 pub first_stands : (r : ℕ) (new : CoreState) → 1 ≤ r
-    → new ≡ with_versions (core_state (blank_at r) (record { leases = []; clock = 0 }) 0) (dress (put_at (r + 1) (codes "b") ∷ []))
+    → new ≡ with_versions (core_state (blank_at r) (record { leases = []; clock = 0 }) no_watches 0) (dress (put_at (r + 1) (codes "b") ∷ []))
     → StandsFor new.store (world_of_put (r + 1) (codes "b"))
 unfolding dress
 first_stands r new h e = subst (λ (s : CoreState). StandsFor s.store (world_of_put (r + 1) (codes "b"))) (sym e) (record {

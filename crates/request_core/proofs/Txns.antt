@@ -8,7 +8,7 @@ use Rattle.kv_model.specs.declared.refusal.Refusal.{Refusal}
 use Rattle.kv_model.specs.declared.refusal.Refusal.TheVariants.{Memory, RevisionsSpent}
 use Rattle.kv_model.specs.declared.version.Version.{Version}
 use Rattle.kv_model.specs.Calls.{Ops, as_call, txn_view}
-use Rattle.kv_model.specs.History.{Mutation, end_of, rev_le}
+use Rattle.kv_model.specs.History.{Mutation, end_of, rev_le, now_after}
 use Rattle.kv_model.specs.Leases.{is_granted}
 use Rattle.kv_model.specs.Lists.{is_empty}
 use Rattle.store_laws.specs.Plans.{ReadsKept}
@@ -18,15 +18,14 @@ use Rattle.kv_model.specs.Txns.{Path, next_version, extend_all, static_fault, wa
 use Rattle.kv_model.specs.World.{World}
 use Rattle.kv_model.specs.Wire.{changes_beside}
 use Rattle.kv_model.specs.Step.{last_main, made_in, refused_or, commit_at, succeeded, inner_path}
-use Rattle.store_laws.specs.Stands.{Store, StandsFor, grown}
+use Rattle.store_laws.specs.Stands.{Store, StandsFor, grown_noted}
 use Rattle.store_laws.specs.Stores.{path_in, refusal_of_path, changes_of_path, reply_of_path}
 use Rattle.store_laws.proofs.CountLaws.{changes_counted, branch_changes}
 use Rattle.store_laws.proofs.PathLaws.{path-checked}
 use Rattle.store_laws.proofs.PlaceLaws.{rev_le-end}
 use Rattle.store_laws.proofs.PlanLaws.{NoClash}
 use Rattle.store_laws.proofs.ReplyLaws.{not-refused-reads}
-use Rattle.store_laws.proofs.StandsTxns.{txn_refused, txn_told}
-use Rattle.request_core.proofs.Quiet.{txn_stands}
+use Rattle.store_laws.proofs.StandsTxns.{txn_refused, txn_told, txn_stands}
 use Rattle.range_view.specs.Stored.{IsUpTo}
 use Rattle.txn_core.specs.declared.step.Step.{Step}
 use Rattle.txn_core.specs.Steps.{steps_view}
@@ -36,7 +35,7 @@ use Rattle.request_core.specs.State.{CoreState, is_spent, with_any, with_version
 use Rattle.request_core.specs.Answers.{CanReply, IsRefusal}
 use Rattle.request_core.specs.Commands.{CarriesOut, Makes, Moves, Refuses, takes_memory}
 use Rattle.request_core.proofs.Planned.{planned-from, from-now, planned-extends}
-use Rattle.request_core.proofs.Worlds.{or-none-first, or-none-second, not-spent, any_moves, changed_by, committed, made_first, refused_first}
+use Rattle.request_core.proofs.Worlds.{grows_by, or-none-first, or-none-second, not-spent, any_moves, changed_by, committed, made_first, refused_first}
 use Rattle.request_core.proofs.Worlds.{commit_made, commit_spent, is_refused, own_refusal}
 
 -- ---- a transaction is a row of one
@@ -124,9 +123,8 @@ kept-by r (v ∷ vs) upto places = (rev_le-end v.rev r upto.0 places.0, kept-by 
 
 -- ---- an accepted transaction
 
--- a transaction that a core without watches ran: whether its compares held, and the operations that ran
+-- a transaction that a core ran: whether its compares held, and the operations that ran
 pub record WasRun (s new : CoreState) (ops : Ops) (b : Bool) (inner : Path) : Type 0 where
-  pub quiet : s.store.watches ≡ []
   pub upto : IsUpTo s.store.revision s.store.versions
   pub places : AllByRecursion (λ v. v.rev.sub < 2 ^ 64) s.store.versions
   pub fits : s.store.revision ≤ last_main
@@ -161,13 +159,14 @@ left-answer s new ops b inner was = λ i. Reply.txn (succeeded (was.path i))
 
 -- the store grows by its changes, where there are some
 txn-grows : (s : CoreState) (ops : Ops) → fault_of_txn s.store ops ≡ None → changes_of_path s.store (path_in s.store ops) ≢ []
-    → grown s.store (changes_of_path s.store (path_in s.store ops)) ≡ (after_txn s ops).store
+    → grown_noted s.store (changes_of_path s.store (path_in s.store ops)) ≡ (after_txn s ops).store
 txn-grows s ops clear some =
     let q : Path = path_in s.store ops in
-    let rose : (grown s.store (changes_of_path s.store q)).revision ≡ s.store.revision + 1
+    let rose : now_after s.store.revision (changes_of_path s.store q) ≡ s.store.revision + 1
     = from-now s.store.revision (s.store.revision + 1) 0 (changes_of_path s.store q) some
       (planned-from s.store.versions (s.store.revision + 1) [] q tt) in
-    (λ i. record s.store { versions = planned-extends s.store.versions (s.store.revision + 1) q (checked-clear s.store ops clear) i; revision = rose i })
+    grows_by s (changes_of_path s.store q) (added_by_txn s.store ops)
+    (planned-extends s.store.versions (s.store.revision + 1) q (checked-clear s.store ops clear)) rose
     ∙ sym (any-some s (changes_of_path s.store q) some)
   where
     any-some : (s : CoreState) (us : List Mutation) → us ≢ []
@@ -199,7 +198,7 @@ txn-makes s new t b inner was w h =
           (or-none-second (static_fault ops) _ was.clear);
       stands = committed s.store (after_txn s ops).store us w (record {
         stood = h;
-        stands = txn_stands s.store w h was.quiet ops static (omega arith);
+        stands = txn_stands s.store w h ops static (omega arith);
         grows = txn-grows s ops was.clear;
         stays = txn-stays s ops;
       });

@@ -1,5 +1,5 @@
 -- What a core does, in each world that it stands for.
-use Rattle.std.proofs.Common.{◌≡◌, ◌≢◌, ℕ, ◌+◌, ◌<◌, ◌≤◌, List, [], ◌∷◌, Bool, true, false, ◌&&◌, cond, not, Option, None, Some}
+use Rattle.std.proofs.Common.{◌≡◌, ◌≢◌, ℕ, ◌+◌, ◌<◌, ◌≤◌, List, [], ◌∷◌, ◌++◌, map, Bool, true, false, ◌&&◌, cond, not, Option, None, Some}
 use Rattle.std.proofs.Common.{Result, Ok, Err, refl, sym, ◌∙◌, ap, subst, arith}
 use Rattle.std.specs.Prelude.{nat_lt, is_some, ◌||◌, MatchBool}
 use Rattle.std.specs.Option.{option_or}
@@ -7,19 +7,21 @@ use Rattle.std.proofs.lemmas.Bool.{lt-ltb, le-ltb, ltb-true, ltb-false}
 use Rattle.kv_model.specs.declared.refusal.Refusal.{Refusal}
 use Rattle.kv_model.specs.declared.refusal.Refusal.TheVariants.{RevisionsSpent}
 use Rattle.kv_model.specs.declared.version.Version.{Version}
-use Rattle.kv_model.specs.History.{Mutation}
+use Rattle.kv_model.specs.History.{Mutation, now_after}
 use Rattle.kv_model.specs.Lists.{is_empty}
 use Rattle.kv_model.specs.Ranges.{refuse_if}
 use Rattle.kv_model.specs.Calls.{Call}
+use Rattle.kv_model.specs.Txns.{extend_all, added_by}
 use Rattle.kv_model.specs.Told.{Answer, Reply}
 use Rattle.kv_model.specs.Wire.{raised, number_made, changes_beside}
 use Rattle.kv_model.specs.World.{World, revision, changed}
 use Rattle.kv_model.specs.Step.{Made, last_main, made_in, perform, refused_or, commit_at, world_of, answer_of as answer_of_made}
-use Rattle.store_laws.specs.Stands.{Store, StandsFor, grown}
+use Rattle.store_laws.specs.Stands.{Store, StandsFor, grown_noted, noted}
+use Rattle.store_laws.proofs.BatchLaws.{extend_all-added}
 use Rattle.store_laws.proofs.StandsCommands.{answer_refused}
 use Rattle.request_core.specs.declared.answer.Receipt.{Receipt}
 use Rattle.request_core.specs.declared.answer.Todo.{Todo}
-use Rattle.request_core.specs.State.{CoreState, counted, is_spent, raised_from, stamp_after, with_any}
+use Rattle.request_core.specs.State.{CoreState, counted, is_spent, raised_from, stamp_after, with_any, with_versions}
 use Rattle.request_core.specs.Answers.{IsAllowed, IsRefusal, answer_of, has_changed, is_beside, is_memory, reply_left}
 use Rattle.request_core.specs.Commands.{CarriesOut, Does, IsIssued, Makes, Moves, first_refusal}
 
@@ -127,6 +129,19 @@ any_moves s (v ∷ vs) b = record {
   watches = refl;
 }
 
+-- a list is told by what stands before it and the two together
+behind-same : {X : Type 0} (xs ys zs : List X) → xs ++ ys ≡ xs ++ zs → ys ≡ zs
+behind-same [] ys zs e = e
+behind-same (x ∷ xs) ys zs e = behind-same xs ys zs (cc)
+
+-- changes that add these versions as the next revision, of which the watches take note
+pub grows_by : (s : CoreState) (us : List Mutation) (vs : List Version) → extend_all s.store.versions us ≡ s.store.versions ++ vs
+    → now_after s.store.revision us ≡ s.store.revision + 1 → grown_noted s.store us ≡ (with_versions s vs).store
+grows_by s us vs added rose =
+    let noted_of : added_by s.store.versions us ≡ vs
+    = behind-same s.store.versions (added_by s.store.versions us) vs (sym (extend_all-added s.store.versions us) ∙ added) in
+    λ i. record s.store { versions = added i; revision = rose i; watches = map (noted (noted_of i) (rose i)) s.store.watches }
+
 -- the world after changes, where there are some
 abbrev pub changed_by : World → List Mutation → World
 changed_by w [] = w
@@ -135,8 +150,8 @@ changed_by w (u ∷ us) = changed w (u ∷ us)
 -- a store grows by changes, where there are some, in a world that it stands for
 pub record Commits (s new : Store) (us : List Mutation) (w : World) : Type 0 where
   pub stood : StandsFor s w
-  pub stands : StandsFor (grown s us) (changed w us)
-  pub grows : us ≢ [] → grown s us ≡ new
+  pub stands : StandsFor (grown_noted s us) (changed w us)
+  pub grows : us ≢ [] → grown_noted s us ≡ new
   pub stays : us ≡ [] → s ≡ new
 
 pub committed : (s new : Store) (us : List Mutation) (w : World) → Commits s new us w → StandsFor new (changed_by w us)

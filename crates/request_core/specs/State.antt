@@ -1,5 +1,5 @@
 -- What a core holds, and how a command changes it.
-use Rattle.std.specs.Prelude.{◌≡◌, ℕ, ℤ, pos, ◌+◌, ◌<◌, ◌≤◌, ◌%◌, ◌^◌, List, [], ◌∷◌, ◌++◌, map, Bool, true, not, ◌&&◌}
+use Rattle.std.specs.Prelude.{◌≡◌, ℕ, ℤ, pos, ◌+◌, ◌<◌, ◌≤◌, ◌%◌, ◌^◌, List, [], ◌∷◌, ◌++◌, map, drop, Bool, true, not, ◌&&◌}
 use Rattle.std.specs.Prelude.{nat_lt, filter, Option, None, Some, option_map, if◌then◌else◌}
 use Rattle.std.specs.Option.{option_or}
 use Rattle.std.specs.List.{AllByRecursion}
@@ -21,7 +21,8 @@ use Rattle.kv_model.specs.Txns as txns
 use Rattle.kv_model.specs.World.{World, opening}
 use Rattle.kv_model.specs.History.{Mutation, KeyValue, put, value_at, end_of, rev_le}
 use Rattle.kv_model.specs.Step.{last_main}
-use Rattle.store_laws.specs.Stands.{Store}
+use Rattle.store_laws.specs.Stands.{Store, noted}
+use Rattle.watch_hub.specs.Hub.{Hub}
 use Rattle.store_laws.specs.Stores.{path_in, refusal_of_path, changes_of_path, refusal_of_delete, with_leases}
 use Rattle.store_laws.specs.Stores.{granted_lease, refusal_of_revoke, renewed_leases, at_store_moment}
 use Rattle.lease_book.specs.Book.{Book}
@@ -34,20 +35,24 @@ pub record CoreState : Type 0 where
   pub store : Store
   pub stamp : ℕ
 
--- the store that tables and a book keep, without watches
-abbrev pub store_kept : Stored → Book → Store
-store_kept t b = record {
+-- the store that tables, a book and a hub keep
+abbrev pub store_kept : Stored → Book → Hub → Store
+store_kept t b h = record {
   versions = t.versions;
   revision = t.revision;
   compacted = t.compacted;
   leases = b.leases;
   clock = b.clock;
-  watches = [];
-  made = 0;
+  watches = h.watches;
+  made = h.made;
 }
 
-abbrev pub core_state : Stored → Book → ℕ → CoreState
-core_state t b stamp = record { store = store_kept t b; stamp = stamp }
+abbrev pub core_state : Stored → Book → Hub → ℕ → CoreState
+core_state t b h stamp = record { store = store_kept t b h; stamp = stamp }
+
+-- before the first watch
+abbrev pub no_watches : Hub
+no_watches = record { watches = []; made = 0 }
 
 -- what is true of the fields of every core
 pub record IsSound (t : Stored) : Type 0 where
@@ -82,13 +87,29 @@ stamp_after changed n = if changed then (n + 1) % 2 ^ 64 else n
 abbrev pub counted : Bool → CoreState → CoreState
 counted changed s = record s { stamp = stamp_after changed s.stamp }
 
--- with the versions of the next revision
+-- with the versions of the next revision, of which the watches take note
 abbrev pub with_versions : CoreState → List Version → CoreState
 with_versions s vs = record s {
   store = record s.store {
     versions = s.store.versions ++ vs;
     revision = s.store.revision + 1;
+    watches = map (noted vs (s.store.revision + 1)) s.store.watches;
   };
+}
+
+-- with them, before the watches take note
+abbrev pub with_unnoted : CoreState → List Version → CoreState
+with_unnoted s vs = record s {
+  store = record s.store {
+    versions = s.store.versions ++ vs;
+    revision = s.store.revision + 1;
+  };
+}
+
+-- the watches take note of the versions from an index on, which are of the present revision
+abbrev pub noted_from : ℕ → CoreState → CoreState
+noted_from n s = record s {
+  store = record s.store { watches = map (noted (drop n s.store.versions) s.store.revision) s.store.watches };
 }
 
 -- with these versions as the next revision, where there are some

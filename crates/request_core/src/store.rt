@@ -3,7 +3,7 @@ ghost use Rattle.kv_model.specs.Feed.{Published, published};
 ghost use Rattle.range_view.specs.Replies.{kv_view, reply_view};
 ghost use Rattle.request_core.specs.Writing.{AreNext, IsHeldTo};
 ghost use Rattle.kv_model.specs.Step.{last_main};
-ghost use Rattle.std.specs.Prelude.{◌≡◌, ◌≢◌, [], true, is_ok, option_map, ◌<◌, ◌≤◌, length};
+ghost use Rattle.std.specs.Prelude.{◌≡◌, ◌≢◌, [], true, is_ok, option_map, ◌<◌, ◌≤◌, drop, length};
 ghost use Rattle.std.specs.Prelude.{IfOk, IfErr, OnOk, OnErr};
 
 mod deleting;
@@ -30,6 +30,7 @@ use range_view::reply::KvRef;
 use range_view::tables::Tables;
 use std::alloc::{AllocError, Global};
 use std::marker::Model;
+use watch_hub::WatchHub;
 
 /// The greatest revision.
 pub const LAST_MAIN: u64 = 9_223_372_036_854_775_807;
@@ -41,6 +42,7 @@ pub struct Core {
     tables: Tables,
     book: LeaseBook,
     keys: LeaseKeys,
+    hub: WatchHub,
     stamp: u64,
 }
 
@@ -51,7 +53,7 @@ impl Model for Core {
 
     ghost Value = { CoreState };
 
-    ghost view = { λ c. core_state c.tables c.book c.stamp };
+    ghost view = { λ c. core_state c.tables c.book c.hub c.stamp };
 
     ghost invariant = { λ c. IsSound c.tables × Holds c.keys (value_now c.tables.versions) };
 }
@@ -61,7 +63,7 @@ impl Core {
     ghost use Rattle.kv_model.specs.World.{opening};
     ghost use Rattle.store_laws.specs.Stands.{StandsFor};
     ghost use Rattle.request_core.specs.State.{CoreState, IsTold, added_by, core_state, held_in};
-    ghost use Rattle.request_core.specs.State.{is_spent, with_any, with_versions};
+    ghost use Rattle.request_core.specs.State.{is_spent, no_watches, noted_from, with_any, with_unnoted, with_versions};
     ghost use Rattle.range_view.specs.Stored.{blank_at};
     ghost use Rattle.request_core.specs.Answers.{IsReadable, answer_view, answer_of, is_free};
     ghost use Rattle.request_core.specs.Commands.{CarriesOut, Does, Refuses};
@@ -78,13 +80,14 @@ impl Core {
     fn at(alloc: Global, revision: u64) -> Self
         requires opened { 1 ≤ revision }
         requires fits { revision ≤ last_main }
-        ensures { result ≡ core_state (blank_at revision) (record { leases = []; clock = 0 }) 0 }
+        ensures { result ≡ core_state (blank_at revision) (record { leases = []; clock = 0 }) no_watches 0 }
     {
         Core {
             alloc,
             tables: Tables::at(alloc, revision),
             book: LeaseBook::new(alloc),
             keys: LeaseKeys::new(alloc),
+            hub: WatchHub::new(alloc),
             stamp: 0,
         }
     }
@@ -286,12 +289,51 @@ impl Core {
         self.append(versions, sink)
     }
 
-    /// Appends the versions of the next revision, once the sink has taken them. Where that fails, the
-    /// index of leases may have some pairs more.
+    /// Appends the versions of the next revision, once the sink has taken them, and the watches take
+    /// note of them.
     fn append<S: Sink>(&mut self, versions: Vec<Version>, sink: &mut S) -> Result<(), AllocError>
         requires room { self.old.store.revision < last_main }
         requires next { AreNext self.old.store.revision versions.items }
         ensures ok { OnOk result (self.new ≡ with_versions self.old versions.items) }
+        ensures told { OnOk result (S.takes sink.old (Published.batch versions.items) sink.new) }
+        ensures err { OnErr result ((self.new ≡ self.old) × (sink.new ≡ sink.old)) }
+    {
+        let before = self.count();
+        match self.append_unnoted(versions, sink) {
+            Ok(()) => {
+                self.note_from(before);
+                Ok(())
+            }
+            Err(full) => Err(full),
+        }
+    }
+
+    /// How many versions are kept.
+    fn count(&self) -> usize
+        ensures { result ≡ length self.now.store.versions }
+    {
+        self.tables.versions().len()
+    }
+
+    /// The watches take note of the versions from an index on, which are of the present revision.
+    fn note_from(&mut self, index: usize)
+        requires { index ≤ length self.old.store.versions }
+        ensures { self.new ≡ noted_from index self.old }
+    {
+        let versions = rest_from(self.tables.versions(), index);
+        self.hub.note(versions, self.tables.revision());
+    }
+
+    /// Appends the versions of the next revision, once the sink has taken them. Where that fails, the
+    /// index of leases may have some pairs more.
+    fn append_unnoted<S: Sink>(
+        &mut self,
+        versions: Vec<Version>,
+        sink: &mut S,
+    ) -> Result<(), AllocError>
+        requires room { self.old.store.revision < last_main }
+        requires next { AreNext self.old.store.revision versions.items }
+        ensures ok { OnOk result (self.new ≡ with_unnoted self.old versions.items) }
         ensures told { OnOk result (S.takes sink.old (Published.batch versions.items) sink.new) }
         ensures err { OnErr result ((self.new ≡ self.old) × (sink.new ≡ sink.old)) }
     {
@@ -305,6 +347,15 @@ impl Core {
         }
         Ok(())
     }
+}
+
+/// The versions from an index on.
+fn rest_from(versions: &[Version], index: usize) -> &[Version]
+    requires { index ≤ length versions.now }
+    ensures { result.now ≡ drop index versions.now }
+{
+    let (_, rest) = versions.split_at(index);
+    rest
 }
 
 /// The batch of versions, which are cloned.

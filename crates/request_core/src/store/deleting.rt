@@ -49,7 +49,6 @@ impl Core {
     fn delete<S: Sink>(&mut self, request: &DeleteRequest, sink: &mut S) -> Result<u64, Refusal>
         ensures made { IfOk result (λ n. (fault_of_delete self.old.store request.now ≡ None) × (self.new ≡ after_delete self.old request.now)) }
         ensures counted { IfOk result (λ n. n ≡ length (live_in self.old.store request.now.range)) }
-        ensures quiet { self.old.store.watches ≡ [] }
         ensures told { OnOk result (IsTold S.takes (added_by self.old.store (Call.delete request.now)) sink.old sink.new) }
         ensures refused { IfErr result (λ e. IsRefusal e (fault_of_delete self.old.store request.now)) }
         ensures err { OnErr result ((self.new ≡ self.old) × (sink.new ≡ sink.old)) }
@@ -68,7 +67,6 @@ impl Core {
     /// The tombstones that a delete adds, or its first refusal.
     fn versions_of_delete(&self, request: &DeleteRequest) -> Result<Vec<Version>, Refusal>
         ensures made { IfOk result (λ vs. (fault_of_delete self.now.store request.now ≡ None) × (vs.items ≡ added_by_delete self.now.store request.now)) }
-        ensures quiet { self.now.store.watches ≡ [] }
         ensures refused { IfErr result (λ e. IsRefusal e (fault_of_delete self.now.store request.now)) }
     {
         let main = self.tables.revision() + 1;

@@ -47,7 +47,6 @@ impl Core {
     /// Appends the version that a put makes. What can fail comes first, and the sink's taking last.
     fn put<S: Sink>(&mut self, request: &PutRequest, sink: &mut S) -> Result<(), Refusal>
         ensures made { OnOk result ((fault_of_put self.old.store request.now ≡ None) × (self.new ≡ after_put self.old request.now)) }
-        ensures quiet { self.old.store.watches ≡ [] }
         ensures told { OnOk result (IsTold S.takes (added_by self.old.store (Call.put request.now)) sink.old sink.new) }
         ensures refused { IfErr result (λ e. IsRefusal e (fault_of_put self.old.store request.now)) }
         ensures err { OnErr result ((self.new ≡ self.old) × (sink.new ≡ sink.old)) }
@@ -65,7 +64,6 @@ impl Core {
     /// The one version that a put adds, or its first refusal.
     fn versions_of_put(&self, request: &PutRequest) -> Result<Vec<Version>, Refusal>
         ensures made { IfOk result (λ vs. (fault_of_put self.now.store request.now ≡ None) × (vs.items ≡ added_by_put self.now.store request.now ∷ [])) }
-        ensures quiet { self.now.store.watches ≡ [] }
         ensures next { IfOk result (λ vs. AreNext self.now.store.revision vs.items) }
         ensures refused { IfErr result (λ e. IsRefusal e (fault_of_put self.now.store request.now)) }
     {

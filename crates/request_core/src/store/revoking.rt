@@ -44,7 +44,6 @@ impl Core {
     pub(crate) fn revoke<S: Sink>(&mut self, id: i64, sink: &mut S) -> Result<u64, Refusal>
         ensures made { IfOk result (λ n. (fault_of_revoke self.old.store id ≡ None) × (self.new ≡ after_revoke self.old id)) }
         ensures counted { IfOk result (λ n. n ≡ length (leased_in self.old.store id)) }
-        ensures quiet { self.old.store.watches ≡ [] }
         ensures told { OnOk result (IsTold S.takes (added_by_revoke self.old.store id) sink.old sink.new) }
         ensures refused { IfErr result (λ e. IsRefusal e (fault_of_revoke self.old.store id)) }
         ensures err { OnErr result ((self.new ≡ self.old) × (sink.new ≡ sink.old)) }
@@ -64,7 +63,6 @@ impl Core {
     /// The tombstones that a revoke adds, or its first refusal.
     fn versions_of_revoke(&self, id: i64) -> Result<Vec<Version>, Refusal>
         ensures made { IfOk result (λ vs. (fault_of_revoke self.now.store id ≡ None) × (vs.items ≡ added_by_revoke self.now.store id)) }
-        ensures quiet { self.now.store.watches ≡ [] }
         ensures reached { AreReached self.now.store }
         ensures refused { IfErr result (λ e. IsRefusal e (fault_of_revoke self.now.store id)) }
     {

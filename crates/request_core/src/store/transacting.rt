@@ -66,7 +66,6 @@ impl Core {
         ensures upto { IsUpTo self.old.store.revision self.old.store.versions }
         ensures places { AllByRecursion (λ v. v.rev.sub < 2 ^ 64) self.old.store.versions }
         ensures fits { self.old.store.revision ≤ last_main }
-        ensures quiet { self.old.store.watches ≡ [] }
         ensures told { OnOk result (IsTold S.takes (added_by_txn self.old.store (txn_view txn.now)) sink.old sink.new) }
         ensures refused { IfErr result (λ e. IsRefusal e (fault_of_txn self.old.store (txn_view txn.now))) }
         ensures err { OnErr result ((self.new ≡ self.old) × (sink.new ≡ sink.old)) }
@@ -94,7 +93,6 @@ impl Core {
         ensures places { AllByRecursion (λ v. v.rev.sub < 2 ^ 64) self.now.store.versions }
         ensures fits { self.now.store.revision ≤ last_main }
         ensures counted { AllByRecursion (λ v. IsCountedTo self.now.store.revision v.body) self.now.store.versions }
-        ensures quiet { self.now.store.watches ≡ [] }
         ensures refused { IfErr result (λ e. IsRefusal e (fault_of_txn self.now.store (txn_view txn.now))) }
     {
         let view = self.view();

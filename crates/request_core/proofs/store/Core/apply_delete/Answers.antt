@@ -4,7 +4,6 @@ use Rattle.request_core.proofs.store.Core.apply_delete.Goals as goal
 
 pub returns-in-Ok-clause-done : goal.returns-in-Ok-clause-done
 returns-in-Ok-clause-done g c = delete_done c.args.self.now c.delete.new.self c.args.request.now c.in-Ok.deleted _ refl (record {
-  quiet = c.in-Ok.ensures.quiet;
   clear = c.in-Ok.ensures.made.0;
   made = c.in-Ok.ensures.made.1;
   counted = c.in-Ok.ensures.counted;

@@ -4,7 +4,6 @@ use Rattle.request_core.proofs.store.Core.apply_put.Goals as goal
 
 pub returns-clause-done : goal.returns-clause-done
 returns-clause-done g c = put_done c.args.self.now c.put.new.self c.args.request.now _ refl (record {
-  quiet = c.in_default.ensures.quiet;
   clear = c.in_default.ensures.made.0;
   made = c.in_default.ensures.made.1;
 })

@@ -9,7 +9,6 @@ returns-in-Ok-clause-done g c =
     let made = rw (to_z-of_z w64 c.args.id c.ranges.id) at c.in-Ok.ensures.made in
     let counted = rw (to_z-of_z w64 c.args.id c.ranges.id) at c.in-Ok.ensures.counted in
     revoke_done c.args.self.now c.revoke.new.self c.args.id _ (record {
-      quiet = c.in-Ok.ensures.quiet;
       clear = made.0;
       made = made.1;
       counted = counted;

@@ -14,7 +14,7 @@ returns-in-Ok-clause-done g c =
     lease_expires c.args.self.now c.expired.new.self c.args.id c.expired.result (record {
       keys = c.in-Ok.deleted;
       revoked = c.revoke.new.self;
-      was = record { quiet = c.in-Ok.ensures.quiet; clear = made.0; made = made.1; counted = counted; few = search rules };
+      was = record { clear = made.0; made = made.1; counted = counted; few = search rules };
       due_is = c.requires;
       told = told;
       counts = c.expired.ensures.counts;

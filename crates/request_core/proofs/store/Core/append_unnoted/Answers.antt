@@ -1,0 +1,53 @@
+use Rattle.std.proofs.Common.{◌+◌, ◌<◌, sym, ◌∙◌, ap, subst}
+use Rattle.kv_model.specs.History.{value_now}
+use Rattle.kv_model.specs.Step.{last_main}
+use Rattle.lease_keys.specs.Holding.{Holds}
+use Rattle.lease_keys.proofs.Holding.{holds-grown, holds-within, put-within}
+use Rattle.range_view.specs.Stored.{Stored, appended, retracted_to}
+use Rattle.range_view.proofs.Growing.{retracted_to-appended}
+use Rattle.request_core.specs.Writing.{AreNext}
+use Rattle.request_core.specs.State.{CoreState, IsSound, core_state, with_unnoted}
+use Rattle.request_core.proofs.Kept.{sound-appended, grown-state}
+use Rattle.request_core.proofs.store.Core.append_unnoted.Goals as goal
+
+pub invariant_of-self-in-Err : goal.invariant_of-self-in-Err
+invariant_of-self-in-Err g c =
+    let t = c.self.inside.tables in
+    let vs = c.args.versions.items in
+    let next = subst (λ r. AreNext r vs) (sym (ap (λ (s : CoreState). s.store.revision) c.self.view_is)) c.requires.next in
+    let back = c.retract.ensures ∙ ap (retracted_to (c.revision-main.result + 1)) c.in_ok-append.ensures.ok
+    ∙ ap (λ n. retracted_to (n + 1) (appended t vs)) c.revision-main.ensures.value ∙ retracted_to-appended t vs c.revision-main.ensures.stored next.next in
+    let put = rw c.deref.ensures.value at c.in_ok-add_all.ensures.ok in (
+      subst IsSound (sym back) c.self.invariant.0,
+      subst (λ (u : Stored). Holds c.add_all.new.self (value_now u.versions)) (sym back)
+          (holds-within c.self.inside.keys c.add_all.new.self (value_now t.versions) (put-within vs c.self.inside.keys c.add_all.new.self put) c.self.invariant.1),
+    )
+
+pub returns-in-Err-clause-err : goal.returns-in-Err-clause-err
+returns-in-Err-clause-err g c =
+    let t = c.self.inside.tables in
+    let vs = c.args.versions.items in
+    let next = subst (λ r. AreNext r vs) (sym (ap (λ (s : CoreState). s.store.revision) c.self.view_is)) c.requires.next in
+    let back = c.retract.ensures ∙ ap (retracted_to (c.revision-main.result + 1)) c.in_ok-append.ensures.ok
+    ∙ ap (λ n. retracted_to (n + 1) (appended t vs)) c.revision-main.ensures.value ∙ retracted_to-appended t vs c.revision-main.ensures.stored next.next in
+    (ap (λ (u : Stored). core_state u c.self.inside.book c.self.inside.hub c.self.inside.stamp) back ∙ c.self.view_is, c.in-Err.ensures.err)
+
+pub invariant_of-self-in_default : goal.invariant_of-self-in_default
+invariant_of-self-in_default g c =
+    let t = c.self.inside.tables in
+    let vs = c.args.versions.items in
+    let same = ap (λ (s : CoreState). s.store.revision) c.self.view_is in
+    let put = rw c.deref.ensures.value at c.in_ok-add_all.ensures.ok in (
+      subst IsSound (sym c.in_ok-append.ensures.ok)
+          (sound-appended t vs c.self.invariant.0 (subst (λ r. r < last_main) (sym same) c.requires.room) (subst (λ r. AreNext r vs) (sym same) c.requires.next)),
+      subst (λ (u : Stored). Holds c.add_all.new.self (value_now u.versions)) (sym c.in_ok-append.ensures.ok)
+          (holds-grown c.self.inside.keys c.add_all.new.self t.versions vs put c.self.invariant.1),
+    )
+
+pub returns-clause-ok : goal.returns-clause-ok
+returns-clause-ok g c =
+    let t = c.self.inside.tables in
+    let vs = c.args.versions.items in
+    let next = subst (λ r. AreNext r vs) (sym (ap (λ (s : CoreState). s.store.revision) c.self.view_is)) c.requires.next in
+    ap (λ (u : Stored). core_state u c.self.inside.book c.self.inside.hub c.self.inside.stamp) c.in_ok-append.ensures.ok
+    ∙ grown-state t c.self.inside.book c.self.inside.hub vs c.self.inside.stamp next ∙ ap (λ (s : CoreState). with_unnoted s vs) c.self.view_is
