@@ -89,7 +89,7 @@ back : (a k : List ℕ) (o : Ordering) → key_cmp k a ≡ o → key_cmp a k ≡
 back a k o e = nat_list_cmp_total.antisymm a k ∙ ap ordering_reverse e
 
 -- a key is below another, or not
-pub count-from : (a : List ℕ) (ks : List (List ℕ)) → length ks ≡ count_of (λ k. key_lt k a) ks + count_of (λ k. key_le a k) ks
+count-from : (a : List ℕ) (ks : List (List ℕ)) → length ks ≡ count_of (λ k. key_lt k a) ks + count_of (λ k. key_le a k) ks
 count-from a [] = omega arith
 count-from a (k ∷ ks) = omega (arith, each (key_cmp k a) refl, count-from a ks)
   where
@@ -151,44 +151,21 @@ pub on-ok : {A E : Type 0} (r : Result A E) (P : Type 0) → P → OnOk r P
 on-ok (Ok x) P p = p
 on-ok (Err x) P p = tt
 
--- ---- the keys of a range
-
-count-true : (ks : List (Bor (List ℕ))) → length ks ≡ count_of (λ k. true) (keys_view ks)
-count-true [] = refl
-count-true (k ∷ ks) = omega (arith, count-true ks)
+-- ---- counts of all, and of what passes equal tests
 
 length-view : (ks : List (Bor (List ℕ))) → length ks ≡ length (keys_view ks)
 length-view [] = refl
 length-view (k ∷ ks) = ap suc (length-view ks)
 
-pub range-one : (r : KeyRange) (ks : List (List ℕ)) → is_empty r.end ≡ true → count_of (same_key r.key) ks ≡ count_of (in_range r) ks
-range-one r ks e = sym (λ i. count_of (λ k. (each k ∙ same_key-comm k r.key) i) ks)
-  where
-    each : (k : List ℕ) → in_range r k ≡ same_key k r.key
-    each k = rw e refl
+pub count-all : (ks : List (Bor (List ℕ))) → length ks ≡ count_of (λ k. true) (keys_view ks)
+count-all [] = refl
+count-all (k ∷ ks) = omega (arith, count-all ks)
 
-pub range-all : (r : KeyRange) (ks : List (Bor (List ℕ))) → is_empty r.end ≡ false → same_key r.end zero_byte ≡ true → same_key r.key zero_byte ≡ true → length ks ≡ count_of (in_range r) (keys_view ks)
-range-all r ks e f g = count-true ks ∙ sym (λ i. count_of (λ k. each k i) (keys_view ks))
-  where
-    each : (k : List ℕ) → in_range r k ≡ true
-    each k = rw (e, f, g) refl
+pub counts-same : (p q : List ℕ → Bool) → ((k : List ℕ) → p k ≡ q k) → (ks : List (List ℕ)) → count_of p ks ≡ count_of q ks
+counts-same p q h ks = λ i. count_of (λ k. h k i) ks
 
-pub range-from : (r : KeyRange) (ks : List (Bor (List ℕ))) → is_empty r.end ≡ false → same_key r.end zero_byte ≡ true → same_key r.key zero_byte ≡ false
-    → length ks ≡ count_of (λ k. key_lt k r.key) (keys_view ks) + count_of (in_range r) (keys_view ks)
-range-from r ks e f g = length-view ks ∙ count-from r.key (keys_view ks) ∙ ap (λ n. count_of (λ k. key_lt k r.key) (keys_view ks) + n) (sym (λ i. count_of (λ k. each k i) (keys_view ks)))
-  where
-    each : (k : List ℕ) → in_range r k ≡ key_le r.key k
-    each k = rw (e, f, g) refl
-
-between : (r : KeyRange) (ks : List (List ℕ)) → is_empty r.end ≡ false → same_key r.end zero_byte ≡ false → count_of (in_range r) ks ≡ count_of (λ k. key_le r.key k && key_lt k r.end) ks
-between r ks e f = λ i. count_of (λ k. each k i) ks
-  where
-    each : (k : List ℕ) → in_range r k ≡ (key_le r.key k && key_lt k r.end)
-    each k = rw (e, f) refl
-
-pub range-none : (r : KeyRange) (ks : List (List ℕ)) → is_empty r.end ≡ false → same_key r.end zero_byte ≡ false → key_lt r.end r.key ≡ true → 0 ≡ count_of (in_range r) ks
-range-none r ks e f h = count-none r.key r.end ks h ∙ sym (between r ks e f)
-
-pub range-between : (r : KeyRange) (ks : List (List ℕ)) → is_empty r.end ≡ false → same_key r.end zero_byte ≡ false → key_lt r.end r.key ≡ false
-    → count_of (λ k. key_lt k r.end) ks ≡ count_of (λ k. key_lt k r.key) ks + count_of (in_range r) ks
-range-between r ks e f h = count-between r.key r.end ks h ∙ ap (λ n. count_of (λ k. key_lt k r.key) ks + n) (sym (between r ks e f))
+-- the keys from one on are those that are not below it
+pub from-counted : (a : List ℕ) (p : List ℕ → Bool) → ((k : List ℕ) → key_le a k ≡ p k) → (ks : List (Bor (List ℕ)))
+    → length ks ≡ count_of (λ k. key_lt k a) (keys_view ks) + count_of p (keys_view ks)
+from-counted a p h ks = length-view ks ∙ count-from a (keys_view ks)
+    ∙ ap (λ n. count_of (λ k. key_lt k a) (keys_view ks) + n) (counts-same (key_le a) p h (keys_view ks))
