@@ -24,6 +24,7 @@ use Rattle.txn_core.specs.Touching.{bit, count_of, keys_put, count_touched, meet
 use Rattle.txn_core.specs.declared.touched.Touched.{Touched}
 use Rattle.txn_core.specs.Views.{touch_view}
 use Rattle.txn_core.proofs.Walking.{txn_view-out, op_view-Range, op_view-Put, op_view-Delete}
+use Rattle.txn_core.proofs.Elements.{At, from-here}
 
 -- ---- laws of or
 
@@ -258,20 +259,10 @@ pub clashes-delete : (d : DeleteRequest) → clashes (op_view (Delete d)) ≡ fa
 unfolding clashes
 clashes-delete d = ap clashes (op_view-Delete d)
 
-pub touches-step : (os : List Operation) (i : ℕ) (o : Operation) → i < length os → o ≡ get_or os i o → touches (ops_view (drop i os)) ≡ touches (op_view o) ++ touches (ops_view (drop (i + 1) os))
-touches-step os i o h e =
-    ap (λ (ps : List Operation). touches (ops_view ps)) (drop-cons os i o h)
-    ∙ touches-then (op_view (get_or os i o)) (ops_view (drop (suc i) os))
-    ∙ ap (λ (p : Operation). touches (op_view p) ++ touches (ops_view (drop (suc i) os))) (sym e)
-    ∙ ap (λ n. touches (op_view o) ++ touches (ops_view (drop n os))) (sym (add-one i))
-
--- a test of the operations, as far as it has failed
-pub any-later : {X : Type 0} (p : X → Bool) (os : List X) (i : ℕ) (o : X) → i < length os → o ≡ get_or os i o → p o ≡ false → list_any p (drop (i + 1) os) ≡ list_any p (drop i os)
-any-later p os i o h e fails =
-    ap (λ n. list_any p (drop n os)) (add-one i) ∙ sym (ap (list_any p) (drop-cons os i o h) ∙ ap (λ b. b || list_any p (drop (suc i) os)) (ap p (sym e) ∙ fails))
-
-pub any-here : {X : Type 0} (p : X → Bool) (os : List X) (i : ℕ) (o : X) → i < length os → o ≡ get_or os i o → p o ≡ true → true ≡ list_any p (drop i os)
-any-here p os i o h e holds = sym (ap (list_any p) (drop-cons os i o h) ∙ ap (λ b. b || list_any p (drop (suc i) os)) (ap p (sym e) ∙ holds))
+pub touches-step : (os : List Operation) (a : At os)
+    → touches (ops_view (drop a.index os)) ≡ touches (op_view a.value) ++ touches (ops_view (drop (a.index + 1) os))
+touches-step os a = ap (λ (ps : List Operation). touches (ops_view ps)) (from-here os a)
+    ∙ touches-then (op_view a.value) (ops_view (drop (a.index + 1) os))
 
 pub any-map : {X Y : Type 0} (f : X → Y) (p : Y → Bool) (xs : List X) → list_any p (map f xs) ≡ list_any (λ x. p (f x)) xs
 any-map f p [] = refl

@@ -22,6 +22,7 @@ use Rattle.txn_core.specs.declared.step.Step.{Step}
 use Rattle.txn_core.specs.Planning.{made, refusal_of, is_memory, IsRefusal, path_in, made_in, refusal_in}
 use Rattle.txn_core.specs.Steps.{in_row, step_view}
 use Rattle.txn_core.proofs.Walking.{txn_view-out, op_view-Range, op_view-Put, op_view-Delete}
+use Rattle.txn_core.proofs.Elements.{At, from-here}
 
 -- ---- refusals
 
@@ -167,11 +168,8 @@ refusal-txn v ls b q = or-none (refusal_in v ls q)
 
 -- ---- a row
 
-pub row-split : (os : List Operation) (i : ℕ) (o : Operation) → i < length os → o ≡ get_or os i o → ops_view (drop i os) ≡ then (op_view o) (ops_view (drop (i + 1) os))
-row-split os i o h e =
-    ap ops_view (drop-cons os i o h)
-    ∙ ap (λ p. then (op_view p) (ops_view (drop (suc i) os))) (sym e)
-    ∙ ap (λ n. then (op_view o) (ops_view (drop n os))) (sym (add-one i))
+pub row-split : (os : List Operation) (a : At os) → ops_view (drop a.index os) ≡ then (op_view a.value) (ops_view (drop (a.index + 1) os))
+row-split os a = ap ops_view (from-here os a)
 
 pub row-end : (v : Viewed) (os : List Operation) (i : ℕ) → length os ≤ i → path_in v (ops_view (drop i os)) ≡ Path.end
 unfolding path_of

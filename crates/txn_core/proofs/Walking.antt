@@ -16,6 +16,7 @@ use Rattle.kv_model.specs.declared.refusal.Refusal.TheVariants.{NoKey, TooDeep}
 use Rattle.kv_model.specs.Calls.{Ops, then, op_step, txn_step, op_view, txn_view, ops_view}
 use Rattle.kv_model.specs.Lists.{is_empty}
 use Rattle.kv_model.specs.Ranges.{refuse_if}
+use Rattle.txn_core.proofs.Elements.{At, from-here}
 use Rattle.kv_model.specs.Txns.{most_depth, row_length, put_fault, compares_fault, size_fault, walk_fault}
 
 -- ---- what the program's transactions are as rows
@@ -139,21 +140,21 @@ failure_last depth t r s u h e none f none-2 g = g ∙ sym (not_deep depth t h �
 
 -- ---- one operation of a row
 
-row_step : (depth : ℕ) (os : List Operation) (i : ℕ) (o : Operation) → i < length os → o ≡ get_or os i o
-    → walk_fault depth (ops_view (drop i os)) ≡ option_or (walk_fault depth (op_view o)) (walk_fault depth (ops_view (drop (i + 1) os)))
-row_step depth os i o h e =
-    ap (λ (ps : List Operation). walk_fault depth (ops_view ps)) (drop-cons os i o h)
-    ∙ walk_fault-then depth (op_view (get_or os i o)) (ops_view (drop (suc i) os))
-    ∙ ap (λ (p : Operation). option_or (walk_fault depth (op_view p)) (walk_fault depth (ops_view (drop (suc i) os)))) (sym e)
-    ∙ ap (λ n. option_or (walk_fault depth (op_view o)) (walk_fault depth (ops_view (drop n os)))) (sym (add-one i))
+row_step : (depth : ℕ) (os : List Operation) (a : At os)
+    → walk_fault depth (ops_view (drop a.index os))
+    ≡ option_or (walk_fault depth (op_view a.value)) (walk_fault depth (ops_view (drop (a.index + 1) os)))
+row_step depth os a = ap (λ (ps : List Operation). walk_fault depth (ops_view ps)) (from-here os a)
+    ∙ walk_fault-then depth (op_view a.value) (ops_view (drop (a.index + 1) os))
 
-pub row_fault-here : (depth : ℕ) (os : List Operation) (i : ℕ) (o : Operation) (r : Option Refusal) → i < length os → o ≡ get_or os i o
-    → r ≡ walk_fault depth (op_view o) → is_some r ≡ true → r ≡ walk_fault depth (ops_view (drop i os))
-row_fault-here depth os i o r h e f some = f ∙ sym (row_step depth os i o h e ∙ or-some (walk_fault depth (op_view o)) _ (sym (ap is_some f) ∙ some))
+pub row_fault-here : (depth : ℕ) (os : List Operation) (a : At os) (r : Option Refusal) → r ≡ walk_fault depth (op_view a.value)
+    → is_some r ≡ true → r ≡ walk_fault depth (ops_view (drop a.index os))
+row_fault-here depth os a r f some =
+    f ∙ sym (row_step depth os a ∙ or-some (walk_fault depth (op_view a.value)) _ (sym (ap is_some f) ∙ some))
 
-pub row_fault-later : (depth : ℕ) (os : List Operation) (i : ℕ) (o : Operation) (r : Option Refusal) → i < length os → o ≡ get_or os i o
-    → r ≡ walk_fault depth (op_view o) → is_some r ≡ false → walk_fault depth (ops_view (drop (i + 1) os)) ≡ walk_fault depth (ops_view (drop i os))
-row_fault-later depth os i o r h e f none = sym (row_step depth os i o h e ∙ or-none (walk_fault depth (op_view o)) _ (sym (ap is_some f) ∙ none))
+pub row_fault-later : (depth : ℕ) (os : List Operation) (a : At os) (r : Option Refusal) → r ≡ walk_fault depth (op_view a.value)
+    → is_some r ≡ false → walk_fault depth (ops_view (drop (a.index + 1) os)) ≡ walk_fault depth (ops_view (drop a.index os))
+row_fault-later depth os a r f none =
+    sym (row_step depth os a ∙ or-none (walk_fault depth (op_view a.value)) _ (sym (ap is_some f) ∙ none))
 
 pub row_fault-end : (depth : ℕ) (os : List Operation) (i : ℕ) → length os ≤ i → None ≡ walk_fault depth (ops_view (drop i os))
 unfolding walk_fault

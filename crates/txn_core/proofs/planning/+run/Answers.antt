@@ -12,6 +12,7 @@ use Rattle.txn_core.specs.KeyWrites.{held_refusal}
 use Rattle.txn_core.specs.Planning.{made, refusal_of, IsRefusal, path_in, made_in, refusal_in}
 use Rattle.txn_core.specs.Steps.{in_row, step_view, steps_view}
 use Rattle.txn_core.proofs.Running.{refused-first, none-first, path-range, path-put, path-delete, path-inner, refused-inner, branch_of, ran, not_run, row-split, row-end, in_row-more}
+use Rattle.txn_core.proofs.Elements.{At}
 use Rattle.txn_core.proofs.Stepping.{step_view-Range, step_view-Put, step_view-Delete, step_view-Inner}
 use Rattle.txn_core.proofs.planning.+run.Goals as goal
 use Rattle.txn_core.proofs.planning.+run.Goals.{run_txn-then-succeeded, run_txn-else-succeeded}
@@ -154,9 +155,9 @@ run_row-loop-operation-preserved t c =
     let ls = c.args.leases.now.leases in
     let l = c.loop-operation in
     let os = c.deref-operation-items.result.now in
-    let o = c.operation-item.result in
+    let here : At os = record { index = l.operation-index; value = c.operation-item.result; inside = omega arith; is = c.operation-item.is } in
     let rest = ops_view (drop (l.operation-index + 1) os) in
-    let stepped = ap (path_in v) (row-split os l.operation-index o (omega arith) c.operation-item.is) ∙ c.in-Ok.ensures.path rest in (
+    let stepped = ap (path_in v) (row-split os here) ∙ c.in-Ok.ensures.path rest in (
       ap (λ ss. in_row (map step_view ss) (path_in v rest)) c.in-Ok-push.ensures.items ∙ in_row-more l.steps.items c.in-Ok.step (path_in v rest)
           ∙ ap (in_row (map step_view l.steps.items)) (sym stepped) ∙ l.invariant.0,
       sym (c.in-Ok.ensures.made (path_in v rest)) ∙ ap (made_in v l.changes) (sym stepped) ∙ l.invariant.1,
