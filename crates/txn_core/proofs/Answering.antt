@@ -1,5 +1,6 @@
 -- The answers to the operations that ran, step by step.
-use Rattle.std.proofs.Common.{◌≡◌, ℕ, suc, ◌+◌, ◌<◌, ◌≤◌, List, [], ◌∷◌, ◌++◌, length, map, drop, get_or, refl, sym, ◌∙◌, ap, subst, arith, rules, add-one, drop-cons, Bool, Option, None, option_map, Bor, Vec, Global}
+use Rattle.std.proofs.Common.{◌≡◌, ℕ, suc, ◌+◌, ◌<◌, ◌≤◌, List, [], ◌∷◌, ◌++◌, length, map, drop, refl, sym, ◌∙◌, ap, subst, arith}
+use Rattle.std.proofs.Common.{rules, add-one, Bool, Option, option_map, Bor, Vec, Global}
 use Rattle.std.proofs.lemmas.List.{drop_all}
 use Rattle.kv_model.specs.declared.version.Version.{Version}
 use Rattle.kv_model.specs.declared.call.RangeQuery.{RangeQuery}
@@ -25,7 +26,8 @@ use Rattle.txn_core.proofs.Stepping.{step_view-Range, step_view-Put, step_view-D
 -- ---- one step before others
 
 -- what holds of each operation as it is put before others holds of each step
-by-steps : (P : (Path → Path) → Type 0) → ((q : RangeQuery) → P (Path.range q)) → ((p : PutRequest) → P (Path.put p)) → ((d : DeleteRequest) → P (Path.delete d))
+by-steps : (P : (Path → Path) → Type 0) → ((q : RangeQuery) → P (Path.range q)) → ((p : PutRequest) → P (Path.put p))
+    → ((d : DeleteRequest) → P (Path.delete d))
     → ((b : Bool) (inner : Path) → P (Path.txn b inner)) → (s : Step) → P (step_view s)
 by-steps P range put delete txn s = subst (λ (t : Step). P (step_view t)) (roll-out-Step s) (rolled (out-Step s))
   where
@@ -35,13 +37,15 @@ by-steps P range put delete txn s = subst (λ (t : Step). P (step_view t)) (roll
     rolled (Step-F.Delete d) = subst P (sym (fold-roll-Step (Path → Path) one_step (Step-F.Delete d))) (delete d.now)
     rolled (Step-F.Inner b ss) = subst P (sym (fold-roll-Step (Path → Path) one_step (Step-F.Inner b ss))) (txn b (steps_view ss.items))
 
-reads-split : (c n : ℕ) (s : Step) (rest : Path) → ReadsKept c n (step_view s rest) → ReadsKept c n (step_view s Path.end) × ReadsKept c n rest
+reads-split : (c n : ℕ) (s : Step) (rest : Path) → ReadsKept c n (step_view s rest)
+    → ReadsKept c n (step_view s Path.end) × ReadsKept c n rest
 reads-split c n s rest = by-steps (λ f. ReadsKept c n (f rest) → ReadsKept c n (f Path.end) × ReadsKept c n rest)
     (λ q h. ((h.0, tt), h.1)) (λ p h. (tt, h)) (λ d h. (tt, h)) (λ b inner h. ((h.0, tt), h.1)) s
 
 -- the changes behind a step are numbered on from its own
 AddsUp : List Version → ℕ → ℕ → Path → (Path → Path) → Type 0
-AddsUp vs main sub rest f = (sub + changes_of vs main sub (f Path.end)) + changes_of vs main (sub + changes_of vs main sub (f Path.end)) rest ≡ sub + changes_of vs main sub (f rest)
+AddsUp vs main sub rest f = (sub + changes_of vs main sub (f Path.end)) + changes_of vs main
+    (sub + changes_of vs main sub (f Path.end)) rest ≡ sub + changes_of vs main sub (f rest)
 
 adds-range : (vs : List Version) (main sub : ℕ) (rest : Path) (q : RangeQuery) → AddsUp vs main sub rest (Path.range q)
 unfolding changes_of AddsUp
@@ -66,7 +70,8 @@ adds-txn vs main sub rest b inner =
     ap (λ k. k + changes_of vs main k rest) e ∙ omega arith
 
 changes-split : (vs : List Version) (main sub : ℕ) (s : Step) (rest : Path) → AddsUp vs main sub rest (step_view s)
-changes-split vs main sub s rest = by-steps (AddsUp vs main sub rest) (adds-range vs main sub rest) (adds-put vs main sub rest) (adds-delete vs main sub rest) (adds-txn vs main sub rest) s
+changes-split vs main sub s rest = by-steps (AddsUp vs main sub rest) (adds-range vs main sub rest) (adds-put vs main sub rest)
+    (adds-delete vs main sub rest) (adds-txn vs main sub rest) s
 
 -- ---- one step of a row
 

@@ -68,29 +68,15 @@ pub fn put_version(
     ensures { IfOk result (λ v. v
         ≡ writes.put_version rev request.now (option_map kv_view held.entry)) }
 {
+    let body = match held {
+        Some(kv) => body_after(alloc, request, kv)?,
+        None => first_body(rev.main, request)?,
+    };
     Ok(Version {
         rev,
         key: request.key.clone()?,
-        body: next_body(alloc, rev.main, request, held)?,
+        body,
     })
-}
-
-/// What a put makes at a revision of a key that holds this.
-fn next_body(
-    alloc: Global,
-    main: u64,
-    request: &PutRequest,
-    held: Option<KvRef<'_>>,
-) -> Result<Body, AllocError>
-    requires { writes.CanCount (option_map kv_view held) }
-    ensures { IfOk result (λ b. b
-        ≡ txns.next_body main (txns.put_action request.now (option_map kv_view held.entry))
-        (option_map kv_view held.entry)) }
-{
-    match held {
-        Some(kv) => body_after(alloc, request, kv),
-        None => first_body(main, request),
-    }
 }
 
 /// What a put makes of a key that holds something.

@@ -18,7 +18,8 @@ pub operation_clashes-returns-in-Delete : goal.operation_clashes-returns-in-Dele
 operation_clashes-returns-in-Delete t c = search (rules, clashes-delete)
 
 pub row_clashes-returns-then-branch : goal.row_clashes-returns-then-branch
-row_clashes-returns-then-branch t c = clash-collide c.args.row.now.items c.in_ok-row_collides.field-0 c.in_ok-row_collides.ensures c.if-branch.true
+row_clashes-returns-then-branch t c =
+    clash-collide c.args.row.now.items c.in_ok-row_collides.field-0 c.in_ok-row_collides.ensures c.if-branch.true
 
 pub row_clashes-returns-then-branch-2 : goal.row_clashes-returns-then-branch-2
 row_clashes-returns-then-branch-2 t c =
@@ -40,4 +41,5 @@ pub clashes-returns-then-branch : goal.clashes-returns-then-branch
 clashes-returns-then-branch t c = txn-first c.args.txn.now c.in_ok-row_clashes.field-0 c.in_ok-row_clashes.ensures c.if-branch.true
 
 pub clashes-returns : goal.clashes-returns
-clashes-returns t c = subst (λ (z : Bool). IfOk c.row_clashes-2.result (λ b. b ≡ z)) (txn-second c.args.txn.now c.in_ok-row_clashes.field-0 c.in_ok-row_clashes.ensures c.if-branch.false) c.row_clashes-2.ensures
+clashes-returns t c = subst (λ (z : Bool). IfOk c.row_clashes-2.result (λ b. b ≡ z))
+    (txn-second c.args.txn.now c.in_ok-row_clashes.field-0 c.in_ok-row_clashes.ensures c.if-branch.false) c.row_clashes-2.ensures

@@ -7,7 +7,8 @@ use Rattle.txn_core.proofs.keys.count_between.Goals as goal
 
 pub returns-then-is_lt : goal.returns-then-is_lt
 returns-then-is_lt c =
-    count-none c.args.from.now c.args.to.now (keys_view c.args.keys.now) (ap is_lt (sym c.cmp.ensures) ∙ sym c.is_lt.ensures ∙ c.if-is_lt.true)
+    count-none c.args.from.now c.args.to.now (keys_view c.args.keys.now)
+    (ap is_lt (sym c.cmp.ensures) ∙ sym c.is_lt.ensures ∙ c.if-is_lt.true)
 
 pub overflow_sub-result : goal.overflow_sub-result
 overflow_sub-result c =

@@ -6,7 +6,8 @@ use Rattle.txn_core.proofs.Counting.{counts-same, count-all, from-counted}
 use Rattle.txn_core.proofs.keys.count_within.Goals as goal
 
 pub returns-in-Key : goal.returns-in-Key
-returns-in-Key c = c.count_same.ensures ∙ counts-same _ _ (λ k. same_key-comm c.in-Key.key.now k ∙ c.in-Key.ensures k) (keys_view c.args.keys.now)
+returns-in-Key c = c.count_same.ensures ∙ counts-same _ _ (λ k. same_key-comm c.in-Key.key.now k ∙ c.in-Key.ensures k)
+    (keys_view c.args.keys.now)
 
 pub returns-in-All : goal.returns-in-All
 returns-in-All c = count-all c.args.keys.now ∙ counts-same _ _ (λ k. c.in-All.ensures k) (keys_view c.args.keys.now)

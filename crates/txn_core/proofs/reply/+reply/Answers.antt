@@ -1,7 +1,6 @@
 -- Each operation is answered as its path is, and so is a row of them.
 use Rattle.std.proofs.Common.{◌≡◌, ◌+◌, ◌<◌, ◌^◌, sym, ◌∙◌, ap, subst, map, drop, arith, rules}
 use Rattle.txn_core.specs.declared.step.Step.{the_lemmas}
-use Rattle.kv_model.specs.Ranges.{revision_refusal}
 use Rattle.kv_model.specs.Txns.{Path, replies_of, changes_of}
 use Rattle.store_laws.specs.Plans.{ReadsKept}
 use Rattle.range_view.specs.Replies.{in_row, op_reply_view}
@@ -146,7 +145,8 @@ step_reply-row_replies-requires t c =
     let vs = c.args.tables.now.versions in
     let main = c.args.before + 1 in
     let inner = steps_view c.deref.result.now in
-    let path = path-inner c.args.step.now c.in-Inner.succeeded c.in-Inner.steps c.deref.result.now c.in-Inner.is c.deref.ensures.value Path.end in
+    let path
+    = path-inner c.args.step.now c.in-Inner.succeeded c.in-Inner.steps c.deref.result.now c.in-Inner.is c.deref.ensures.value Path.end in
     let same = inner-changes vs main c.args.sub c.in-Inner.succeeded inner
     ∙ ap (λ q. c.args.sub + changes_of vs main c.args.sub q) (sym path) in (
       search (rules, the_lemmas),
