@@ -1,5 +1,6 @@
 -- What an index holds as pairs and versions come, and as a lease goes.
-use Rattle.std.proofs.Common.{◌≡◌, ◌<◌, ℕ, ℤ, suc, List, [], ◌∷◌, ◌++◌, length, take, get_or, Bool, true, false, ◌||◌, ◌&&◌, cond, Option, None, Some, option_and_then, refl, sym, ◌∙◌, ap}
+use Rattle.std.proofs.Common.{◌≡◌, ◌<◌, ℕ, ℤ, suc, List, [], ◌∷◌, ◌++◌, length, take, get_or, Bool, true, false, ◌||◌, ◌&&◌, cond, Option}
+use Rattle.std.proofs.Common.{None, Some, option_and_then, refl, sym, ◌∙◌, ap}
 use Rattle.std.specs.List.{list_any}
 use Rattle.std.specs.Option.{option_or}
 use Rattle.std.specs.Ordering.{int_eq}
@@ -17,7 +18,8 @@ use Rattle.store_laws.proofs.HistoryLaws.{last_that-append}
 use Rattle.store_laws.proofs.DeleteLaws.{last_that-passes}
 use Rattle.lease_keys.specs.Pairs.{Pairs, keys_at, has_pair, AreAdded, AreForgotten}
 use Rattle.lease_keys.specs.Holding.{is_lease, is_of, lease_of, puts_pair, ArePut, Holds, AreNotUnder, IsWithin}
-use Rattle.lease_keys.proofs.Sets.{has_key, has_key-insert}
+use Rattle.store_laws.proofs.KeyLaws.{has_key}
+use Rattle.lease_keys.proofs.Sets.{inserted-has}
 
 or_false : (b : Bool) → (b || false) ≡ b
 or_false true = refl
@@ -51,17 +53,20 @@ pub put-one : (v : Version) (m : ℤ) (old new : Pairs) → lease_of v.body ≡ 
 put-one v m old new e added l k =
     ap (has_key k) (added l) ∙ by (int_eq m l) refl ∙ sym (ap (λ o. ((is_of l o && same_key v.key k) || false) || has_pair l k old) e)
   where
-    by : (b : Bool) → int_eq m l ≡ b → has_key k (cond b (insert_key key_cmp (keys_at m old) v.key) (keys_at l old)) ≡ (((b && same_key v.key k) || false) || has_pair l k old)
-    by true f = has_key-insert k v.key (keys_at m old) ∙ λ i. sym (or_false (same_key v.key k)) i || has_pair (same-lease m l f i) k old
+    by : (b : Bool) → int_eq m l ≡ b → has_key k (cond b (insert_key key_cmp (keys_at m old) v.key) (keys_at l old))
+        ≡ (((b && same_key v.key k) || false) || has_pair l k old)
+    by true f = inserted-has k v.key (keys_at m old) ∙ λ i. sym (or_false (same_key v.key k)) i || has_pair (same-lease m l f i) k old
     by false f = refl
 
 pub put-none : (v : Version) (old : Pairs) → lease_of v.body ≡ None → ArePut (v ∷ []) old old
 put-none v old e l k = sym (ap (λ o. ((is_of l o && same_key v.key k) || false) || has_pair l k old) e)
 
-pub put-more : (vs : List Version) (i : ℕ) (d : Version) (old mid new : Pairs) → i < length vs → ArePut (take i vs) old mid → ArePut (get_or vs i d ∷ []) mid new → ArePut (take (suc i) vs) old new
+pub put-more : (vs : List Version) (i : ℕ) (d : Version) (old mid new : Pairs) → i < length vs → ArePut (take i vs) old mid
+    → ArePut (get_or vs i d ∷ []) mid new → ArePut (take (suc i) vs) old new
 put-more vs i d old mid new h before one l k =
     let test : Version → Bool = λ v. is_of l (lease_of v.body) && same_key v.key k in
-    one l k ∙ ap (λ b. list_any test (get_or vs i d ∷ []) || b) (before l k) ∙ or_turned (list_any test (take i vs)) (list_any test (get_or vs i d ∷ [])) (has_pair l k old)
+    one l k ∙ ap (λ b. list_any test (get_or vs i d ∷ []) || b) (before l k)
+    ∙ or_turned (list_any test (take i vs)) (list_any test (get_or vs i d ∷ [])) (has_pair l k old)
     ∙ ap (λ b. b || has_pair l k old) (sym (ap (list_any test) (take-suc vs i d h) ∙ list_any-append test (take i vs) (get_or vs i d ∷ [])))
 
 pub put-within : (vs : List Version) (old new : Pairs) → ArePut vs old new → IsWithin old new
@@ -72,7 +77,8 @@ holds-within old new held within h k kv e n = within kv.lease k (h k kv e n)
 
 -- ---- versions come
 
-shown-leased : (main : ℕ) (k : List ℕ) (b : Body) (kv : KeyValue) → shown main k b ≡ Some kv → is_lease kv.lease ≡ true → is_of kv.lease (lease_of b) ≡ true
+shown-leased : (main : ℕ) (k : List ℕ) (b : Body) (kv : KeyValue) → shown main k b ≡ Some kv → is_lease kv.lease ≡ true
+    → is_of kv.lease (lease_of b) ≡ true
 shown-leased main k (Put create version lease value) kv e n =
     let same : lease ≡ kv.lease = ap lease-shown e in
     ap (λ c. is_of kv.lease (cond c (Some lease) None)) (ap is_lease same ∙ n) ∙ ap (λ l. int_eq l kv.lease) same ∙ lease-itself kv.lease
@@ -86,7 +92,8 @@ found-any : {X : Type 0} (p q : X → Bool) (xs : List X) (x : X) → last_that 
 found-any p q [] x e h = cc
 found-any {X} p q (y ∷ ys) x e h = by (last_that p ys) refl (p y) e (found-any p q ys x)
   where
-    by : (o : Option X) → last_that p ys ≡ o → (b : Bool) → option_or o (cond b (Some y) None) ≡ Some x → (last_that p ys ≡ Some x → q x ≡ true → list_any q ys ≡ true) → (q y || list_any q ys) ≡ true
+    by : (o : Option X) → last_that p ys ≡ o → (b : Bool) → option_or o (cond b (Some y) None) ≡ Some x
+        → (last_that p ys ≡ Some x → q x ≡ true → list_any q ys ≡ true) → (q y || list_any q ys) ≡ true
     by (Some z) is b f rest = ap (λ t. q y || t) (rest (is ∙ f) h) ∙ or_true (q y)
     by None is true f rest = let same : y ≡ x = cc in ap (λ z. q z || list_any q ys) same ∙ ap (λ t. t || list_any q ys) h
     by None is false f rest = cc
@@ -100,15 +107,18 @@ holds-grown old new vs us put h k kv e n =
     test : Version → Bool
     test v = same_key v.key k
 
-    by : (o : Option Version) → last_that test us ≡ o → option_and_then key_value (option_or o (last_that test vs)) ≡ Some kv → has_pair kv.lease k new ≡ true
+    by : (o : Option Version) → last_that test us ≡ o → option_and_then key_value (option_or o (last_that test vs)) ≡ Some kv
+        → has_pair kv.lease k new ≡ true
     by (Some u) is f =
         let of : is_of kv.lease (lease_of u.body) ≡ true = shown-leased u.rev.main u.key u.body kv f n in
         let mine : same_key u.key k ≡ true = last_that-passes test us u is in
-        put kv.lease k ∙ ap (λ b. b || has_pair kv.lease k old) (found-any test (λ v. is_of kv.lease (lease_of v.body) && same_key v.key k) us u is (ap (λ b. b && same_key u.key k) of ∙ mine))
+        put kv.lease k ∙ ap (λ b. b || has_pair kv.lease k old)
+        (found-any test (λ v. is_of kv.lease (lease_of v.body) && same_key v.key k) us u is (ap (λ b. b && same_key u.key k) of ∙ mine))
     by None is f = put-within us old new put kv.lease k (h k kv f n)
 
 -- ---- a lease goes
 
-pub holds-forgotten : (l : ℤ) (old new : Pairs) (held : List ℕ → Option KeyValue) → AreForgotten l old new → AreNotUnder l held → Holds old held → Holds new held
+pub holds-forgotten : (l : ℤ) (old new : Pairs) (held : List ℕ → Option KeyValue) → AreForgotten l old new → AreNotUnder l held
+    → Holds old held → Holds new held
 holds-forgotten l old new held gone none h k kv e n =
     ap (has_key k) (gone kv.lease ∙ ap (λ b. cond b [] (keys_at kv.lease old)) (other-lease kv.lease l (none k kv e))) ∙ h k kv e n

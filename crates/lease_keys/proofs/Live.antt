@@ -1,5 +1,6 @@
 -- The live keys of a lease, as the index finds them.
-use Rattle.std.proofs.Common.{◌≡◌, ℕ, ℤ, List, [], ◌∷◌, Bool, true, false, ◌&&◌, cond, Option, None, Some, is_some, map, filter, filter_map, refl, sym, ◌∙◌, ap, subst}
+use Rattle.std.proofs.Common.{◌≡◌, ℕ, ℤ, List, [], ◌∷◌, Bool, true, false, ◌&&◌, cond, Option, None, Some, is_some, map, filter, filter_map}
+use Rattle.std.proofs.Common.{refl, sym, ◌∙◌, ap, subst}
 use Rattle.std.specs.List.{cons_option}
 use Rattle.std.specs.Ordering.{int_eq}
 use Rattle.kv_model.specs.declared.version.Rev.{Rev}
@@ -8,7 +9,8 @@ use Rattle.kv_model.specs.Keys.{all_keys}
 use Rattle.kv_model.specs.History.{KeyValue, value_at}
 use Rattle.store_laws.specs.Laws.{IsStrictlyAscending}
 use Rattle.kv_model.specs.Ranges.{keys, keys_of, live, value_within}
-use Rattle.store_laws.proofs.KeyLaws.{IsAscending, ascending-filter, ascending-keys, has_key, has_key-filter, same_keys, value-has_key}
+use Rattle.store_laws.proofs.KeyLaws.{IsAscending, ascending-filter, ascending-keys, has_key, has_key-filter, mapped-filter, same_keys}
+use Rattle.store_laws.proofs.KeyLaws.{value-has_key}
 use Rattle.store_laws.proofs.DeleteLaws.{mapped-keys, value_at-key}
 use Rattle.range_view.specs.declared.reply.KvRef.{KvRef}
 use Rattle.range_view.specs.Replies.{kv_view}
@@ -17,7 +19,8 @@ use Rattle.lease_keys.specs.Holding.{is_lease, under, Holds}
 use Rattle.lease_keys.proofs.Holding.{same-lease}
 
 module _ (l : ℤ) where
-  filter-under : (g : List ℕ → Option KeyValue) (ks : List (List ℕ)) → filter (λ kv. int_eq kv.lease l) (filter_map g ks) ≡ filter_map (λ k. under l (g k)) ks
+  filter-under : (g : List ℕ → Option KeyValue) (ks : List (List ℕ))
+      → filter (λ kv. int_eq kv.lease l) (filter_map g ks) ≡ filter_map (λ k. under l (g k)) ks
   filter-under g [] = refl
   filter-under g (k ∷ ks) = by (g k) (filter-under g ks)
     where
@@ -26,12 +29,15 @@ module _ (l : ℤ) where
       kept kv false xs ys e = e
 
       by : (o : Option KeyValue) → filter (λ kv. int_eq kv.lease l) (filter_map g ks) ≡ filter_map (λ k. under l (g k)) ks
-          → filter (λ kv. int_eq kv.lease l) (cons_option o (filter_map g ks)) ≡ cons_option (under l o) (filter_map (λ k. under l (g k)) ks)
+          → filter (λ kv. int_eq kv.lease l) (cons_option o (filter_map g ks))
+          ≡ cons_option (under l o) (filter_map (λ k. under l (g k)) ks)
       by None rest = rest
-      by (Some kv) rest = kept kv (int_eq kv.lease l) (filter (λ kv. int_eq kv.lease l) (filter_map g ks)) (filter_map (λ k. under l (g k)) ks) rest
+      by (Some kv) rest = kept kv (int_eq kv.lease l) (filter (λ kv. int_eq kv.lease l) (filter_map g ks))
+          (filter_map (λ k. under l (g k)) ks) rest
 
   -- a walk over all keys
-  pub leased-walked : (vs : List Version) (p : Rev) → filter (λ kv. int_eq kv.lease l) (live vs p all_keys) ≡ filter_map (λ k. under l (value_at vs p k)) (keys vs)
+  pub leased-walked : (vs : List Version) (p : Rev)
+      → filter (λ kv. int_eq kv.lease l) (live vs p all_keys) ≡ filter_map (λ k. under l (value_at vs p k)) (keys vs)
   unfolding live
   leased-walked vs p = filter-under (value_within vs p all_keys) (keys vs)
 
@@ -65,26 +71,18 @@ module _ (l : ℤ) where
       ∙ ap (λ b. is_some (cond b (Some kv) None) && has_key k (keys vs)) h
       ∙ value-has_key k p vs (ap is_some e)
 
--- what gives nothing may be left out before
-mapped-filter : {X : Type 0} (g : List ℕ → Option X) (ls : List (List ℕ)) → filter_map g ls ≡ filter_map g (filter (λ k. is_some (g k)) ls)
-mapped-filter g [] = refl
-mapped-filter {X} g (l ∷ ls) = by (g l) refl (mapped-filter g ls)
-  where
-    by : (o : Option X) → g l ≡ o → filter_map g ls ≡ filter_map g (filter (λ k. is_some (g k)) ls)
-        → cons_option (g l) (filter_map g ls) ≡ filter_map g (cond (is_some (g l)) (l ∷ filter (λ k. is_some (g k)) ls) (filter (λ k. is_some (g k)) ls))
-    by None e rest = ap (λ o. cons_option o (filter_map g ls)) e ∙ rest ∙ ap (λ o. filter_map g (cond (is_some o) (l ∷ filter (λ k. is_some (g k)) ls) (filter (λ k. is_some (g k)) ls))) (sym e)
-    by (Some x) e rest = ap (λ o. cons_option (g l) o) rest ∙ ap (λ o. filter_map g (cond (is_some o) (l ∷ filter (λ k. is_some (g k)) ls) (filter (λ k. is_some (g k)) ls))) (sym e)
-
 ascending-from : (ks : List (List ℕ)) → IsStrictlyAscending ks → IsAscending ks
 ascending-from [] h = tt
 ascending-from (k ∷ ks) h = (h.0, ascending-from ks h.1)
 
 -- the keys of the lease are enough
-pub live-found : (l : ℤ) (ps : Pairs) (vs : List Version) (p : Rev) → Holds ps (value_at vs p) → is_lease l ≡ true → IsStrictlyAscending (keys_at l ps)
+pub live-found : (l : ℤ) (ps : Pairs) (vs : List Version) (p : Rev) → Holds ps (value_at vs p) → is_lease l ≡ true
+    → IsStrictlyAscending (keys_at l ps)
     → filter_map (λ k. under l (value_at vs p k)) (keys_at l ps) ≡ filter (λ kv. int_eq kv.lease l) (live vs p all_keys)
 live-found l ps vs p h n a =
     mapped-filter g (keys_at l ps)
-    ∙ ap (filter_map g) (same_keys _ _ (ascending-filter test (keys_at l ps) (ascending-from (keys_at l ps) a)) (ascending-filter test (keys vs) (ascending-keys vs)) each)
+    ∙ ap (filter_map g) (same_keys _ _ (ascending-filter test (keys_at l ps) (ascending-from (keys_at l ps) a))
+    (ascending-filter test (keys vs) (ascending-keys vs)) each)
     ∙ sym (mapped-filter g (keys vs)) ∙ sym (leased-walked l vs p)
   where
     g : List ℕ → Option KeyValue
@@ -98,18 +96,22 @@ live-found l ps vs p h n a =
     by q true e =
         let some = under-some l (value_at vs p q) e in
         let same : some.0.lease ≡ l = same-lease some.0.lease l some.2 in
-        subst (λ m. has_key q (keys_at m ps) ≡ true) same (h q some.0 some.1 (ap is_lease same ∙ n)) ∙ sym (value-has_key q p vs (ap is_some some.1))
+        subst (λ m. has_key q (keys_at m ps) ≡ true) same (h q some.0 some.1 (ap is_lease same ∙ n))
+        ∙ sym (value-has_key q p vs (ap is_some some.1))
 
     each : (q : List ℕ) → has_key q (filter test (keys_at l ps)) ≡ has_key q (filter test (keys vs))
     each q = has_key-filter test q (keys_at l ps) ∙ by q (test q) refl ∙ sym (has_key-filter test q (keys vs))
 
 -- what is kept of the lent keys is what is kept of them as data
-pub leased-views : (id : ℤ) (kvs : List KvRef) → map kv_view (filter (λ (kv : KvRef). int_eq kv.lease id) kvs) ≡ filter (λ (kv : KeyValue). int_eq kv.lease id) (map kv_view kvs)
+pub leased-views : (id : ℤ) (kvs : List KvRef) → map kv_view (filter (λ (kv : KvRef). int_eq kv.lease id) kvs)
+    ≡ filter (λ (kv : KeyValue). int_eq kv.lease id) (map kv_view kvs)
 leased-views id [] = refl
 leased-views id (kv ∷ kvs) = by (int_eq kv.lease id) (leased-views id kvs)
   where
-    by : (b : Bool) → map kv_view (filter (λ (kv : KvRef). int_eq kv.lease id) kvs) ≡ filter (λ (kv : KeyValue). int_eq kv.lease id) (map kv_view kvs)
+    by : (b : Bool) → map kv_view (filter (λ (kv : KvRef). int_eq kv.lease id) kvs)
+        ≡ filter (λ (kv : KeyValue). int_eq kv.lease id) (map kv_view kvs)
         → map kv_view (cond b (kv ∷ filter (λ (kv : KvRef). int_eq kv.lease id) kvs) (filter (λ (kv : KvRef). int_eq kv.lease id) kvs))
-        ≡ cond b (kv_view kv ∷ filter (λ (kv : KeyValue). int_eq kv.lease id) (map kv_view kvs)) (filter (λ (kv : KeyValue). int_eq kv.lease id) (map kv_view kvs))
+        ≡ cond b (kv_view kv ∷ filter (λ (kv : KeyValue). int_eq kv.lease id) (map kv_view kvs))
+        (filter (λ (kv : KeyValue). int_eq kv.lease id) (map kv_view kvs))
     by true e = ap (λ ks. kv_view kv ∷ ks) e
     by false e = e

@@ -1,5 +1,6 @@
 -- Pairs as they change.
-use Rattle.std.proofs.Common.{◌≡◌, ◌≢◌, ℕ, ℤ, List, [], ◌∷◌, Bool, true, false, cond, Option, Some, unwrap_or, Result, Ok, Err, OnOk, OnErr, refl, sym, ◌∙◌, ap, subst}
+use Rattle.std.proofs.Common.{◌≡◌, ◌≢◌, ℕ, ℤ, List, [], ◌∷◌, Bool, true, false, cond, Option, Some, unwrap_or, Result, Ok, Err, OnOk, OnErr}
+use Rattle.std.proofs.Common.{refl, sym, ◌∙◌, ap, subst}
 use Rattle.std.specs.Prelude.{IsSome}
 use Rattle.std.specs.Map.{lookup, set_value, remove_entry}
 use Rattle.std.specs.declared.cmp.Ordering.{Ordering}
@@ -14,15 +15,8 @@ use Rattle.lease_keys.specs.Pairs.{Pairs, HaveKeys, keys_at, AreSet, AreAdded}
 abbrev pub found : ℤ → Pairs → Option (List (List ℕ))
 found l ps = lookup (is_at (int_cmp l)) ps
 
-pub on_ok : {E : Type 0} (r : Result (Unit {0}) E) (P Q : Type 0) → OnOk r P → (P → Q) → OnOk r Q
-on_ok (Ok u) P Q h f = f h
-on_ok (Err e) P Q h f = tt
-
-pub on_err : {E : Type 0} (r : Result (Unit {0}) E) (P Q : Type 0) → OnErr r P → (P → Q) → OnErr r Q
-on_err (Ok u) P Q h f = tt
-on_err (Err e) P Q h f = f h
-
-pub updated : (l : ℤ) (ks : List (List ℕ)) (old new : Pairs) → ((q : ℤ) → found q new ≡ cond (int_eq l q) (Some ks) (found q old)) → AreSet l ks old new
+pub updated : (l : ℤ) (ks : List (List ℕ)) (old new : Pairs) → ((q : ℤ) → found q new ≡ cond (int_eq l q) (Some ks) (found q old))
+    → AreSet l ks old new
 updated l ks old new h q = ap (λ o. unwrap_or o []) (h q) ∙ by (int_eq l q)
   where
     by : (b : Bool) → unwrap_or (cond b (Some ks) (found q old)) [] ≡ cond b ks (keys_at q old)
@@ -31,9 +25,11 @@ updated l ks old new h q = ap (λ o. unwrap_or o []) (h q) ∙ by (int_eq l q)
 
 -- a key that is added to the keys that a lease has
 pub added-through : (l : ℤ) (k : List ℕ) (old new : Pairs) (ks more : List (List ℕ)) → Some ks ≡ found l old
-    → (IsSome (found l old) → (q : ℤ) → found q new ≡ cond (int_eq l q) (Some more) (found q old)) → more ≡ insert_key key_cmp ks k → AreAdded l k old new
+    → (IsSome (found l old) → (q : ℤ) → found q new ≡ cond (int_eq l q) (Some more) (found q old)) → more ≡ insert_key key_cmp ks k
+    → AreAdded l k old new
 added-through l k old new ks more here writes e =
-    subst (λ js. AreSet l js old new) (e ∙ ap (λ o. insert_key key_cmp (unwrap_or o []) k) here) (updated l more old new (writes (subst IsSome here refl)))
+    subst (λ js. AreSet l js old new) (e ∙ ap (λ o. insert_key key_cmp (unwrap_or o []) k) here)
+    (updated l more old new (writes (subst IsSome here refl)))
 
 -- ---- no lease is without keys
 
@@ -50,7 +46,8 @@ pub have-set : (l : ℤ) (ks : List (List ℕ)) → ks ≢ [] → (ps : Pairs) �
 have-set l ks n [] h = tt
 have-set l ks n (p ∷ ps) h = by (is_at (int_cmp l) p.0) (have-set l ks n ps h.1)
   where
-    by : (b : Bool) → HaveKeys (set_value (is_at (int_cmp l)) ps ks) → HaveKeys (cond b ((p.0, ks) ∷ ps) (p ∷ set_value (is_at (int_cmp l)) ps ks))
+    by : (b : Bool) → HaveKeys (set_value (is_at (int_cmp l)) ps ks)
+        → HaveKeys (cond b ((p.0, ks) ∷ ps) (p ∷ set_value (is_at (int_cmp l)) ps ks))
     by true rest = (n, h.1)
     by false rest = (h.0, rest)
 
@@ -58,7 +55,8 @@ pub have-insert : (l : ℤ) (ks : List (List ℕ)) → ks ≢ [] → (ps : Pairs
 have-insert l ks n [] h = (n, tt)
 have-insert l ks n (p ∷ ps) h = by (int_cmp l p.0) (have-insert l ks n ps h.1)
   where
-    by : (o : Ordering) → HaveKeys (insert_entry int_cmp ps l ks) → HaveKeys (match_ordering o ((l, ks) ∷ p ∷ ps) ((p.0, ks) ∷ ps) (p ∷ insert_entry int_cmp ps l ks))
+    by : (o : Ordering) → HaveKeys (insert_entry int_cmp ps l ks)
+        → HaveKeys (match_ordering o ((l, ks) ∷ p ∷ ps) ((p.0, ks) ∷ ps) (p ∷ insert_entry int_cmp ps l ks))
     by Less rest = (n, h)
     by Equal rest = (n, h.1)
     by Greater rest = (h.0, rest)
@@ -76,7 +74,8 @@ pub have-first : (l : ℤ) (k : List ℕ) (ps : Pairs) → HaveKeys ps → HaveK
 have-first l k ps h = have-insert l (k ∷ []) (λ e. cc) ps h
 
 -- and one more
-pub have-more : {E : Type 0} (r : Result (Unit {0}) E) (l : ℤ) (k : List ℕ) (old new : Pairs) (ks more : List (List ℕ)) → Some ks ≡ found l old → new ≡ set_value (is_at (int_cmp l)) old more
+pub have-more : {E : Type 0} (r : Result (Unit {0}) E) (l : ℤ) (k : List ℕ) (old new : Pairs) (ks more : List (List ℕ))
+    → Some ks ≡ found l old → new ≡ set_value (is_at (int_cmp l)) old more
     → OnOk r (more ≡ insert_key key_cmp ks k) → OnErr r (more ≡ ks) → HaveKeys old → HaveKeys new
 have-more (Ok u) l k old new ks more here e ok err h =
     subst HaveKeys (sym (e ∙ ap (set_value (is_at (int_cmp l)) old) ok)) (have-set l (insert_key key_cmp ks k) (inserted-there ks k) old h)

@@ -1,5 +1,6 @@
 -- Which pairs an index has to have, so that the keys of a lease are found by it.
-use Rattle.std.specs.Prelude.{◌≡◌, ℕ, ℤ, pos, List, Bool, true, false, ◌&&◌, ◌||◌, not, Option, None, Some, if◌then◌else◌}
+use Rattle.std.specs.Prelude.{◌≡◌, ℕ, ℤ, pos, List, Bool, true, false, ◌&&◌, ◌||◌, not, Option, None, Some}
+use Rattle.std.specs.Prelude.{if◌then◌else◌}
 use Rattle.std.specs.List.{list_any}
 use Rattle.std.specs.Ordering.{int_eq}
 use Rattle.kv_model.specs.declared.version.Version.{Version}
@@ -15,7 +16,8 @@ is_lease l = not (int_eq l (pos 0))
 
 -- each key that holds something put under a lease stands with that lease
 abbrev pub Holds : Pairs → (List ℕ → Option KeyValue) → Type 0
-Holds ps held = (k : List ℕ) (kv : KeyValue) → held k ≡ Some kv → is_lease kv.lease ≡ true → has_pair kv.lease k ps ≡ true
+Holds ps held = (k : List ℕ) (kv : KeyValue) → held k ≡ Some kv → is_lease kv.lease ≡ true
+    → has_pair kv.lease k ps ≡ true
 
 -- no key holds what was put under the lease
 abbrev pub AreNotUnder : ℤ → (List ℕ → Option KeyValue) → Type 0

@@ -11,7 +11,8 @@ use std::alloc::{AllocError, Global};
 use std::collections::BTreeMap;
 use std::marker::Model;
 
-/// Pairs of a lease and a key: of each lease an ordered set of its keys. A lease without keys has no entry.
+/// Pairs of a lease and a key: of each lease an ordered set of its keys. A lease without keys has
+/// no entry.
 #[derive(Debug, Drop)]
 pub struct LeaseKeys {
     alloc: Global,
@@ -41,10 +42,11 @@ impl LeaseKeys {
         }
     }
 
-    /// Adds a key to those of a lease, where it is not there. The key's bytes are shared, not copied.
+    /// Adds a key to those of a lease, where it is not there. The key's bytes are shared, not
+    /// copied.
     ///
-    /// The error is want of memory, and all pairs are then as they were. The time is logarithmic in the number of leases and in
-    /// that of the lease's keys.
+    /// The error is want of memory, and all pairs are then as they were. The time is logarithmic in
+    /// the number of leases and in that of the lease's keys.
     pub fn add(&mut self, lease: i64, key: &Bytes) -> Result<(), AllocError>
         ensures ok { OnOk result (AreAdded lease key.now self.old self.new) }
         ensures err { OnErr result (self.new ≡ self.old) }
@@ -54,8 +56,8 @@ impl LeaseKeys {
 
     /// Adds, of each of the versions that puts its key under a lease, that pair. 0 is no lease.
     ///
-    /// The error is want of memory, and the pairs of some of the versions, the first ones, are then added. The time is that of
-    /// `add` for each of the versions.
+    /// The error is want of memory, and the pairs of some of the versions, the first ones, are then
+    /// added. The time is that of `add` for each of the versions.
     pub fn add_all(&mut self, versions: &[Version]) -> Result<(), AllocError>
         ensures ok { OnOk result (ArePut versions.now self.old self.new) }
         ensures err { OnErr result ((n : ℕ) × ArePut (take n versions.now) self.old self.new) }
@@ -77,8 +79,8 @@ impl LeaseKeys {
         }
     }
 
-    /// Takes all keys of a lease out. Takes no memory. The time is logarithmic in the number of leases, and linear in that of the
-    /// lease's keys.
+    /// Takes all keys of a lease out. Takes no memory. The time is logarithmic in the number of
+    /// leases, and linear in that of the lease's keys.
     pub fn forget(&mut self, lease: i64)
         ensures { AreForgotten lease self.old self.new }
     {
@@ -87,7 +89,8 @@ impl LeaseKeys {
 
     /// The keys of a lease, ascending.
     ///
-    /// The error is want of memory. The time is logarithmic in the number of leases, and linear in that of the lease's keys.
+    /// The error is want of memory. The time is logarithmic in the number of leases, and linear in
+    /// that of the lease's keys.
     pub fn keys_of(&self, lease: i64) -> Result<Vec<&Bytes>, AllocError>
         ensures keys { IfOk result (λ ks. map (λ k. k.now) ks.items ≡ keys_at lease self.now) }
         ensures ascending { IsStrictlyAscending (keys_at lease self.now) }

@@ -9,8 +9,8 @@ use std::alloc::{AllocError, Global};
 use std::collections::BTreeSet;
 use std::marker::Model;
 
-/// The keys of one lease. A single one, as most leases have, takes no memory of its own; more stand in an ordered set of the
-/// standard library.
+/// The keys of one lease. A single one, as most leases have, takes no memory of its own; more stand
+/// in an ordered set of the standard library.
 #[derive(Debug, Drop)]
 pub(crate) struct KeySet {
     held: Held,

@@ -15,10 +15,11 @@ use range_view::view::View;
 use std::alloc::{AllocError, Global};
 
 impl LeaseKeys {
-    /// The live keys at the view's place whose last put names the lease, in the order of the keys, lent from the versions.
+    /// The live keys at the view's place whose last put names the lease, in the order of the keys,
+    /// lent from the versions.
     ///
-    /// `AllocError` comes where a list found no memory. Only the pairs of the lease are walked, each in the time of `View::get`;
-    /// 0 is no lease, and for it all keys are walked.
+    /// `AllocError` comes where a list found no memory. Only the pairs of the lease are walked,
+    /// each in the time of `View::get`; 0 is no lease, and for it all keys are walked.
     pub fn live<'a>(
         &self,
         alloc: Global,
@@ -26,7 +27,9 @@ impl LeaseKeys {
         lease: i64,
     ) -> Result<Vec<KvRef<'a>>, AllocError>
         requires { Holds self.now (value_at view.now.versions view.now.place) }
-        ensures { IfOk result (λ kvs. map kv_view kvs.items ≡ filter (λ kv. int_eq kv.lease lease) (live view.now.versions view.now.place all_keys)) }
+        ensures { IfOk result (λ kvs. map kv_view kvs.items
+            ≡ filter (λ kv.
+            int_eq kv.lease lease) (live view.now.versions view.now.place all_keys)) }
     {
         if lease == 0 {
             return walk(alloc, view, lease);
@@ -48,7 +51,8 @@ fn all_keys() -> KeyRange
 
 /// The same by a walk over all keys.
 fn walk<'a>(alloc: Global, view: &View<'a>, lease: i64) -> Result<Vec<KvRef<'a>>, AllocError>
-    ensures { IfOk result (λ kvs. map kv_view kvs.items ≡ filter (λ kv. int_eq kv.lease lease) (live view.now.versions view.now.place all_keys)) }
+    ensures { IfOk result (λ kvs. map kv_view kvs.items
+        ≡ filter (λ kv. int_eq kv.lease lease) (live view.now.versions view.now.place all_keys)) }
 {
     let mut kvs = view.live(alloc, &all_keys())?;
     kvs.retain(|kv| kv.lease == lease);
@@ -63,7 +67,8 @@ fn held_by<'a>(
     lease: i64,
 ) -> Result<Vec<KvRef<'a>>, AllocError>
     ensures { IfOk result (λ kvs. map kv_view kvs.items
-        ≡ filter_map (λ k. under lease (value_at view.now.versions view.now.place k)) (map (λ k. k.now) keys.now)) }
+        ≡ filter_map (λ k.
+        under lease (value_at view.now.versions view.now.place k)) (map (λ k. k.now) keys.now)) }
 {
     let mut kvs = Vec::with_capacity(alloc, keys.len())?;
     for key in keys {
@@ -77,7 +82,8 @@ fn held_by<'a>(
 
 /// What a key holds, where it was last put under the lease.
 fn held<'a>(view: &View<'a>, key: &Bytes, lease: i64) -> Option<KvRef<'a>>
-    ensures { option_map kv_view result ≡ under lease (value_at view.now.versions view.now.place key.now) }
+    ensures { option_map kv_view result
+        ≡ under lease (value_at view.now.versions view.now.place key.now) }
 {
     match view.get(key) {
         Some(kv) => under(kv, lease),

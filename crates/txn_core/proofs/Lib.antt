@@ -1,3 +1,4 @@
+pub mod Elements
 pub mod Clashing
 pub mod Counting
 pub mod Making

@@ -1,5 +1,6 @@
 -- What a transaction makes, in terms of the changes that the definitions plan.
-use Rattle.std.proofs.Common.{◌≡◌, ℕ, suc, ◌<◌, ◌≤◌, ◌^◌, ℤ, List, [], ◌∷◌, ◌++◌, length, map, filter, Bool, true, false, not, ◌&&◌, ◌||◌, cond, Option, None, Some, refl, sym, ◌∙◌, ap, add-one, append_assoc, length-append}
+use Rattle.std.proofs.Common.{◌≡◌, ℕ, suc, ◌<◌, ◌≤◌, ◌^◌, ℤ, List, [], ◌∷◌, ◌++◌, length, map, filter, Bool, true, false, not, ◌&&◌, ◌||◌}
+use Rattle.std.proofs.Common.{cond, Option, None, Some, refl, sym, ◌∙◌, ap, add-one, append_assoc, length-append}
 use Rattle.std.specs.Option.{option_or}
 use Rattle.std.specs.List.{AllByRecursion}
 use Rattle.std.specs.declared.cmp.Ordering.{Ordering}
@@ -59,7 +60,8 @@ cond-or false false = refl
 buries-next : (vs : List Version) (u : Mutation) (k : List ℕ) → buries k (next_version vs u) ≡ deletes_key k u
 buries-next vs u k = by u.action (value_now vs u.key)
   where
-    by : (a : Action) (held : Option KeyValue) → (is_tombstone (next_body u.rev.main a held) && same_key u.key k) ≡ cond (is_put a) false (same_key u.key k)
+    by : (a : Action) (held : Option KeyValue) → (is_tombstone (next_body u.rev.main a held) && same_key u.key k)
+        ≡ cond (is_put a) false (same_key u.key k)
     by (Action.put value lease) None = refl
     by (Action.put value lease) (Some kv) = refl
     by Action.delete None = refl
@@ -79,7 +81,8 @@ other k l h = by (same_key k l) refl
 
 deleted-more : (us : List Mutation) (u : Mutation) (k : List ℕ) → is_deleted (us ++ u ∷ []) k ≡ (is_deleted us k || deletes_key k u)
 deleted-more [] u k = or-false (deletes_key k u)
-deleted-more (w ∷ us) u k = ap (λ b. deletes_key k w || b) (deleted-more us u k) ∙ or-assoc (deletes_key k w) (is_deleted us k) (deletes_key k u)
+deleted-more (w ∷ us) u k = ap (λ b. deletes_key k w || b) (deleted-more us u k)
+    ∙ or-assoc (deletes_key k w) (is_deleted us k) (deletes_key k u)
 
 -- the keys above one that is deleted are deleted before it or not at all
 abbrev pub grave_of : ℕ → List Mutation → List ℕ → Mutation
@@ -88,10 +91,12 @@ grave_of main us k = record { rev = record { main = main; sub = length us }; key
 abbrev pub still : List Mutation → List (List ℕ) → List (List ℕ)
 still us ks = filter (λ k. not (is_deleted us k)) ks
 
-still-above : (main : ℕ) (us : List Mutation) (k : List ℕ) (ls : List (List ℕ)) → AllAbove k ls → still (us ++ grave_of main us k ∷ []) ls ≡ still us ls
+still-above : (main : ℕ) (us : List Mutation) (k : List ℕ) (ls : List (List ℕ)) → AllAbove k ls
+    → still (us ++ grave_of main us k ∷ []) ls ≡ still us ls
 still-above main us k [] h = refl
 still-above main us k (l ∷ ls) h =
-    let same : is_deleted (us ++ grave_of main us k ∷ []) l ≡ is_deleted us l = deleted-more us (grave_of main us k) l ∙ ap (λ b. is_deleted us l || b) (other k l h.0) ∙ or-false (is_deleted us l) in
+    let same : is_deleted (us ++ grave_of main us k ∷ []) l ≡ is_deleted us l
+    = deleted-more us (grave_of main us k) l ∙ ap (λ b. is_deleted us l || b) (other k l h.0) ∙ or-false (is_deleted us l) in
     λ i. cond (not (same i)) (l ∷ still-above main us k ls h.1 i) (still-above main us k ls h.1 i)
 
 pub graves-planned : (vs : List Version) (main : ℕ) (us : List Mutation) (ks : List (List ℕ)) → IsAscending ks
@@ -101,7 +106,8 @@ graves-planned vs main us [] a = ap (map (next_version vs)) (sym (append-nil us)
     append-nil : (xs : List Mutation) → xs ++ [] ≡ xs
     append-nil [] = refl
     append-nil (x ∷ xs) = ap (λ ys. x ∷ ys) (append-nil xs)
-graves-planned vs main us (k ∷ ks) a = by (is_deleted us k) refl (graves-planned vs main us ks a.1) (graves-planned vs main (us ++ grave_of main us k ∷ []) ks a.1)
+graves-planned vs main us (k ∷ ks) a = by (is_deleted us k) refl (graves-planned vs main us ks a.1)
+    (graves-planned vs main (us ++ grave_of main us k ∷ []) ks a.1)
   where
     ws : List Version
     ws = map (next_version vs) us
@@ -117,7 +123,8 @@ graves-planned vs main us (k ∷ ks) a = by (is_deleted us k) refl (graves-plann
 
     by : (b : Bool) → is_deleted us k ≡ b
         → with_graves main ws ks ≡ map (next_version vs) (us ++ deletes_of main (length us) (still us ks))
-        → with_graves main (map (next_version vs) (us ++ u ∷ [])) ks ≡ map (next_version vs) ((us ++ u ∷ []) ++ deletes_of main (length (us ++ u ∷ [])) (still (us ++ u ∷ []) ks))
+        → with_graves main (map (next_version vs) (us ++ u ∷ [])) ks
+        ≡ map (next_version vs) ((us ++ u ∷ []) ++ deletes_of main (length (us ++ u ∷ [])) (still (us ++ u ∷ []) ks))
         → with_graves main (with_grave main ws k) ks ≡ map (next_version vs) (us ++ deletes_of main (length us) (still us (k ∷ ks)))
     by true e same more_of =
         ap (λ b. with_graves main (cond b ws (ws ++ tombstone main (length ws) k ∷ [])) ks) (is_gone-next vs us k ∙ e)
@@ -132,20 +139,24 @@ graves-planned vs main us (k ∷ ks) a = by (is_deleted us k) refl (graves-plann
         ∙ ap (λ b. map (next_version vs) (us ++ deletes_of main (length us) (cond (not b) (k ∷ still us ks) (still us ks)))) (sym e)
 
 -- no version is behind the end of the revision
-pub by-end : (r : ℕ) (vs : List Version) → AllByRecursion (λ v. v.rev.main ≤ r) vs → AllByRecursion (λ v. v.rev.sub < 2 ^ 64) vs → AreBy (history.end_of r) vs
+pub by-end : (r : ℕ) (vs : List Version) → AllByRecursion (λ v. v.rev.main ≤ r) vs → AllByRecursion (λ v. v.rev.sub < 2 ^ 64) vs
+    → AreBy (history.end_of r) vs
 by-end r [] h s = tt
 by-end r (v ∷ vs) h s = (rev_le-end v.rev r h.0 s.0, by-end r vs h.1 s.1)
 
 -- ---- the versions that are made are those of the changes that are planned, where no version is behind the place
 
-pub made-planned : (vs : List Version) (p : Rev) (main : ℕ) (us : List Mutation) (q : Path) → AreBy p vs → made vs p main (map (next_version vs) us) q ≡ map (next_version vs) (planned vs main us q)
+pub made-planned : (vs : List Version) (p : Rev) (main : ℕ) (us : List Mutation) (q : Path) → AreBy p vs
+    → made vs p main (map (next_version vs) us) q ≡ map (next_version vs) (planned vs main us q)
 unfolding made planned
 made-planned vs p main us Path.end h = refl
 made-planned vs p main us (Path.range r rest) h = made-planned vs p main us rest h
 made-planned vs p main us (Path.put r rest) h =
     let u : Mutation = put_change vs main (length us) r in
-    let more : map (next_version vs) us ++ put_version (record { main = main; sub = length (map (next_version vs) us) }) r (value_at vs p r.key) ∷ [] ≡ map (next_version vs) (us ++ u ∷ []) =
-    (λ i. map (next_version vs) us ++ put_version (record { main = main; sub = length-map us (next_version vs) i }) r (value_at-by vs p r.key h i) ∷ []) ∙ sym (map-append (next_version vs) us (u ∷ [])) in
+    let more : map (next_version vs) us ++ put_version (record { main = main; sub = length (map (next_version vs) us) }) r
+    (value_at vs p r.key) ∷ [] ≡ map (next_version vs) (us ++ u ∷ []) =
+    (λ i. map (next_version vs) us ++ put_version (record { main = main; sub = length-map us (next_version vs) i }) r
+    (value_at-by vs p r.key h i) ∷ []) ∙ sym (map-append (next_version vs) us (u ∷ [])) in
     ap (λ ws. made vs p main ws rest) more ∙ made-planned vs p main (us ++ u ∷ []) rest h
 made-planned vs p main us (Path.delete d rest) h =
     ap (λ kvs. made vs p main (with_graves main (map (next_version vs) us) (keys_of kvs)) rest) (sym (live_now-by vs p d.range h))
@@ -155,10 +166,14 @@ made-planned vs p main us (Path.txn b inner rest) h =
     ap (λ ws. made vs p main ws rest) (made-planned vs p main us inner h) ∙ made-planned vs p main (planned vs main us inner) rest h
 
 -- and so is the first refusal
-pub refusal-planned : (granted : ℤ → Bool) (c now : ℕ) (vs : List Version) (p : Rev) (q : Path) → AreBy p vs → refusal_of granted c now vs p q ≡ planned_refusal granted c now vs q
+pub refusal-planned : (granted : ℤ → Bool) (c now : ℕ) (vs : List Version) (p : Rev) (q : Path) → AreBy p vs
+    → refusal_of granted c now vs p q ≡ planned_refusal granted c now vs q
 unfolding refusal_of planned_refusal
 refusal-planned granted c now vs p Path.end h = refl
-refusal-planned granted c now vs p (Path.range r rest) h = ap (option_or (revision_refusal c now r.revision)) (refusal-planned granted c now vs p rest h)
-refusal-planned granted c now vs p (Path.put r rest) h = λ i. option_or (held_refusal granted r (value_at-by vs p r.key h i)) (refusal-planned granted c now vs p rest h i)
+refusal-planned granted c now vs p (Path.range r rest) h = ap (option_or (revision_refusal c now r.revision))
+    (refusal-planned granted c now vs p rest h)
+refusal-planned granted c now vs p (Path.put r rest) h = λ i. option_or (held_refusal granted r (value_at-by vs p r.key h i))
+    (refusal-planned granted c now vs p rest h i)
 refusal-planned granted c now vs p (Path.delete d rest) h = refusal-planned granted c now vs p rest h
-refusal-planned granted c now vs p (Path.txn b inner rest) h = λ i. option_or (refusal-planned granted c now vs p inner h i) (refusal-planned granted c now vs p rest h i)
+refusal-planned granted c now vs p (Path.txn b inner rest) h = λ i. option_or (refusal-planned granted c now vs p inner h i)
+    (refusal-planned granted c now vs p rest h i)

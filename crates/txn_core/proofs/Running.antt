@@ -1,5 +1,6 @@
 -- The operations that run, one after another: the path they are, what they make, and their first refusal.
-use Rattle.std.proofs.Common.{◌≡◌, ◌⊎◌, inl, inr, ℕ, suc, ◌+◌, ◌<◌, ◌≤◌, List, [], ◌∷◌, ◌++◌, length, map, drop, get_or, Bool, true, false, cond, Option, None, Some, refl, sym, ◌∙◌, ap, subst, rules, add-one, drop-cons}
+use Rattle.std.proofs.Common.{◌≡◌, ◌⊎◌, inl, inr, ℕ, ◌+◌, ◌≤◌, List, [], ◌∷◌, ◌++◌, length, map, drop, Bool, true, false}
+use Rattle.std.proofs.Common.{cond, Option, None, Some, refl, sym, ◌∙◌, ap, subst, rules}
 use Rattle.std.proofs.lemmas.List.{drop_all}
 use Rattle.std.specs.Prelude.{MatchBool, ⊤}
 use Rattle.std.specs.Option.{option_or}
@@ -22,6 +23,7 @@ use Rattle.txn_core.specs.declared.step.Step.{Step}
 use Rattle.txn_core.specs.Planning.{made, refusal_of, is_memory, IsRefusal, path_in, made_in, refusal_in}
 use Rattle.txn_core.specs.Steps.{in_row, step_view}
 use Rattle.txn_core.proofs.Walking.{txn_view-out, op_view-Range, op_view-Put, op_view-Delete}
+use Rattle.txn_core.proofs.Elements.{At, from-here}
 
 -- ---- refusals
 
@@ -71,7 +73,8 @@ pub path-put : (v : Viewed) (p : PutRequest) (rest : Ops) → path_in v (then (o
 unfolding path_of
 path-put v p rest = ap (λ o. path_in v (then o rest)) (op_view-Put p)
 
-pub path-delete : (v : Viewed) (d : DeleteRequest) (rest : Ops) → path_in v (then (op_view (Delete d)) rest) ≡ Path.delete d (path_in v rest)
+pub path-delete : (v : Viewed) (d : DeleteRequest) (rest : Ops)
+    → path_in v (then (op_view (Delete d)) rest) ≡ Path.delete d (path_in v rest)
 unfolding path_of
 path-delete v d rest = ap (λ o. path_in v (then o rest)) (op_view-Delete d)
 
@@ -85,7 +88,8 @@ behind (Path.put p rest) r = Path.end
 behind (Path.delete d rest) r = Path.end
 behind (Path.txn b inner rest) r = Path.txn b inner r
 
-path-behind : (v : Viewed) (cs : List Compare) (s f rest : Ops) → path_in v (Ops.txn cs s f rest) ≡ behind (path_in v (Ops.txn cs s f Ops.no_ops)) (path_in v rest)
+path-behind : (v : Viewed) (cs : List Compare) (s f rest : Ops)
+    → path_in v (Ops.txn cs s f rest) ≡ behind (path_in v (Ops.txn cs s f Ops.no_ops)) (path_in v rest)
 unfolding path_of
 path-behind v cs s f rest = by (list_all (holds v.versions v.revision) cs)
   where
@@ -95,10 +99,12 @@ path-behind v cs s f rest = by (list_all (holds v.versions v.revision) cs)
     by false = refl
 
 -- the operation that a transaction is, as a row
-inner-row : (t : Txn) (rest : Ops) → then (op_view (Inner t)) rest ≡ Ops.txn (out-Txn t).compare.items (ops_view (out-Txn t).success.items) (ops_view (out-Txn t).failure.items) rest
+inner-row : (t : Txn) (rest : Ops) → then (op_view (Inner t)) rest
+    ≡ Ops.txn (out-Txn t).compare.items (ops_view (out-Txn t).success.items) (ops_view (out-Txn t).failure.items) rest
 inner-row t rest = ap (λ o. then o rest) (op_view-Inner t ∙ txn_view-out t)
 
-inner-behind : (v : Viewed) (t : Txn) (rest : Ops) → path_in v (then (op_view (Inner t)) rest) ≡ behind (path_in v (txn_view t)) (path_in v rest)
+inner-behind : (v : Viewed) (t : Txn) (rest : Ops)
+    → path_in v (then (op_view (Inner t)) rest) ≡ behind (path_in v (txn_view t)) (path_in v rest)
 inner-behind v t rest =
     ap (path_in v) (inner-row t rest)
     ∙ path-behind v (out-Txn t).compare.items (ops_view (out-Txn t).success.items) (ops_view (out-Txn t).failure.items) rest
@@ -109,22 +115,26 @@ pub path-inner : (v : Viewed) (t : Txn) (b : Bool) (inner : Path) → Path.txn b
 path-inner v t b inner e rest = inner-behind v t rest ∙ ap (λ q. behind q (path_in v rest)) (sym e)
 
 -- what refuses a transaction refuses it with others behind it
-behind-refused : (v : Viewed) (ls : List Lease) (e : Refusal) (cs : List Compare) (s f : Ops) (r : Path) → IsRefusal e (refusal_in v ls (path_in v (Ops.txn cs s f Ops.no_ops)))
+behind-refused : (v : Viewed) (ls : List Lease) (e : Refusal) (cs : List Compare) (s f : Ops) (r : Path)
+    → IsRefusal e (refusal_in v ls (path_in v (Ops.txn cs s f Ops.no_ops)))
     → IsRefusal e (refusal_in v ls (behind (path_in v (Ops.txn cs s f Ops.no_ops)) r))
 unfolding path_of refusal_of
 behind-refused v ls e cs s f r = by (list_all (holds v.versions v.revision) cs)
   where
     by : (b : Bool) → IsRefusal e (refusal_in v ls (cond b (Path.txn true (path_in v s) Path.end) (Path.txn false (path_in v f) Path.end)))
         → IsRefusal e (refusal_in v ls (behind (cond b (Path.txn true (path_in v s) Path.end) (Path.txn false (path_in v f) Path.end)) r))
-    by true h = refused-first e (refusal_in v ls (path_in v s)) (refusal_in v ls r) (subst (IsRefusal e) (or-none (refusal_in v ls (path_in v s))) h)
-    by false h = refused-first e (refusal_in v ls (path_in v f)) (refusal_in v ls r) (subst (IsRefusal e) (or-none (refusal_in v ls (path_in v f))) h)
+    by true h = refused-first e (refusal_in v ls (path_in v s)) (refusal_in v ls r)
+        (subst (IsRefusal e) (or-none (refusal_in v ls (path_in v s))) h)
+    by false h = refused-first e (refusal_in v ls (path_in v f)) (refusal_in v ls r)
+        (subst (IsRefusal e) (or-none (refusal_in v ls (path_in v f))) h)
 
 pub refused-inner : (v : Viewed) (ls : List Lease) (e : Refusal) (t : Txn) → IsRefusal e (refusal_in v ls (path_in v (txn_view t)))
     → (rest : Ops) → IsRefusal e (refusal_in v ls (path_in v (then (op_view (Inner t)) rest)))
 refused-inner v ls e t h rest =
     subst (λ q. IsRefusal e (refusal_in v ls q)) (sym (inner-behind v t rest))
     (subst (λ o. IsRefusal e (refusal_in v ls (behind (path_in v o) (path_in v rest)))) (sym (txn_view-out t))
-    (behind-refused v ls e (out-Txn t).compare.items (ops_view (out-Txn t).success.items) (ops_view (out-Txn t).failure.items) (path_in v rest)
+    (behind-refused v ls e (out-Txn t).compare.items (ops_view (out-Txn t).success.items) (ops_view (out-Txn t).failure.items)
+    (path_in v rest)
     (subst (λ o. IsRefusal e (refusal_in v ls (path_in v o))) (txn_view-out t) h)))
 
 -- the branch of a transaction
@@ -136,25 +146,29 @@ txn-chosen : (v : Viewed) (cs : List Compare) (s f : Ops) → path_in v (Ops.txn
 unfolding path_of
 txn-chosen v cs s f = by (list_all (holds v.versions v.revision) cs)
   where
-    by : (b : Bool) → cond b (Path.txn true (path_in v s) Path.end) (Path.txn false (path_in v f) Path.end) ≡ Path.txn b (path_in v (cond b s f)) Path.end
+    by : (b : Bool) → cond b (Path.txn true (path_in v s) Path.end) (Path.txn false (path_in v f) Path.end)
+        ≡ Path.txn b (path_in v (cond b s f)) Path.end
     by true = refl
     by false = refl
 
 path-txn : (v : Viewed) (t : Txn) (b : Bool) → b ≡ list_all (holds v.versions v.revision) (out-Txn t).compare.items
     → path_in v (txn_view t) ≡ Path.txn b (path_in v (branch_of t b)) Path.end
 path-txn v t b e =
-    ap (path_in v) (txn_view-out t) ∙ txn-chosen v (out-Txn t).compare.items (ops_view (out-Txn t).success.items) (ops_view (out-Txn t).failure.items)
+    ap (path_in v) (txn_view-out t) ∙ txn-chosen v (out-Txn t).compare.items (ops_view (out-Txn t).success.items)
+    (ops_view (out-Txn t).failure.items)
     ∙ ap (λ c. Path.txn c (path_in v (branch_of t c)) Path.end) (sym e)
 
 pub ran : (v : Viewed) (t : Txn) (b : Bool) (q : Path) → b ≡ list_all (holds v.versions v.revision) (out-Txn t).compare.items
     → q ≡ path_in v (branch_of t b) → Path.txn b q Path.end ≡ path_in v (txn_view t)
 ran v t b q e f = ap (λ p. Path.txn b p Path.end) f ∙ sym (path-txn v t b e)
 
-pub not_run : (v : Viewed) (ls : List Lease) (t : Txn) (b : Bool) (e : Refusal) → b ≡ list_all (holds v.versions v.revision) (out-Txn t).compare.items
+pub not_run : (v : Viewed) (ls : List Lease) (t : Txn) (b : Bool) (e : Refusal)
+    → b ≡ list_all (holds v.versions v.revision) (out-Txn t).compare.items
     → IsRefusal e (refusal_in v ls (path_in v (branch_of t b))) → IsRefusal e (refusal_in v ls (path_in v (txn_view t)))
 unfolding refusal_of
 not_run v ls t b e h g =
-    subst (λ q. IsRefusal e (refusal_in v ls q)) (sym (path-txn v t b h)) (refused-first e (refusal_in v ls (path_in v (branch_of t b))) None g)
+    subst (λ q. IsRefusal e (refusal_in v ls q)) (sym (path-txn v t b h))
+    (refused-first e (refusal_in v ls (path_in v (branch_of t b))) None g)
 
 -- a path of a transaction alone
 pub made-txn : (v : Viewed) (ws : List Version) (b : Bool) (q : Path) → made_in v ws (Path.txn b q Path.end) ≡ made_in v ws q
@@ -167,16 +181,14 @@ refusal-txn v ls b q = or-none (refusal_in v ls q)
 
 -- ---- a row
 
-pub row-split : (os : List Operation) (i : ℕ) (o : Operation) → i < length os → o ≡ get_or os i o → ops_view (drop i os) ≡ then (op_view o) (ops_view (drop (i + 1) os))
-row-split os i o h e =
-    ap ops_view (drop-cons os i o h)
-    ∙ ap (λ p. then (op_view p) (ops_view (drop (suc i) os))) (sym e)
-    ∙ ap (λ n. then (op_view o) (ops_view (drop n os))) (sym (add-one i))
+pub row-split : (os : List Operation) (a : At os) → ops_view (drop a.index os) ≡ then (op_view a.value) (ops_view (drop (a.index + 1) os))
+row-split os a = ap ops_view (from-here os a)
 
 pub row-end : (v : Viewed) (os : List Operation) (i : ℕ) → length os ≤ i → path_in v (ops_view (drop i os)) ≡ Path.end
 unfolding path_of
 row-end v os i h = ap (λ ps. path_in v (ops_view ps)) (drop_all i os h)
 
-pub in_row-more : (ss : List Step) (s : Step) (q : Path) → in_row (map step_view (ss ++ s ∷ [])) q ≡ in_row (map step_view ss) (step_view s q)
+pub in_row-more : (ss : List Step) (s : Step) (q : Path)
+    → in_row (map step_view (ss ++ s ∷ [])) q ≡ in_row (map step_view ss) (step_view s q)
 in_row-more [] s q = refl
 in_row-more (t ∷ ss) s q = ap (step_view t) (in_row-more ss s q)

@@ -16,7 +16,8 @@ use Rattle.kv_model.specs.Txns.{next_body, put_action, put_lease_refusal}
 
 -- why it is refused where its key holds this
 abbrev pub held_refusal : (ℤ → Bool) → PutRequest → Option KeyValue → Option Refusal
-held_refusal granted p held = option_or (refuse_if ((p.ignore_value || p.ignore_lease) && is_none held) KeyMissing) (put_lease_refusal granted p)
+held_refusal granted p held = option_or (refuse_if ((p.ignore_value || p.ignore_lease) && is_none held) KeyMissing)
+    (put_lease_refusal granted p)
 
 -- the version that it makes of a key that holds this
 abbrev pub put_version : Rev → PutRequest → Option KeyValue → Version

@@ -1,5 +1,6 @@
 -- The versions that a transaction makes, and its first refusal, told from what is seen at a place before it.
-use Rattle.std.specs.Prelude.{◌≡◌, ℕ, ◌+◌, ◌≤◌, ℤ, List, [], ◌∷◌, ◌++◌, length, Bool, true, false, ◌&&◌, if◌then◌else◌, Option, None, Some, MatchBool, ⊤}
+use Rattle.std.specs.Prelude.{◌≡◌, ℕ, ◌+◌, ◌≤◌, ℤ, List, [], ◌∷◌, ◌++◌, length, Bool, true, false, ◌&&◌, if◌then◌else◌}
+use Rattle.std.specs.Prelude.{Option, None, Some, MatchBool, ⊤}
 use Rattle.std.specs.Option.{option_or}
 use Rattle.std.specs.List.{list_any, AllByRecursion}
 use Rattle.kv_model.specs.declared.version.Rev.{Rev}
@@ -42,17 +43,21 @@ with_graves main ws (k ∷ ks) = with_graves main (with_grave main ws k) ks
 unfoldable pub made : List Version → Rev → ℕ → List Version → Path → List Version
 made vs p main ws Path.end = ws
 made vs p main ws (Path.range q rest) = made vs p main ws rest
-made vs p main ws (Path.put r rest) = made vs p main (ws ++ put_version (record { main = main; sub = length ws }) r (value_at vs p r.key) ∷ []) rest
+made vs p main ws (Path.put r rest) = made vs p main
+    (ws ++ put_version (record { main = main; sub = length ws }) r (value_at vs p r.key) ∷ []) rest
 made vs p main ws (Path.delete d rest) = made vs p main (with_graves main ws (keys_of (live vs p d.range))) rest
 made vs p main ws (Path.txn b inner rest) = made vs p main (made vs p main ws inner) rest
 
 -- the first refusal of the operations that run, in order
 unfoldable pub refusal_of : (ℤ → Bool) → ℕ → ℕ → List Version → Rev → Path → Option Refusal
 refusal_of granted c now vs p Path.end = None
-refusal_of granted c now vs p (Path.range q rest) = option_or (revision_refusal c now q.revision) (refusal_of granted c now vs p rest)
-refusal_of granted c now vs p (Path.put r rest) = option_or (held_refusal granted r (value_at vs p r.key)) (refusal_of granted c now vs p rest)
+refusal_of granted c now vs p (Path.range q rest) = option_or (revision_refusal c now q.revision)
+    (refusal_of granted c now vs p rest)
+refusal_of granted c now vs p (Path.put r rest) = option_or (held_refusal granted r (value_at vs p r.key))
+    (refusal_of granted c now vs p rest)
 refusal_of granted c now vs p (Path.delete d rest) = refusal_of granted c now vs p rest
-refusal_of granted c now vs p (Path.txn b inner rest) = option_or (refusal_of granted c now vs p inner) (refusal_of granted c now vs p rest)
+refusal_of granted c now vs p (Path.txn b inner rest) = option_or (refusal_of granted c now vs p inner)
+    (refusal_of granted c now vs p rest)
 
 abbrev pub is_memory : Refusal → Bool
 is_memory Memory = true

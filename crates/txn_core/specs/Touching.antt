@@ -52,9 +52,12 @@ some_collide (ts ∷ tss) = any_collide ts (all_of tss) || some_collide tss
 
 -- a transaction alone clashes where one of its branches does by itself
 abbrev pub OppositeBranchesDoNotClash : Type 0
-OppositeBranchesDoNotClash = (cs : List Compare) (s f : Ops) → clashes (Ops.txn cs s f Ops.no_ops) ≡ (clashes s || clashes f)
+OppositeBranchesDoNotClash = (cs : List Compare) (s f : Ops)
+    → clashes (Ops.txn cs s f Ops.no_ops) ≡ (clashes s || clashes f)
 
 -- Where nothing clashes, whatever the state: of all that runs, nothing but the put itself touches a key that is put.
 abbrev pub PutsAreAlone : Type 0
-PutsAreAlone = (ops : Ops) → clashes ops ≡ false → (vs : List Version) (now : ℕ) (before after : List Touch) (k : List ℕ)
-    → path_touches (path_of vs now ops) ≡ before ++ Touch.one k ∷ after → AllByRecursion (λ t. collides (Touch.one k) t ≡ false) (before ++ after)
+PutsAreAlone = (ops : Ops) → clashes ops ≡ false
+    → (vs : List Version) (now : ℕ) (before after : List Touch) (k : List ℕ)
+    → path_touches (path_of vs now ops) ≡ before ++ Touch.one k ∷ after
+    → AllByRecursion (λ t. collides (Touch.one k) t ≡ false) (before ++ after)

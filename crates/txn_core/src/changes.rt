@@ -1,20 +1,22 @@
 //! The versions that a transaction makes, numbered as they come.
-ghost use Rattle.std.specs.Prelude.{◌≡◌, [], ◌∷◌, ◌++◌, ℕ, List, true, false, length, OnOk, OnErr, map};
+ghost use Rattle.std.specs.Prelude.{◌≡◌, [], ◌∷◌, ◌++◌, ℕ, List, true, false, length, OnOk, OnErr};
+ghost use Rattle.std.specs.Prelude.{map};
 ghost use Rattle.kv_model.specs.Ranges.{keys_of};
 ghost use Rattle.kv_model.specs.Trimming.{is_tombstone};
 ghost use Rattle.range_view.specs.Replies.{kv_view};
 ghost use Rattle.txn_core.specs.Graves.{has_key};
 ghost use Rattle.txn_core.specs.Planning as planning;
 
+use crate::delete::tombstone;
 use crate::deleted;
-use crate::key_writes::tombstone;
 use kv_model::version::{Rev, Version};
 use range_view::reply::KvRef;
 use std::alloc::{AllocError, Global};
 use std::collections::BTreeSet;
 use std::marker::Model;
 
-/// The versions that a transaction has made so far, and the keys that it has deleted, lent from what is kept.
+/// The versions that a transaction has made so far, and the keys that it has deleted, lent from
+/// what is kept.
 #[derive(Drop)]
 pub(crate) struct Changes<'a> {
     alloc: Global,
@@ -73,12 +75,14 @@ impl<'a> Changes<'a> {
         Ok(())
     }
 
-    /// Deletes the keys of these key-values at a revision: adds a tombstone of each that is not deleted already, numbered on in
-    /// their order. The keys are copied. The error is want of memory.
+    /// Deletes the keys of these key-values at a revision: adds a tombstone of each that is not
+    /// deleted already, numbered on in their order. The keys are copied. The error is want of
+    /// memory.
     ///
     /// Each key takes time logarithmic in the number of keys deleted so far.
     pub(crate) fn delete(&mut self, main: u64, live: &[KvRef<'a>]) -> Result<(), AllocError>
-        ensures { OnOk result (self.new ≡ planning.with_graves main self.old (keys_of (map kv_view live.now))) }
+        ensures { OnOk result
+            (self.new ≡ planning.with_graves main self.old (keys_of (map kv_view live.now))) }
     {
         for kv in live {
             self.bury(main, kv.key)?;

@@ -10,15 +10,17 @@ use kv_model::call::Txn;
 use kv_model::refusal::Refusal;
 use std::alloc::Global;
 
-/// Whether a transaction may run, as far as that hangs on it alone (the etcd documentation, TxnRequest). Its keys are listed in
-/// memory of `alloc`.
+/// Whether a transaction may run, as far as that hangs on it alone (the etcd documentation,
+/// TxnRequest). Its keys are listed in memory of `alloc`.
 ///
-/// Refused for the first fault in the order of its document: `TooDeep`, `TooManyOps`, `NoKey`, `ValueGiven` or `LeaseGiven`, as
-/// `walk_fault` says. Then as `DuplicateKey` where two operations that can run together put one key, or one of them puts a key
-/// in the range of the other's delete. `Memory` comes where there is no fault, and the lists of keys for that found none.
+/// Refused for the first fault in the order of its document: `TooDeep`, `TooManyOps`, `NoKey`,
+/// `ValueGiven` or `LeaseGiven`, as `walk_fault` says. Then as `DuplicateKey` where two operations
+/// that can run together put one key, or one of them puts a key in the range of the other's delete.
+/// `Memory` comes where there is no fault, and the lists of keys for that found none.
 ///
-/// The walk is linear. The search sorts the keys that are put in each row of operations once, and those that each of the row's
-/// operations puts, so it takes n log n comparisons of keys in the number of operations for each of the at most eight levels.
+/// The walk is linear. The search sorts the keys that are put in each row of operations once, and
+/// those that each of the row's operations puts, so it takes n log n comparisons of keys in the
+/// number of operations for each of the at most eight levels.
 #[tactic(auto, using(crate::proofs::StaticFaults::faultless, crate::proofs::StaticFaults::refused_by_fault, crate::proofs::StaticFaults::refused_by_clash, crate::proofs::StaticFaults::refused_by_memory))]
 pub fn check(alloc: Global, txn: &Txn) -> Result<(), Refusal>
     ensures allowed { OnOk result (txns.static_fault (txn_view txn.now) ≡ None) }

@@ -2,6 +2,7 @@
 ghost use Rattle.std.specs.Prelude.{◌≡◌, map, IfOk};
 ghost use Rattle.std.specs.List.{list_any};
 ghost use Rattle.kv_model.specs.Calls.{txn_view, op_view, ops_view};
+ghost use Rattle.kv_model.specs.Txns.{Touch};
 ghost use Rattle.kv_model.specs.Txns as txns;
 ghost use Rattle.txn_core.specs.Touching as touching;
 ghost use Rattle.txn_core.specs.Touching.{OppositeBranchesDoNotClash, PutsAreAlone};
@@ -13,12 +14,13 @@ use bytes::Bytes;
 use kv_model::call::{Operation, Txn};
 use std::alloc::{AllocError, Global};
 
-/// Whether two operations that can run together change a key in common, at least one of them by a put. Two can run together
-/// unless they lie in opposite branches of one transaction.
+/// Whether two operations that can run together change a key in common, at least one of them by a
+/// put. Two can run together unless they lie in opposite branches of one transaction.
 ///
-/// For each row of operations the keys that are put in it are sorted, and so are those that each of its operations puts. Two
-/// of the operations collide where one touches more of the row's keys than of its own, which halving counts. So the time is
-/// n log n in the number of operations for each level of transactions, and the memory linear. The error is want of it.
+/// For each row of operations the keys that are put in it are sorted, and so are those that each of
+/// its operations puts. Two of the operations collide where one touches more of the row's keys than
+/// of its own, which halving counts. So the time is n log n in the number of operations for each
+/// level of transactions, and the memory linear. The error is want of it.
 #[cycle(clash)]
 pub(crate) fn clashes(alloc: Global, txn: &Txn) -> Result<bool, AllocError>
     ensures { IfOk result (λ b. b ≡ txns.clashes (txn_view txn.now)) }
@@ -58,11 +60,10 @@ fn operation_clashes(alloc: Global, operation: &Operation) -> Result<bool, Alloc
 
 /// Whether two operations of the row, or operations within two of them, collide.
 fn row_collides(alloc: Global, row: &Vec<Operation>) -> Result<bool, AllocError>
-    ensures { IfOk result (λ b. b ≡ touching.some_collide (map (λ o. txns.touches (op_view o)) row.now.items)) }
+    ensures { IfOk result (λ b. b
+        ≡ touching.some_collide (map (λ o. txns.touches (op_view o)) row.now.items)) }
 {
-    let mut touched = Vec::new(alloc);
-    push_row(&mut touched, row)?;
-    let all = sorted_keys(alloc, &touched)?;
+    let all = row_keys(alloc, row)?;
     for operation in row {
         if meets_more(alloc, &all, operation)? {
             return Ok(true);
@@ -71,10 +72,22 @@ fn row_collides(alloc: Global, row: &Vec<Operation>) -> Result<bool, AllocError>
     Ok(false)
 }
 
+/// The keys that the operations of a row put, those within them too, in order.
+fn row_keys<'a>(alloc: Global, row: &'a Vec<Operation>) -> Result<Vec<&'a Bytes>, AllocError>
+    ensures counts { IfOk result (λ v. (t : Touch) → touching.count_touched t (keys_view v.items)
+        ≡ touching.count_touched t (touching.keys_put (txns.touches (ops_view row.now.items)))) }
+    ensures sorted { IfOk result (λ v. AreSorted v.items) }
+{
+    let mut touched = Vec::new(alloc);
+    push_row(&mut touched, row)?;
+    sorted_keys(alloc, &touched)
+}
+
 /// Whether an operation touches more of all the keys than of those that it puts.
 fn meets_more(alloc: Global, all: &[&Bytes], operation: &Operation) -> Result<bool, AllocError>
     requires { AreSorted all.now }
-    ensures { IfOk result (λ b. b ≡ touching.meets_more (keys_view all.now) (txns.touches (op_view operation.now))) }
+    ensures { IfOk result (λ b. b
+        ≡ touching.meets_more (keys_view all.now) (txns.touches (op_view operation.now))) }
 {
     let mut touched = Vec::new(alloc);
     push_operation(&mut touched, operation)?;
@@ -86,7 +99,9 @@ fn meets_more(alloc: Global, all: &[&Bytes], operation: &Operation) -> Result<bo
 fn any_more(touched: &[Touched<'_>], all: &[&Bytes], own: &[&Bytes]) -> bool
     requires all { AreSorted all.now }
     requires own { AreSorted own.now }
-    ensures { result ≡ list_any (λ t. touching.touches_more (keys_view all.now) (keys_view own.now) (touch_view t)) touched.now }
+    ensures { result
+        ≡ list_any (λ t.
+        touching.touches_more (keys_view all.now) (keys_view own.now) (touch_view t)) touched.now }
 {
     touched.iter().any(|t| count(*t, all) != count(*t, own))
 }

@@ -14,15 +14,16 @@ use std::cmp::Ordering;
 
 /// Whether all the compares hold of what is kept at the end of the view's revision.
 ///
-/// `AllocError` comes where a list of what the keys of a range hold found no memory. The ranges are walked one after another, up
-/// to the first compare that does not hold; one key is looked up.
+/// `AllocError` comes where a list of what the keys of a range hold found no memory. The ranges are
+/// walked one after another, up to the first compare that does not hold; one key is looked up.
 pub(crate) fn all_hold(
     alloc: Global,
     view: &View<'_>,
     compares: &[Compare],
 ) -> Result<bool, AllocError>
     requires { view.now.place ≡ history.end_of view.now.revision }
-    ensures { IfOk result (λ b. b ≡ list_all (txns.holds view.now.versions view.now.revision) compares.now) }
+    ensures { IfOk result (λ b. b
+        ≡ list_all (txns.holds view.now.versions view.now.revision) compares.now) }
 {
     for compare in compares {
         if !holds(alloc, view, compare)? {
@@ -54,7 +55,10 @@ fn holds_of(compare: &Compare, kvs: &[KvRef<'_>]) -> bool
 
 /// Whether each of the key-values stands to the operand as the compare says.
 fn holds_of_all(compare: &Compare, kvs: &[KvRef<'_>]) -> bool
-    ensures { result ≡ list_all (λ kv. txns.relates compare.now.relation (txns.operand_cmp compare.now.operand kv)) (map kv_view kvs.now) }
+    ensures { result
+        ≡ list_all (λ kv.
+        txns.relates compare.now.relation (txns.operand_cmp compare.now.operand kv))
+        (map kv_view kvs.now) }
 {
     for kv in kvs {
         if !relates(compare.relation, operand_cmp(&compare.operand, kv)) {
@@ -64,7 +68,8 @@ fn holds_of_all(compare: &Compare, kvs: &[KvRef<'_>]) -> bool
     true
 }
 
-/// Whether a compare holds where no key of its range is live: any number is 0, and a value has no answer.
+/// Whether a compare holds where no key of its range is live: any number is 0, and a value has no
+/// answer.
 fn holds_of_none(relation: Relation, operand: &Operand) -> bool
     ensures { result ≡ txns.holds_of_none relation operand.now }
 {

@@ -8,8 +8,9 @@ ghost use Rattle.kv_model.specs.Lists as lists;
 ghost use Rattle.kv_model.specs.Ranges as ranges;
 ghost use Rattle.kv_model.specs.Txns as txns;
 
+use crate::put::put_fault;
 use bytes::Bytes;
-use kv_model::call::{Compare, Operation, PutRequest, Txn};
+use kv_model::call::{Compare, Operation, Txn};
 use kv_model::refusal::Refusal;
 
 /// How many transactions may lie in one another.
@@ -18,12 +19,14 @@ const MOST_DEPTH: u8 = 8;
 /// How many compares, and how many operations of a branch, a transaction may have.
 const MOST_OPERATIONS: usize = 128;
 
-/// The first fault of a transaction in the order of its document, whatever the state: a transaction before its parts, and of
-/// those its compares, the operations on success and those on failure, in branches that do not run too.
+/// The first fault of a transaction in the order of its document, whatever the state: a transaction
+/// before its parts, and of those its compares, the operations on success and those on failure, in
+/// branches that do not run too.
 ///
-/// `TooDeep` comes of a ninth transaction in one another, `TooManyOps` of more than 128 compares or operations of one branch,
-/// `NoKey` of an empty key of a compare or an operation, `ValueGiven` and `LeaseGiven` of a put that brings what it is to keep.
-/// Operations that may not run together are not looked for here.
+/// `TooDeep` comes of a ninth transaction in one another, `TooManyOps` of more than 128 compares or
+/// operations of one branch, `NoKey` of an empty key of a compare or an operation, `ValueGiven` and
+/// `LeaseGiven` of a put that brings what it is to keep. Operations that may not run together are
+/// not looked for here.
 ///
 /// Linear in the number of compares and operations. Takes no memory.
 pub fn walk_fault(txn: &Txn) -> Option<Refusal>
@@ -80,7 +83,10 @@ fn operation_fault(operation: &Operation, depth: u8) -> Option<Refusal>
 
 /// The fault of a transaction itself: its sizes, and then its compares.
 fn own_fault(compares: &[Compare], success: &[Operation], failure: &[Operation]) -> Option<Refusal>
-    ensures { result ≡ option_or (txns.size_fault (length compares.now) (length success.now) (length failure.now)) (txns.compares_fault compares.now) }
+    ensures { result
+        ≡ option_or
+        (txns.size_fault (length compares.now) (length success.now) (length failure.now))
+        (txns.compares_fault compares.now) }
 {
     let size = size_fault(compares.len(), success.len(), failure.len());
     if size.is_some() {
@@ -114,21 +120,7 @@ fn has_empty_key(compares: &[Compare]) -> bool
     compares.iter().any(|compare| is_empty(&compare.range.key))
 }
 
-/// The first fault of a put by itself, whatever the state: `NoKey` where its key is empty, `ValueGiven` where it brings a value
-/// and is to keep the old one, and `LeaseGiven` where it names a lease and is to keep the old one. Constant time. Takes no memory.
-pub fn put_fault(put: &PutRequest) -> Option<Refusal>
-    ensures { result ≡ txns.put_fault put.now }
-{
-    if put.key.is_empty() {
-        return Some(Refusal::NoKey);
-    }
-    if put.ignore_value && !put.value.is_empty() {
-        return Some(Refusal::ValueGiven);
-    }
-    refuse_if(put.ignore_lease && put.lease != 0, Refusal::LeaseGiven)
-}
-
-pub(crate) fn is_empty(bytes: &Bytes) -> bool
+fn is_empty(bytes: &Bytes) -> bool
     ensures { result ≡ lists.is_empty bytes.now }
 {
     bytes.is_empty()

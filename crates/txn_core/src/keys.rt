@@ -1,14 +1,13 @@
 //! Keys in order, among which those that an operation touches are counted by halving.
-ghost use Rattle.std.specs.Prelude.{◌≡◌, ◌∷◌, [], ◌++◌, map, OnOk, IfOk};
+ghost use Rattle.std.specs.Prelude.{◌≡◌, ◌&&◌, ◌∷◌, [], ◌++◌, map, OnOk, IfOk};
 ghost use Rattle.kv_model.specs.Keys.{key_lt, key_le, in_range, same_key};
-ghost use Rattle.kv_model.specs.Keys as model;
 ghost use Rattle.kv_model.specs.Txns.{Touch};
 ghost use Rattle.txn_core.specs.Touching.{count_of, keys_put, count_touched};
 ghost use Rattle.txn_core.specs.Views.{touch_view, keys_view, AreSorted};
 
-use crate::fault::is_empty;
 use crate::touched::Touched;
 use bytes::Bytes;
+use kv_model::span::Span;
 use kv_model::version::KeyRange;
 use std::alloc::{AllocError, Global};
 
@@ -17,7 +16,9 @@ pub(crate) fn sorted_keys<'a>(
     alloc: Global,
     touched: &[Touched<'a>],
 ) -> Result<Vec<&'a Bytes>, AllocError>
-    ensures counts { IfOk result (λ v. (t : Touch) → count_touched t (keys_view v.items) ≡ count_touched t (keys_put (map touch_view touched.now))) }
+    ensures counts { IfOk result (λ v. (t : Touch)
+        → count_touched t (keys_view v.items)
+        ≡ count_touched t (keys_put (map touch_view touched.now))) }
     ensures sorted { IfOk result (λ v. AreSorted v.items) }
 {
     let mut keys = Vec::new(alloc);
@@ -30,7 +31,9 @@ pub(crate) fn sorted_keys<'a>(
 
 /// Adds the key of a put.
 fn push_key<'a>(keys: &mut Vec<&'a Bytes>, touched: Touched<'a>) -> Result<(), AllocError>
-    ensures { OnOk result (keys_view keys.new.items ≡ keys_view keys.old.items ++ keys_put (touch_view touched.entry ∷ [])) }
+    ensures { OnOk result
+        (keys_view keys.new.items
+        ≡ keys_view keys.old.items ++ keys_put (touch_view touched.entry ∷ [])) }
 {
     if let Touched::Put(key) = touched {
         keys.push(key)?;
@@ -39,7 +42,9 @@ fn push_key<'a>(keys: &mut Vec<&'a Bytes>, touched: Touched<'a>) -> Result<(), A
 }
 
 fn sort(keys: &mut Vec<&Bytes>) -> Result<(), AllocError>
-    ensures counts { OnOk result ((t : Touch) → count_touched t (keys_view keys.new.items) ≡ count_touched t (keys_view keys.old.items)) }
+    ensures counts { OnOk result
+        ((t : Touch)
+        → count_touched t (keys_view keys.new.items) ≡ count_touched t (keys_view keys.old.items)) }
     ensures sorted { OnOk result (AreSorted keys.new.items) }
 {
     keys.sort_by(|a, b| a.cmp(b))
@@ -61,19 +66,23 @@ fn count_within(keys: &[&Bytes], range: &KeyRange) -> usize
     requires { AreSorted keys.now }
     ensures { result ≡ count_of (in_range range.now) (keys_view keys.now) }
 {
-    if is_empty(&range.end) {
-        return count_same(keys, &range.key);
+    match range.span() {
+        Span::Key(key) => count_same(keys, key),
+        Span::All => keys.len(),
+        Span::From(from) => keys.len() - count_below(keys, from),
+        Span::Interval { from, to } => count_between(keys, from, to),
     }
-    if is_zero_byte(&range.end) {
-        if is_zero_byte(&range.key) {
-            return keys.len();
-        }
-        return keys.len() - count_below(keys, &range.key);
-    }
-    if is_below(&range.end, &range.key) {
+}
+
+/// How many of the keys lie from one on and before another.
+fn count_between(keys: &[&Bytes], from: &Bytes, to: &Bytes) -> usize
+    requires { AreSorted keys.now }
+    ensures { result ≡ count_of (λ k. key_le from.now k && key_lt k to.now) (keys_view keys.now) }
+{
+    if to.cmp(&from).is_lt() {
         return 0;
     }
-    count_below(keys, &range.end) - count_below(keys, &range.key)
+    count_below(keys, to) - count_below(keys, from)
 }
 
 /// How many of the keys are this one.
@@ -98,18 +107,4 @@ fn count_up_to(keys: &[&Bytes], key: &Bytes) -> usize
     ensures { result ≡ count_of (λ k. key_le k key.now) (keys_view keys.now) }
 {
     keys.partition_point(|k| k.cmp(&key).is_le())
-}
-
-/// Whether a key comes before another.
-fn is_below(key: &Bytes, other: &Bytes) -> bool
-    ensures { result ≡ key_lt key.now other.now }
-{
-    key.cmp(&other).is_lt()
-}
-
-/// Whether a key is the single byte 0.
-fn is_zero_byte(key: &Bytes) -> bool
-    ensures { result ≡ same_key key.now model.zero_byte }
-{
-    key.as_slice() == [0].as_slice()
 }

@@ -1,5 +1,6 @@
 //! What a transaction does, decided on the state before it (etcd: the apply of a TxnRequest).
-ghost use Rattle.std.specs.Prelude.{◌≡◌, ◌⊎◌, ◌+◌, ◌<◌, ◌≤◌, ◌^◌, ◌∷◌, ◌++◌, [], length, map, None, Some, IfOk, IfErr, OnOk};
+ghost use Rattle.std.specs.Prelude.{◌≡◌, ◌⊎◌, ◌+◌, ◌<◌, ◌≤◌, ◌^◌, ◌∷◌, ◌++◌, [], length, map, None};
+ghost use Rattle.std.specs.Prelude.{Some, IfOk, IfErr, OnOk};
 ghost use Rattle.std.specs.List.{AllByRecursion};
 ghost use Rattle.kv_model.specs.Calls.{Ops, then, op_view, ops_view, txn_view};
 ghost use Rattle.kv_model.specs.History as history;
@@ -16,7 +17,7 @@ ghost use Rattle.txn_core.specs.Steps.{step_view, steps_view};
 
 use crate::changes::Changes;
 use crate::compare::all_hold;
-use crate::key_writes::{held_refusal, put_version};
+use crate::put::{held_refusal, put_version};
 use crate::step::{Plan, Step};
 use kv_model::call::{DeleteRequest, Operation, PutRequest, RangeQuery, Txn};
 use kv_model::refusal::Refusal;
@@ -32,17 +33,20 @@ struct Branch<'t> {
     steps: Vec<Step<'t>>,
 }
 
-/// What a transaction does at the revision after the view's, decided on the view alone: which branches run, and the versions
-/// that their operations make, numbered in the order of the document. A key that several deletes take is deleted by the first.
-/// That no two operations change one key in another way is decided above.
+/// What a transaction does at the revision after the view's, decided on the view alone: which
+/// branches run, and the versions that their operations make, numbered in the order of the
+/// document. A key that several deletes take is deleted by the first. That no two operations change
+/// one key in another way is decided above.
 ///
-/// The first refusal of the operations that run, in their order, is answered: `Compacted` or `Future` of a Range whose own
-/// revision is not kept or not there, `KeyMissing` of a put that keeps what is not there, `LeaseMissing` of one that names a
-/// lease that is not granted. `Memory` comes where there is none for the steps, the versions or what a range holds.
+/// The first refusal of the operations that run, in their order, is answered: `Compacted` or
+/// `Future` of a Range whose own revision is not kept or not there, `KeyMissing` of a put that
+/// keeps what is not there, `LeaseMissing` of one that names a lease that is not granted. `Memory`
+/// comes where there is none for the steps, the versions or what a range holds.
 ///
-/// Each compare and each delete walks the keys of its range, up to the first compare of a transaction that does not hold; each
-/// key that is put or deleted takes time logarithmic in the keys that are kept or deleted so far. A put shares the request's key
-/// and value; the key of a tombstone and a value that is kept are copied.
+/// Each compare and each delete walks the keys of its range, up to the first compare of a
+/// transaction that does not hold; each key that is put or deleted takes time logarithmic in the
+/// keys that are kept or deleted so far. A put shares the request's key and value; the key of a
+/// tombstone and a value that is kept are copied.
 pub fn plan<'t>(
     alloc: Global,
     view: &View<'_>,
@@ -53,13 +57,20 @@ pub fn plan<'t>(
     requires upto { IsUpTo view.now.revision view.now.versions }
     requires places { AllByRecursion (λ v. v.rev.sub < 2 ^ 64) view.now.versions }
     requires fits { view.now.revision ≤ last_main }
-    requires counted { AllByRecursion (λ v. IsCountedTo view.now.revision v.body) view.now.versions }
-    ensures path { IfOk result (λ p. Path.txn p.succeeded (steps_view p.steps.items) Path.end ≡ path_of view.now.versions view.now.revision (txn_view txn.now)) }
-    ensures clear { OnOk result (planned_refusal (is_granted leases.now.leases) view.now.compacted view.now.revision view.now.versions
+    requires counted { AllByRecursion (λ v.
+        IsCountedTo view.now.revision v.body) view.now.versions }
+    ensures path { IfOk result (λ p. Path.txn p.succeeded (steps_view p.steps.items) Path.end
+        ≡ path_of view.now.versions view.now.revision (txn_view txn.now)) }
+    ensures clear { OnOk result
+        (planned_refusal
+        (is_granted leases.now.leases) view.now.compacted view.now.revision view.now.versions
         (path_of view.now.versions view.now.revision (txn_view txn.now)) ≡ None) }
     ensures versions { IfOk result (λ p. p.versions.items ≡ map (next_version view.now.versions)
-        (planned view.now.versions (view.now.revision + 1) [] (path_of view.now.versions view.now.revision (txn_view txn.now)))) }
-    ensures refused { IfErr result (λ e. (e ≡ Refusal.Memory) ⊎ (planned_refusal (is_granted leases.now.leases) view.now.compacted view.now.revision view.now.versions
+        (planned view.now.versions (view.now.revision + 1) []
+        (path_of view.now.versions view.now.revision (txn_view txn.now)))) }
+    ensures refused { IfErr result (λ e. (e ≡ Refusal.Memory)
+        ⊎ (planned_refusal
+        (is_granted leases.now.leases) view.now.compacted view.now.revision view.now.versions
         (path_of view.now.versions view.now.revision (txn_view txn.now)) ≡ Some e)) }
 {
     let mut changes = Changes::new(alloc);
@@ -83,10 +94,16 @@ fn run_txn<'a, 't>(
     txn: &'t Txn,
 ) -> Result<Branch<'t>, Refusal>
     requires { planning.IsPresent view.now }
-    ensures path { IfOk result (λ b. Path.txn b.succeeded (steps_view b.steps.items) Path.end ≡ planning.path_in view.now (txn_view txn.now)) }
-    ensures made { IfOk result (λ b. changes.new ≡ planning.made_in view.now changes.old (steps_view b.steps.items)) }
-    ensures fine { IfOk result (λ b. planning.refusal_in view.now leases.now.leases (steps_view b.steps.items) ≡ None) }
-    ensures refused { IfErr result (λ e. planning.IsRefusal e (planning.refusal_in view.now leases.now.leases (planning.path_in view.now (txn_view txn.now)))) }
+    ensures path { IfOk result (λ b. Path.txn b.succeeded (steps_view b.steps.items) Path.end
+        ≡ planning.path_in view.now (txn_view txn.now)) }
+    ensures made { IfOk result (λ b. changes.new
+        ≡ planning.made_in view.now changes.old (steps_view b.steps.items)) }
+    ensures fine { IfOk result (λ b.
+        planning.refusal_in view.now leases.now.leases (steps_view b.steps.items) ≡ None) }
+    ensures refused { IfErr result (λ e.
+        planning.IsRefusal e
+        (planning.refusal_in view.now leases.now.leases
+        (planning.path_in view.now (txn_view txn.now)))) }
 {
     let Ok(succeeded) = all_hold(alloc, view, &txn.compare) else {
         return Err(Refusal::Memory);
@@ -112,10 +129,16 @@ fn run_row<'a, 't>(
     row: &'t Vec<Operation>,
 ) -> Result<Vec<Step<'t>>, Refusal>
     requires { planning.IsPresent view.now }
-    ensures path { IfOk result (λ s. steps_view s.items ≡ planning.path_in view.now (ops_view row.now.items)) }
-    ensures made { IfOk result (λ s. changes.new ≡ planning.made_in view.now changes.old (steps_view s.items)) }
-    ensures fine { IfOk result (λ s. planning.refusal_in view.now leases.now.leases (steps_view s.items) ≡ None) }
-    ensures refused { IfErr result (λ e. planning.IsRefusal e (planning.refusal_in view.now leases.now.leases (planning.path_in view.now (ops_view row.now.items)))) }
+    ensures path { IfOk result (λ s. steps_view s.items
+        ≡ planning.path_in view.now (ops_view row.now.items)) }
+    ensures made { IfOk result (λ s. changes.new
+        ≡ planning.made_in view.now changes.old (steps_view s.items)) }
+    ensures fine { IfOk result (λ s.
+        planning.refusal_in view.now leases.now.leases (steps_view s.items) ≡ None) }
+    ensures refused { IfErr result (λ e.
+        planning.IsRefusal e
+        (planning.refusal_in view.now leases.now.leases
+        (planning.path_in view.now (ops_view row.now.items)))) }
 {
     let mut steps = Vec::new(alloc);
     for operation in row {
@@ -141,10 +164,19 @@ fn run_operation<'a, 't>(
     operation: &'t Operation,
 ) -> Result<Step<'t>, Refusal>
     requires { planning.IsPresent view.now }
-    ensures path { IfOk result (λ s. (rest : Ops) → planning.path_in view.now (then (op_view operation.now) rest) ≡ step_view s (planning.path_in view.now rest)) }
-    ensures made { IfOk result (λ s. (rest : Path) → planning.made_in view.now changes.old (step_view s rest) ≡ planning.made_in view.now changes.new rest) }
-    ensures fine { IfOk result (λ s. (rest : Path) → planning.refusal_in view.now leases.now.leases (step_view s rest) ≡ planning.refusal_in view.now leases.now.leases rest) }
-    ensures refused { IfErr result (λ e. (rest : Ops) → planning.IsRefusal e (planning.refusal_in view.now leases.now.leases (planning.path_in view.now (then (op_view operation.now) rest)))) }
+    ensures path { IfOk result (λ s. (rest : Ops)
+        → planning.path_in view.now (then (op_view operation.now) rest)
+        ≡ step_view s (planning.path_in view.now rest)) }
+    ensures made { IfOk result (λ s. (rest : Path)
+        → planning.made_in view.now changes.old (step_view s rest)
+        ≡ planning.made_in view.now changes.new rest) }
+    ensures fine { IfOk result (λ s. (rest : Path)
+        → planning.refusal_in view.now leases.now.leases (step_view s rest)
+        ≡ planning.refusal_in view.now leases.now.leases rest) }
+    ensures refused { IfErr result (λ e. (rest : Ops)
+        → planning.IsRefusal e
+        (planning.refusal_in view.now leases.now.leases
+        (planning.path_in view.now (then (op_view operation.now) rest)))) }
 {
     match operation {
         Operation::Range(query) => match run_range(view, query) {
@@ -168,8 +200,11 @@ fn run_operation<'a, 't>(
 
 /// A Range changes nothing; it is refused by its own revision.
 fn run_range(view: &View<'_>, query: &RangeQuery) -> Result<(), Refusal>
-    ensures fine { OnOk result (ranges.revision_refusal view.now.compacted view.now.revision query.now.revision ≡ None) }
-    ensures refused { IfErr result (λ e. planning.IsRefusal e (ranges.revision_refusal view.now.compacted view.now.revision query.now.revision)) }
+    ensures fine { OnOk result
+        (ranges.revision_refusal view.now.compacted view.now.revision query.now.revision ≡ None) }
+    ensures refused { IfErr result (λ e.
+        planning.IsRefusal e
+        (ranges.revision_refusal view.now.compacted view.now.revision query.now.revision)) }
 {
     match revision_refusal(view.compacted(), view.revision(), query) {
         Some(refusal) => Err(refusal),
@@ -187,10 +222,15 @@ fn run_put<'a>(
 ) -> Result<(), Refusal>
     requires { planning.IsPresent view.now }
     ensures made { OnOk result (changes.new ≡ changes.old
-        ++ writes.put_version (record { main = view.now.revision + 1; sub = length changes.old }) request.now (history.value_at view.now.versions view.now.place request.now.key) ∷ []) }
-    ensures fine { OnOk result (writes.held_refusal (is_granted leases.now.leases) request.now (history.value_at view.now.versions view.now.place request.now.key) ≡ None) }
+        ++ writes.put_version
+        (record { main = view.now.revision + 1; sub = length changes.old }) request.now
+        (history.value_at view.now.versions view.now.place request.now.key) ∷ []) }
+    ensures fine { OnOk result
+        (writes.held_refusal (is_granted leases.now.leases) request.now
+        (history.value_at view.now.versions view.now.place request.now.key) ≡ None) }
     ensures refused { IfErr result (λ e. planning.IsRefusal e
-        (writes.held_refusal (is_granted leases.now.leases) request.now (history.value_at view.now.versions view.now.place request.now.key))) }
+        (writes.held_refusal (is_granted leases.now.leases) request.now
+        (history.value_at view.now.versions view.now.place request.now.key))) }
 {
     let held = view.get(&request.key);
     if let Some(refusal) = held_refusal(request, held, leases.is_granted(request.lease)) {
@@ -206,7 +246,8 @@ fn run_put<'a>(
     }
 }
 
-/// A delete makes a tombstone of each live key of its range that the transaction has not deleted already.
+/// A delete makes a tombstone of each live key of its range that the transaction has not deleted
+/// already.
 fn run_delete<'a>(
     alloc: Global,
     view: &View<'a>,

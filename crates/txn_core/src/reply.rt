@@ -15,14 +15,15 @@ use range_view::reply::{KvRef, OpReply, RangeReply};
 use range_view::revision::end_of;
 use std::alloc::{AllocError, Global};
 
-/// The answers to the operations of a transaction that ran, in their order, read in the tables that have its changes. The
-/// transaction began at the revision `before`, and made its changes at the next; each operation reads what those before it left.
-/// No Range of them is refused at `before`.
+/// The answers to the operations of a transaction that ran, in their order, read in the tables that
+/// have its changes. The transaction began at the revision `before`, and made its changes at the
+/// next; each operation reads what those before it left. No Range of them is refused at `before`.
 ///
 /// `AllocError` comes where a list of answers, or of what one of them shows, found no memory.
 ///
-/// A Range costs what `View::range` does, a put what `View::get` does where the key's value before is asked for and nothing where
-/// it is not, and a delete what `View::live` does. Keys and values are lent, and none is copied.
+/// A Range costs what `View::range` does, a put what `View::get` does where the key's value before
+/// is asked for and nothing where it is not, and a delete what `View::live` does. Keys and values
+/// are lent, and none is copied.
 pub fn replies<'a>(
     alloc: Global,
     tables: &'a Tables,
@@ -31,14 +32,18 @@ pub fn replies<'a>(
 ) -> Result<Vec<OpReply<'a>>, AllocError>
     requires room { before + 1 < 2 ^ 64 }
     requires reads { ReadsKept tables.now.compacted before (steps_view steps.now) }
-    requires changes { txns.changes_of tables.now.versions (before + 1) 0 (steps_view steps.now) < 2 ^ 64 }
-    ensures { IfOk result (λ rs. replies_view rs.items ≡ txns.replies_of tables.now.versions tables.now.compacted before 0 (steps_view steps.now)) }
+    requires changes { txns.changes_of tables.now.versions (before + 1) 0 (steps_view steps.now)
+        < 2 ^ 64 }
+    ensures { IfOk result (λ rs. replies_view rs.items
+        ≡ txns.replies_of tables.now.versions tables.now.compacted before 0
+        (steps_view steps.now)) }
 {
     let (replies, _) = row_replies(alloc, tables, before, 0, steps)?;
     Ok(replies)
 }
 
-/// The answers to operations in a row, and the number of the next change. The first one stands behind so many changes.
+/// The answers to operations in a row, and the number of the next change. The first one stands
+/// behind so many changes.
 #[cycle(reply)]
 fn row_replies<'a>(
     alloc: Global,
@@ -49,9 +54,13 @@ fn row_replies<'a>(
 ) -> Result<(Vec<OpReply<'a>>, u64), AllocError>
     requires room { before + 1 < 2 ^ 64 }
     requires reads { ReadsKept tables.now.compacted before (steps_view steps.now) }
-    requires changes { sub + txns.changes_of tables.now.versions (before + 1) sub (steps_view steps.now) < 2 ^ 64 }
-    ensures replies { IfOk result (λ r. replies_view r.0.items ≡ txns.replies_of tables.now.versions tables.now.compacted before sub (steps_view steps.now)) }
-    ensures next { IfOk result (λ r. r.1 ≡ sub + txns.changes_of tables.now.versions (before + 1) sub (steps_view steps.now)) }
+    requires changes { sub + txns.changes_of tables.now.versions (before + 1) sub
+        (steps_view steps.now) < 2 ^ 64 }
+    ensures replies { IfOk result (λ r. replies_view r.0.items
+        ≡ txns.replies_of tables.now.versions tables.now.compacted before sub
+        (steps_view steps.now)) }
+    ensures next { IfOk result (λ r. r.1
+        ≡ sub + txns.changes_of tables.now.versions (before + 1) sub (steps_view steps.now)) }
 {
     let mut replies = Vec::new(alloc);
     let mut next = sub;
@@ -74,10 +83,16 @@ fn step_reply<'a>(
 ) -> Result<(OpReply<'a>, u64), AllocError>
     requires room { before + 1 < 2 ^ 64 }
     requires reads { ReadsKept tables.now.compacted before (step_view step.now txns.Path.end) }
-    requires changes { sub + txns.changes_of tables.now.versions (before + 1) sub (step_view step.now txns.Path.end) < 2 ^ 64 }
-    ensures replies { IfOk result (λ r. (rest : txns.Path) → op_reply_view r.0 (txns.replies_of tables.now.versions tables.now.compacted before r.1 rest)
-        ≡ txns.replies_of tables.now.versions tables.now.compacted before sub (step_view step.now rest)) }
-    ensures next { IfOk result (λ r. r.1 ≡ sub + txns.changes_of tables.now.versions (before + 1) sub (step_view step.now txns.Path.end)) }
+    requires changes { sub + txns.changes_of tables.now.versions (before + 1) sub
+        (step_view step.now txns.Path.end) < 2 ^ 64 }
+    ensures replies { IfOk result (λ r. (rest : txns.Path)
+        → op_reply_view r.0
+        (txns.replies_of tables.now.versions tables.now.compacted before r.1 rest)
+        ≡ txns.replies_of tables.now.versions tables.now.compacted before sub
+        (step_view step.now rest)) }
+    ensures next { IfOk result (λ r. r.1
+        ≡ sub + txns.changes_of tables.now.versions (before + 1) sub
+        (step_view step.now txns.Path.end)) }
 {
     match step {
         Step::Range(query) => Ok((
@@ -107,7 +122,9 @@ fn range_reply<'a>(
 ) -> Result<RangeReply<'a>, AllocError>
     requires room { before + 1 < 2 ^ 64 }
     requires kept { ranges.revision_refusal tables.now.compacted before query.now.revision ≡ None }
-    ensures { IfOk result (λ r. reply_view r ≡ ranges.range_reply tables.now.versions tables.now.compacted before (txns.place_before (before + 1) sub) query.now) }
+    ensures { IfOk result (λ r. reply_view r
+        ≡ ranges.range_reply tables.now.versions tables.now.compacted before
+        (txns.place_before (before + 1) sub) query.now) }
 {
     let view = tables.view_before(before, place_before(before, sub));
     match view.range(alloc, query) {
@@ -116,10 +133,13 @@ fn range_reply<'a>(
     }
 }
 
-/// What the key of a put that stands behind so many changes held before it, where that is asked for.
+/// What the key of a put that stands behind so many changes held before it, where that is asked
+/// for.
 fn previous<'a>(tables: &'a Tables, before: u64, sub: u64, put: &PutRequest) -> Option<KvRef<'a>>
     requires { before + 1 < 2 ^ 64 }
-    ensures { option_map kv_view result ≡ txns.previous_value put.now.prev_kv (value_at tables.now.versions (txns.place_before (before + 1) sub) put.now.key) }
+    ensures { option_map kv_view result
+        ≡ txns.previous_value put.now.prev_kv
+        (value_at tables.now.versions (txns.place_before (before + 1) sub) put.now.key) }
 {
     if !put.prev_kv {
         return None;
@@ -128,7 +148,8 @@ fn previous<'a>(tables: &'a Tables, before: u64, sub: u64, put: &PutRequest) -> 
     view.get(&put.key)
 }
 
-/// How many keys a delete that stands behind so many changes took, and what they held where that is asked for.
+/// How many keys a delete that stands behind so many changes took, and what they held where that is
+/// asked for.
 fn deleted<'a>(
     alloc: Global,
     tables: &'a Tables,
@@ -137,8 +158,12 @@ fn deleted<'a>(
     delete: &DeleteRequest,
 ) -> Result<(u64, Vec<KvRef<'a>>), AllocError>
     requires { before + 1 < 2 ^ 64 }
-    ensures count { IfOk result (λ r. r.0 ≡ length (ranges.live tables.now.versions (txns.place_before (before + 1) sub) delete.now.range)) }
-    ensures previous { IfOk result (λ r. map kv_view r.1.items ≡ txns.if_asked delete.now.prev_kv (ranges.live tables.now.versions (txns.place_before (before + 1) sub) delete.now.range)) }
+    ensures count { IfOk result (λ r. r.0
+        ≡ length (ranges.live tables.now.versions
+        (txns.place_before (before + 1) sub) delete.now.range)) }
+    ensures previous { IfOk result (λ r. map kv_view r.1.items
+        ≡ txns.if_asked delete.now.prev_kv
+        (ranges.live tables.now.versions (txns.place_before (before + 1) sub) delete.now.range)) }
 {
     let view = tables.view_before(before, place_before(before, sub));
     let kvs = view.live(alloc, &delete.range)?;

@@ -19,7 +19,9 @@ pub(crate) enum Touched<'a> {
 /// Adds what a transaction may change, in either branch, in the order of the document.
 #[cycle(touch)]
 fn push_txn<'a>(out: &mut Vec<Touched<'a>>, txn: &'a Txn) -> Result<(), AllocError>
-    ensures { OnOk result (map touch_view out.new.items ≡ map touch_view out.old.items ++ touches (txn_view txn.now)) }
+    ensures { OnOk result
+        (map touch_view out.new.items
+        ≡ map touch_view out.old.items ++ touches (txn_view txn.now)) }
 {
     push_row(out, &txn.success)?;
     push_row(out, &txn.failure)
@@ -31,7 +33,9 @@ pub(crate) fn push_row<'a>(
     out: &mut Vec<Touched<'a>>,
     row: &'a Vec<Operation>,
 ) -> Result<(), AllocError>
-    ensures { OnOk result (map touch_view out.new.items ≡ map touch_view out.old.items ++ touches (ops_view row.now.items)) }
+    ensures { OnOk result
+        (map touch_view out.new.items
+        ≡ map touch_view out.old.items ++ touches (ops_view row.now.items)) }
 {
     for operation in row {
         push_operation(out, operation)?;
@@ -45,7 +49,9 @@ pub(crate) fn push_operation<'a>(
     out: &mut Vec<Touched<'a>>,
     operation: &'a Operation,
 ) -> Result<(), AllocError>
-    ensures { OnOk result (map touch_view out.new.items ≡ map touch_view out.old.items ++ touches (op_view operation.now)) }
+    ensures { OnOk result
+        (map touch_view out.new.items
+        ≡ map touch_view out.old.items ++ touches (op_view operation.now)) }
 {
     match operation {
         Operation::Range(_) => Ok(()),
@@ -56,7 +62,9 @@ pub(crate) fn push_operation<'a>(
 }
 
 fn push<'a>(out: &mut Vec<Touched<'a>>, touched: Touched<'a>) -> Result<(), AllocError>
-    ensures { OnOk result (map touch_view out.new.items ≡ map touch_view out.old.items ++ touch_view touched.entry ∷ []) }
+    ensures { OnOk result
+        (map touch_view out.new.items
+        ≡ map touch_view out.old.items ++ touch_view touched.entry ∷ []) }
 {
     out.push(touched)?;
     Ok(())

@@ -4,7 +4,8 @@ use Rattle.std.specs.List.{list_any}
 use Rattle.kv_model.specs.declared.call.Operation.{Operation}
 use Rattle.kv_model.specs.Calls.{op_view}
 use Rattle.kv_model.specs.Txns.{clashes}
-use Rattle.txn_core.proofs.Clashing.{clashes-range, clashes-put, clashes-delete, clash-collide, clash-inner, txn-first, txn-second, any-here}
+use Rattle.txn_core.proofs.Clashing.{clashes-range, clashes-put, clashes-delete, clash-collide, clash-inner, txn-first, txn-second}
+use Rattle.txn_core.proofs.Elements.{At, any-here}
 use Rattle.txn_core.proofs.clash.+clash.Goals as goal
 
 pub operation_clashes-returns-in-Range : goal.operation_clashes-returns-in-Range
@@ -17,14 +18,17 @@ pub operation_clashes-returns-in-Delete : goal.operation_clashes-returns-in-Dele
 operation_clashes-returns-in-Delete t c = search (rules, clashes-delete)
 
 pub row_clashes-returns-then-branch : goal.row_clashes-returns-then-branch
-row_clashes-returns-then-branch t c = clash-collide c.args.row.now.items c.in_ok-row_collides.field-0 c.in_ok-row_collides.ensures c.if-branch.true
+row_clashes-returns-then-branch t c =
+    clash-collide c.args.row.now.items c.in_ok-row_collides.field-0 c.in_ok-row_collides.ensures c.if-branch.true
 
 pub row_clashes-returns-then-branch-2 : goal.row_clashes-returns-then-branch-2
 row_clashes-returns-then-branch-2 t c =
     let l = c.loop-operation in
-    let item = c.operation-item in
+    let here : At c.deref-operation-items.result.now
+    = record { index = l.operation-index; value = c.operation-item.result; inside = omega arith; is = c.operation-item.is } in
     clash-inner c.args.row.now.items c.in_ok-row_collides.field-0 _ c.in_ok-row_collides.ensures c.if-branch.false
-    (any-here (λ (o : Operation). clashes (op_view o)) c.deref-operation-items.result.now l.operation-index item.result (omega arith) item.is (sym c.in_ok-operation_clashes.ensures ∙ c.if-branch-2.true) ∙ l.invariant)
+    (any-here (λ (o : Operation). clashes (op_view o)) c.deref-operation-items.result.now here
+    (sym c.in_ok-operation_clashes.ensures ∙ c.if-branch-2.true) ∙ l.invariant)
 
 pub row_clashes-returns : goal.row_clashes-returns
 row_clashes-returns t c =
@@ -37,4 +41,5 @@ pub clashes-returns-then-branch : goal.clashes-returns-then-branch
 clashes-returns-then-branch t c = txn-first c.args.txn.now c.in_ok-row_clashes.field-0 c.in_ok-row_clashes.ensures c.if-branch.true
 
 pub clashes-returns : goal.clashes-returns
-clashes-returns t c = subst (λ (z : Bool). IfOk c.row_clashes-2.result (λ b. b ≡ z)) (txn-second c.args.txn.now c.in_ok-row_clashes.field-0 c.in_ok-row_clashes.ensures c.if-branch.false) c.row_clashes-2.ensures
+clashes-returns t c = subst (λ (z : Bool). IfOk c.row_clashes-2.result (λ b. b ≡ z))
+    (txn-second c.args.txn.now c.in_ok-row_clashes.field-0 c.in_ok-row_clashes.ensures c.if-branch.false) c.row_clashes-2.ensures

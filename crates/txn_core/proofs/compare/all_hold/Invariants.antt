@@ -4,4 +4,5 @@ use Rattle.kv_model.specs.Txns.{holds}
 use Rattle.txn_core.proofs.compare.all_hold.Given as goal
 
 abbrev pub invariant-loop-compare : goal.invariant-loop-compare
-invariant-loop-compare l = list_all (holds l.view.versions l.view.revision) (drop l.compare-index l.compares) ≡ list_all (holds l.view.versions l.view.revision) l.compares
+invariant-loop-compare l = list_all (holds l.view.versions l.view.revision) (drop l.compare-index l.compares)
+    ≡ list_all (holds l.view.versions l.view.revision) l.compares

@@ -1,5 +1,8 @@
 use Rattle.std.proofs.Common.{◌≡◌, sym, ◌∙◌, arith, rules}
-use Rattle.txn_core.proofs.Walking.{own_fault, too_deep, own_first, success_first, failure_last, row_fault-here, row_fault-later, row_fault-end, op_view-Range, op_view-Put, op_view-Delete, walk_fault-range, walk_fault-put, walk_fault-delete}
+use Rattle.txn_core.proofs.Walking.{own_fault, too_deep, own_first, success_first, failure_last, row_fault-here, row_fault-later}
+use Rattle.txn_core.proofs.Walking.{row_fault-end, op_view-Range, op_view-Put, op_view-Delete, walk_fault-range, walk_fault-put}
+use Rattle.txn_core.proofs.Walking.{walk_fault-delete}
+use Rattle.txn_core.proofs.Elements.{At}
 use Rattle.txn_core.proofs.fault.+walk.Goals as goal
 
 pub txn_fault-returns-then-depth-ge-MOST_DEPTH : goal.txn_fault-returns-then-depth-ge-MOST_DEPTH
@@ -34,16 +37,20 @@ operation_fault-returns-in-Delete t c = search (rules, op_view-Delete, walk_faul
 pub row_fault-returns-then-is_some : goal.row_fault-returns-then-is_some
 row_fault-returns-then-is_some t c =
     let l = c.loop-operation in
-    let item = c.operation-item in
-    let fault = c.operation_fault-fault in
-    row_fault-here c.args.depth c.deref-operation-items.result.now l.operation-index item.result _ (omega arith) item.is fault.ensures (sym c.is_some.ensures ∙ c.if-is_some.true) ∙ l.invariant
+    let here : At c.deref-operation-items.result.now
+    = record { index = l.operation-index; value = c.operation-item.result; inside = omega arith; is = c.operation-item.is } in
+    row_fault-here c.args.depth c.deref-operation-items.result.now here _ c.operation_fault-fault.ensures
+    (sym c.is_some.ensures ∙ c.if-is_some.true) ∙ l.invariant
 
 pub row_fault-loop-operation-preserved : goal.row_fault-loop-operation-preserved
 row_fault-loop-operation-preserved t c =
     let l = c.loop-operation in
-    let item = c.operation-item in
-    let fault = c.operation_fault-fault in
-    row_fault-later c.args.depth c.deref-operation-items.result.now l.operation-index item.result _ (omega arith) item.is fault.ensures (sym c.is_some.ensures ∙ c.if-is_some.false) ∙ l.invariant
+    let here : At c.deref-operation-items.result.now
+    = record { index = l.operation-index; value = c.operation-item.result; inside = omega arith; is = c.operation-item.is } in
+    row_fault-later c.args.depth c.deref-operation-items.result.now here _ c.operation_fault-fault.ensures
+    (sym c.is_some.ensures ∙ c.if-is_some.false) ∙ l.invariant
 
 pub row_fault-returns : goal.row_fault-returns
-row_fault-returns t c = row_fault-end c.args.depth c.deref-operation-items.result.now c.loop-operation.operation-index c.loop-operation-test.false ∙ c.loop-operation.invariant
+row_fault-returns t c =
+    row_fault-end c.args.depth c.deref-operation-items.result.now c.loop-operation.operation-index c.loop-operation-test.false
+    ∙ c.loop-operation.invariant

@@ -1,25 +1,24 @@
-use Rattle.std.proofs.Common.{arith, sym, ◌∙◌}
+use Rattle.std.proofs.Common.{arith, ◌∙◌}
+use Rattle.kv_model.specs.Keys.{in_range}
+use Rattle.store_laws.proofs.SmallLaws.{same_key-comm}
 use Rattle.txn_core.specs.Views.{keys_view}
-use Rattle.txn_core.proofs.Counting.{range-one, range-all, range-from, range-none, range-between}
+use Rattle.txn_core.proofs.Counting.{counts-same, count-all, from-counted}
 use Rattle.txn_core.proofs.keys.count_within.Goals as goal
 
-pub returns-then-is_empty : goal.returns-then-is_empty
-returns-then-is_empty c = c.count_same.ensures ∙ range-one c.args.range.now (keys_view c.args.keys.now) (sym c.is_empty.ensures ∙ c.if-is_empty.true)
+pub returns-in-Key : goal.returns-in-Key
+returns-in-Key c = c.count_same.ensures ∙ counts-same _ _ (λ k. same_key-comm c.in-Key.key.now k ∙ c.in-Key.ensures k)
+    (keys_view c.args.keys.now)
 
-pub returns-then-is_zero_byte-2 : goal.returns-then-is_zero_byte-2
-returns-then-is_zero_byte-2 c = range-all c.args.range.now c.args.keys.now (sym c.is_empty.ensures ∙ c.if-is_empty.false) (sym c.is_zero_byte.ensures ∙ c.if-is_zero_byte.true) (sym c.is_zero_byte-then-is_zero_byte.ensures ∙ c.if-is_zero_byte-2.true)
-
-pub returns-then-is_zero_byte : goal.returns-then-is_zero_byte
-returns-then-is_zero_byte c = omega (arith, range-from c.args.range.now c.args.keys.now (sym c.is_empty.ensures ∙ c.if-is_empty.false) (sym c.is_zero_byte.ensures ∙ c.if-is_zero_byte.true) (sym c.is_zero_byte-then-is_zero_byte.ensures ∙ c.if-is_zero_byte-2.false))
-
-pub returns-then-is_below : goal.returns-then-is_below
-returns-then-is_below c = range-none c.args.range.now (keys_view c.args.keys.now) (sym c.is_empty.ensures ∙ c.if-is_empty.false) (sym c.is_zero_byte.ensures ∙ c.if-is_zero_byte.false) (sym c.is_below.ensures ∙ c.if-is_below.true)
-
-pub overflow_sub-result-2 : goal.overflow_sub-result-2
-overflow_sub-result-2 c = omega (arith, range-between c.args.range.now (keys_view c.args.keys.now) (sym c.is_empty.ensures ∙ c.if-is_empty.false) (sym c.is_zero_byte.ensures ∙ c.if-is_zero_byte.false) (sym c.is_below.ensures ∙ c.if-is_below.false))
-
-pub returns : goal.returns
-returns c = omega (arith, range-between c.args.range.now (keys_view c.args.keys.now) (sym c.is_empty.ensures ∙ c.if-is_empty.false) (sym c.is_zero_byte.ensures ∙ c.if-is_zero_byte.false) (sym c.is_below.ensures ∙ c.if-is_below.false))
+pub returns-in-All : goal.returns-in-All
+returns-in-All c = count-all c.args.keys.now ∙ counts-same _ _ (λ k. c.in-All.ensures k) (keys_view c.args.keys.now)
 
 pub overflow_sub-result : goal.overflow_sub-result
-overflow_sub-result c = omega (arith, range-from c.args.range.now c.args.keys.now (sym c.is_empty.ensures ∙ c.if-is_empty.false) (sym c.is_zero_byte.ensures ∙ c.if-is_zero_byte.true) (sym c.is_zero_byte-then-is_zero_byte.ensures ∙ c.if-is_zero_byte-2.false))
+overflow_sub-result c =
+    omega (arith, from-counted c.in-From.from.now (in_range c.args.range.now) (λ k. c.in-From.ensures k) c.args.keys.now)
+
+pub returns-in-From : goal.returns-in-From
+returns-in-From c =
+    omega (arith, from-counted c.in-From.from.now (in_range c.args.range.now) (λ k. c.in-From.ensures k) c.args.keys.now)
+
+pub returns-in-Interval : goal.returns-in-Interval
+returns-in-Interval c = c.count_between.ensures ∙ counts-same _ _ (λ k. c.in-Interval.ensures k) (keys_view c.args.keys.now)

@@ -13,7 +13,8 @@ use Rattle.txn_core.proofs.Counting.{count-sorted, on-ok}
 use Rattle.txn_core.proofs.keys.sort.Goals as goal
 
 pub returns-clause-counts : goal.returns-clause-counts
-returns-clause-counts c = on-ok c.sort_by.result _ (λ t. count-sorted t c.args.keys.now.items c.sort_by.new.self.items c.sort_by.ensures.permutation)
+returns-clause-counts c = on-ok c.sort_by.result _
+    (λ t. count-sorted t c.args.keys.now.items c.sort_by.new.self.items c.sort_by.ensures.permutation)
 
 pub returns-clause-sorted : goal.returns-clause-sorted
 returns-clause-sorted c =

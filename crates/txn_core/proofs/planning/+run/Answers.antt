@@ -11,7 +11,9 @@ use Rattle.kv_model.specs.Txns.{holds}
 use Rattle.txn_core.specs.KeyWrites.{held_refusal}
 use Rattle.txn_core.specs.Planning.{made, refusal_of, IsRefusal, path_in, made_in, refusal_in}
 use Rattle.txn_core.specs.Steps.{in_row, step_view, steps_view}
-use Rattle.txn_core.proofs.Running.{refused-first, none-first, path-range, path-put, path-delete, path-inner, refused-inner, branch_of, ran, not_run, row-split, row-end, in_row-more}
+use Rattle.txn_core.proofs.Running.{refused-first, none-first, path-range, path-put, path-delete, path-inner, refused-inner, branch_of, ran}
+use Rattle.txn_core.proofs.Running.{not_run, row-split, row-end, in_row-more}
+use Rattle.txn_core.proofs.Elements.{At}
 use Rattle.txn_core.proofs.Stepping.{step_view-Range, step_view-Put, step_view-Delete, step_view-Inner}
 use Rattle.txn_core.proofs.planning.+run.Goals as goal
 use Rattle.txn_core.proofs.planning.+run.Goals.{run_txn-then-succeeded, run_txn-else-succeeded}
@@ -21,7 +23,8 @@ use Rattle.txn_core.proofs.planning.+run.Goals.{run_txn-then-succeeded, run_txn-
 pub run_operation-returns-in-Ok-clause-path : goal.run_operation-returns-in-Ok-clause-path
 run_operation-returns-in-Ok-clause-path t c = λ rest.
     let v = c.args.view.now in
-    ap (λ o. path_in v (then (op_view o) rest)) c.in-Range.is ∙ path-range v c.in-Range.query rest ∙ sym (step_view-Range _ (path_in v rest))
+    ap (λ o. path_in v (then (op_view o) rest)) c.in-Range.is ∙ path-range v c.in-Range.query rest
+    ∙ sym (step_view-Range _ (path_in v rest))
 
 pub run_operation-returns-in-Ok-clause-made : goal.run_operation-returns-in-Ok-clause-made
 unfolding made
@@ -32,15 +35,18 @@ unfolding refusal_of
 run_operation-returns-in-Ok-clause-fine t c = λ rest.
     let v = c.args.view.now in
     let ls = c.args.leases.now.leases in
-    ap (refusal_in v ls) (step_view-Range _ rest) ∙ none-first (revision_refusal v.compacted v.revision c.in-Range.query.revision) (refusal_in v ls rest) c.in-Ok.ensures.fine
+    ap (refusal_in v ls) (step_view-Range _ rest) ∙ none-first (revision_refusal v.compacted v.revision c.in-Range.query.revision)
+    (refusal_in v ls rest) c.in-Ok.ensures.fine
 
 pub run_operation-returns-in-Err-clause-refused : goal.run_operation-returns-in-Err-clause-refused
 unfolding refusal_of
 run_operation-returns-in-Err-clause-refused t c = λ rest.
     let v = c.args.view.now in
     let ls = c.args.leases.now.leases in
-    subst (λ q. IsRefusal c.in-Err.refusal (refusal_in v ls q)) (sym (ap (λ o. path_in v (then (op_view o) rest)) c.in-Range.is ∙ path-range v c.in-Range.query rest))
-    (refused-first c.in-Err.refusal (revision_refusal v.compacted v.revision c.in-Range.query.revision) (refusal_in v ls (path_in v rest)) c.in-Err.ensures.refused)
+    subst (λ q. IsRefusal c.in-Err.refusal (refusal_in v ls q))
+    (sym (ap (λ o. path_in v (then (op_view o) rest)) c.in-Range.is ∙ path-range v c.in-Range.query rest))
+    (refused-first c.in-Err.refusal (revision_refusal v.compacted v.revision c.in-Range.query.revision)
+    (refusal_in v ls (path_in v rest)) c.in-Err.ensures.refused)
 
 -- ---- a put
 
@@ -61,7 +67,8 @@ run_operation-returns-in-Ok-run_put-clause-fine t c = λ rest.
     let v = c.args.view.now in
     let ls = c.args.leases.now.leases in
     let p = c.in-Put.request in
-    ap (refusal_in v ls) (step_view-Put _ rest) ∙ none-first (held_refusal (is_granted ls) p (value_at v.versions v.place p.key)) (refusal_in v ls rest) c.in-Ok-run_put.ensures.fine
+    ap (refusal_in v ls) (step_view-Put _ rest) ∙ none-first (held_refusal (is_granted ls) p (value_at v.versions v.place p.key))
+    (refusal_in v ls rest) c.in-Ok-run_put.ensures.fine
 
 pub run_operation-returns-in-Err-run_put-clause-refused : goal.run_operation-returns-in-Err-run_put-clause-refused
 unfolding refusal_of
@@ -69,15 +76,18 @@ run_operation-returns-in-Err-run_put-clause-refused t c = λ rest.
     let v = c.args.view.now in
     let ls = c.args.leases.now.leases in
     let p = c.in-Put.request in
-    subst (λ q. IsRefusal c.in-Err-run_put.refusal (refusal_in v ls q)) (sym (ap (λ o. path_in v (then (op_view o) rest)) c.in-Put.is ∙ path-put v p rest))
-    (refused-first c.in-Err-run_put.refusal (held_refusal (is_granted ls) p (value_at v.versions v.place p.key)) (refusal_in v ls (path_in v rest)) c.in-Err-run_put.ensures.refused)
+    subst (λ q. IsRefusal c.in-Err-run_put.refusal (refusal_in v ls q))
+    (sym (ap (λ o. path_in v (then (op_view o) rest)) c.in-Put.is ∙ path-put v p rest))
+    (refused-first c.in-Err-run_put.refusal (held_refusal (is_granted ls) p (value_at v.versions v.place p.key))
+    (refusal_in v ls (path_in v rest)) c.in-Err-run_put.ensures.refused)
 
 -- ---- a delete
 
 pub run_operation-returns-in-Ok-run_delete-clause-path : goal.run_operation-returns-in-Ok-run_delete-clause-path
 run_operation-returns-in-Ok-run_delete-clause-path t c = λ rest.
     let v = c.args.view.now in
-    ap (λ o. path_in v (then (op_view o) rest)) c.in-Delete.is ∙ path-delete v c.in-Delete.request rest ∙ sym (step_view-Delete _ (path_in v rest))
+    ap (λ o. path_in v (then (op_view o) rest)) c.in-Delete.is ∙ path-delete v c.in-Delete.request rest
+    ∙ sym (step_view-Delete _ (path_in v rest))
 
 pub run_operation-returns-in-Ok-run_delete-clause-made : goal.run_operation-returns-in-Ok-run_delete-clause-made
 unfolding made
@@ -87,7 +97,8 @@ run_operation-returns-in-Ok-run_delete-clause-made t c = λ rest.
 
 pub run_operation-returns-in-Ok-run_delete-clause-fine : goal.run_operation-returns-in-Ok-run_delete-clause-fine
 unfolding refusal_of
-run_operation-returns-in-Ok-run_delete-clause-fine t c = λ rest. ap (refusal_in c.args.view.now c.args.leases.now.leases) (step_view-Delete _ rest)
+run_operation-returns-in-Ok-run_delete-clause-fine t c = λ rest. ap (refusal_in c.args.view.now c.args.leases.now.leases)
+    (step_view-Delete _ rest)
 
 -- ---- a transaction within
 
@@ -95,7 +106,8 @@ pub run_operation-returns-in-Ok-run_txn-clause-path : goal.run_operation-returns
 run_operation-returns-in-Ok-run_txn-clause-path t c = λ rest.
     let v = c.args.view.now in
     let b = c.in-Ok-run_txn.field-0 in
-    ap (λ o. path_in v (then (op_view o) rest)) c.in-Inner.is ∙ path-inner v c.in-Inner.txn b.succeeded (steps_view b.steps.items) c.in-Ok-run_txn.ensures.path rest
+    ap (λ o. path_in v (then (op_view o) rest)) c.in-Inner.is
+    ∙ path-inner v c.in-Inner.txn b.succeeded (steps_view b.steps.items) c.in-Ok-run_txn.ensures.path rest
     ∙ sym (step_view-Inner b.succeeded b.steps (path_in v rest))
 
 pub run_operation-returns-in-Ok-run_txn-clause-made : goal.run_operation-returns-in-Ok-run_txn-clause-made
@@ -103,7 +115,8 @@ unfolding made
 run_operation-returns-in-Ok-run_txn-clause-made t c = λ rest.
     let v = c.args.view.now in
     let b = c.in-Ok-run_txn.field-0 in
-    ap (made_in v c.args.changes.now) (step_view-Inner b.succeeded b.steps rest) ∙ ap (λ ws. made_in v ws rest) (sym c.in-Ok-run_txn.ensures.made)
+    ap (made_in v c.args.changes.now) (step_view-Inner b.succeeded b.steps rest)
+    ∙ ap (λ ws. made_in v ws rest) (sym c.in-Ok-run_txn.ensures.made)
 
 pub run_operation-returns-in-Ok-run_txn-clause-fine : goal.run_operation-returns-in-Ok-run_txn-clause-fine
 unfolding refusal_of
@@ -111,7 +124,8 @@ run_operation-returns-in-Ok-run_txn-clause-fine t c = λ rest.
     let v = c.args.view.now in
     let ls = c.args.leases.now.leases in
     let b = c.in-Ok-run_txn.field-0 in
-    ap (refusal_in v ls) (step_view-Inner b.succeeded b.steps rest) ∙ none-first (refusal_in v ls (steps_view b.steps.items)) (refusal_in v ls rest) c.in-Ok-run_txn.ensures.fine
+    ap (refusal_in v ls) (step_view-Inner b.succeeded b.steps rest)
+    ∙ none-first (refusal_in v ls (steps_view b.steps.items)) (refusal_in v ls rest) c.in-Ok-run_txn.ensures.fine
 
 pub run_operation-returns-in-Err-run_txn-clause-refused : goal.run_operation-returns-in-Err-run_txn-clause-refused
 run_operation-returns-in-Err-run_txn-clause-refused t c = λ rest.
@@ -127,8 +141,10 @@ pub run_txn-returns-in-Ok-ran-clause-path : goal.run_txn-returns-in-Ok-ran-claus
 run_txn-returns-in-Ok-ran-clause-path t c =
     let v = c.args.view.now in
     let txn = c.args.txn.now in
-    let chosen : c.in-Ok.succeeded ≡ list_all (holds v.versions v.revision) (out-Txn txn).compare.items = c.in-Ok.ensures ∙ ap (list_all (holds v.versions v.revision)) c.deref.ensures.value in
-    let held : IfOk c.if-succeeded.ran (λ s. steps_view s.items ≡ path_in v (branch_of txn c.in-Ok.succeeded)) = elim c.if-succeeded.branch [
+    let chosen : c.in-Ok.succeeded ≡ list_all (holds v.versions v.revision) (out-Txn txn).compare.items
+    = c.in-Ok.ensures ∙ ap (list_all (holds v.versions v.revision)) c.deref.ensures.value in
+    let held : IfOk c.if-succeeded.ran (λ s. steps_view s.items ≡ path_in v (branch_of txn c.in-Ok.succeeded))
+    = elim c.if-succeeded.branch [
       | run_txn-then-succeeded w ↦ rw (w.ran-is, w.if-succeeded.true) w.run_row-ran.ensures.path
       | run_txn-else-succeeded w ↦ rw (w.ran-is, w.if-succeeded.false) w.run_row-ran-else-succeeded.ensures.path
     ] in
@@ -139,8 +155,10 @@ run_txn-returns-in-Err-clause-refused t c =
     let v = c.args.view.now in
     let ls = c.args.leases.now.leases in
     let txn = c.args.txn.now in
-    let chosen : c.in-Ok.succeeded ≡ list_all (holds v.versions v.revision) (out-Txn txn).compare.items = c.in-Ok.ensures ∙ ap (list_all (holds v.versions v.revision)) c.deref.ensures.value in
-    let held : IfErr c.if-succeeded.ran (λ e. IsRefusal e (refusal_in v ls (path_in v (branch_of txn c.in-Ok.succeeded)))) = elim c.if-succeeded.branch [
+    let chosen : c.in-Ok.succeeded ≡ list_all (holds v.versions v.revision) (out-Txn txn).compare.items
+    = c.in-Ok.ensures ∙ ap (list_all (holds v.versions v.revision)) c.deref.ensures.value in
+    let held : IfErr c.if-succeeded.ran (λ e. IsRefusal e (refusal_in v ls (path_in v (branch_of txn c.in-Ok.succeeded))))
+    = elim c.if-succeeded.branch [
       | run_txn-then-succeeded w ↦ rw (w.ran-is, w.if-succeeded.true) w.run_row-ran.ensures.refused
       | run_txn-else-succeeded w ↦ rw (w.ran-is, w.if-succeeded.false) w.run_row-ran-else-succeeded.ensures.refused
     ] in
@@ -154,10 +172,12 @@ run_row-loop-operation-preserved t c =
     let ls = c.args.leases.now.leases in
     let l = c.loop-operation in
     let os = c.deref-operation-items.result.now in
-    let o = c.operation-item.result in
+    let here : At os
+    = record { index = l.operation-index; value = c.operation-item.result; inside = omega arith; is = c.operation-item.is } in
     let rest = ops_view (drop (l.operation-index + 1) os) in
-    let stepped = ap (path_in v) (row-split os l.operation-index o (omega arith) c.operation-item.is) ∙ c.in-Ok.ensures.path rest in (
-      ap (λ ss. in_row (map step_view ss) (path_in v rest)) c.in-Ok-push.ensures.items ∙ in_row-more l.steps.items c.in-Ok.step (path_in v rest)
+    let stepped = ap (path_in v) (row-split os here) ∙ c.in-Ok.ensures.path rest in (
+      ap (λ ss. in_row (map step_view ss) (path_in v rest)) c.in-Ok-push.ensures.items
+          ∙ in_row-more l.steps.items c.in-Ok.step (path_in v rest)
           ∙ ap (in_row (map step_view l.steps.items)) (sym stepped) ∙ l.invariant.0,
       sym (c.in-Ok.ensures.made (path_in v rest)) ∙ ap (made_in v l.changes) (sym stepped) ∙ l.invariant.1,
       sym (c.in-Ok.ensures.fine (path_in v rest)) ∙ ap (refusal_in v ls) (sym stepped) ∙ l.invariant.2,
@@ -167,7 +187,8 @@ pub run_row-returns-clause-path : goal.run_row-returns-clause-path
 run_row-returns-clause-path t c =
     let v = c.args.view.now in
     let l = c.loop-operation in
-    ap (in_row (map step_view l.steps.items)) (sym (row-end v c.deref-operation-items.result.now l.operation-index c.loop-operation-test.false)) ∙ l.invariant.0
+    ap (in_row (map step_view l.steps.items))
+    (sym (row-end v c.deref-operation-items.result.now l.operation-index c.loop-operation-test.false)) ∙ l.invariant.0
 
 pub run_row-returns-clause-made : goal.run_row-returns-clause-made
 unfolding made
@@ -175,7 +196,8 @@ run_row-returns-clause-made t c =
     let v = c.args.view.now in
     let l = c.loop-operation in
     let ended = row-end v c.deref-operation-items.result.now l.operation-index c.loop-operation-test.false in
-    ap (made_in v l.changes) (sym ended) ∙ l.invariant.1 ∙ ap (made_in v c.args.changes.now) (sym (ap (in_row (map step_view l.steps.items)) (sym ended) ∙ l.invariant.0))
+    ap (made_in v l.changes) (sym ended) ∙ l.invariant.1
+    ∙ ap (made_in v c.args.changes.now) (sym (ap (in_row (map step_view l.steps.items)) (sym ended) ∙ l.invariant.0))
 
 pub run_row-returns-clause-fine : goal.run_row-returns-clause-fine
 unfolding refusal_of
@@ -184,4 +206,5 @@ run_row-returns-clause-fine t c =
     let ls = c.args.leases.now.leases in
     let l = c.loop-operation in
     let ended = row-end v c.deref-operation-items.result.now l.operation-index c.loop-operation-test.false in
-    ap (refusal_in v ls) (ap (in_row (map step_view l.steps.items)) (sym ended) ∙ l.invariant.0) ∙ sym l.invariant.2 ∙ ap (refusal_in v ls) ended
+    ap (refusal_in v ls) (ap (in_row (map step_view l.steps.items)) (sym ended) ∙ l.invariant.0) ∙ sym l.invariant.2
+    ∙ ap (refusal_in v ls) ended

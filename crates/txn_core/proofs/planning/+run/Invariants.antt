@@ -7,6 +7,9 @@ use Rattle.txn_core.proofs.planning.+run.Given as goal
 -- the steps so far, and behind them the rest of the row, are the row; so are the versions made and the refusals
 abbrev pub invariant-run_row-loop-operation : goal.invariant-run_row-loop-operation
 invariant-run_row-loop-operation l =
-    (in_row (map step_view l.steps.items) (path_in l.view (ops_view (drop l.operation-index l.operation-items))) ≡ path_in l.view (ops_view l.row.items))
-    × (made_in l.view l.changes (path_in l.view (ops_view (drop l.operation-index l.operation-items))) ≡ made_in l.view l.fn.changes (path_in l.view (ops_view l.row.items)))
-    × (refusal_in l.view l.leases.leases (path_in l.view (ops_view (drop l.operation-index l.operation-items))) ≡ refusal_in l.view l.leases.leases (path_in l.view (ops_view l.row.items)))
+    (in_row (map step_view l.steps.items) (path_in l.view (ops_view (drop l.operation-index l.operation-items)))
+    ≡ path_in l.view (ops_view l.row.items))
+    × (made_in l.view l.changes (path_in l.view (ops_view (drop l.operation-index l.operation-items)))
+    ≡ made_in l.view l.fn.changes (path_in l.view (ops_view l.row.items)))
+    × (refusal_in l.view l.leases.leases (path_in l.view (ops_view (drop l.operation-index l.operation-items)))
+    ≡ refusal_in l.view l.leases.leases (path_in l.view (ops_view l.row.items)))

@@ -32,4 +32,6 @@ returns-clause-refused c =
     let v = c.args.view.now in
     let ls = c.args.leases.now.leases in
     let by = subst (λ p. AreBy p v.versions) (sym c.requires.at) (by-end v.revision v.versions c.requires.upto c.requires.places) in
-    memory-or _ _ (subst (λ o. IsRefusal c.in-Err.refusal o) (refusal-planned (is_granted ls) v.compacted v.revision v.versions v.place (path_in v (txn_view c.args.txn.now)) by) c.in-Err.ensures.refused)
+    memory-or _ _ (subst (λ o. IsRefusal c.in-Err.refusal o)
+    (refusal-planned (is_granted ls) v.compacted v.revision v.versions v.place
+    (path_in v (txn_view c.args.txn.now)) by) c.in-Err.ensures.refused)

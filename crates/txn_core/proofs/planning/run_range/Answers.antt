@@ -6,4 +6,5 @@ use Rattle.txn_core.proofs.planning.run_range.Goals as goal
 
 pub returns-in-Some-clause-refused : goal.returns-in-Some-clause-refused
 returns-in-Some-clause-refused c =
-    refused-as _ _ (sym (c.revision_refusal.ensures ∙ (λ i. revision_refusal (c.compacted.ensures i) (c.revision.ensures i) c.args.query.now.revision)) ∙ c.in-Some.is)
+    refused-as _ _ (sym (c.revision_refusal.ensures
+    ∙ (λ i. revision_refusal (c.compacted.ensures i) (c.revision.ensures i) c.args.query.now.revision)) ∙ c.in-Some.is)

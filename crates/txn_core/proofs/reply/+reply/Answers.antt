@@ -1,20 +1,31 @@
-use Rattle.std.proofs.Common.{◌≡◌, ◌+◌, ◌<◌, ◌^◌, ◌∙◌, ap, map, drop, arith, rules}
+-- Each operation is answered as its path is, and so is a row of them.
+use Rattle.std.proofs.Common.{◌≡◌, ◌+◌, ◌<◌, ◌^◌, sym, ◌∙◌, ap, subst, map, drop, arith, rules}
 use Rattle.txn_core.specs.declared.step.Step.{the_lemmas}
 use Rattle.kv_model.specs.Txns.{Path, replies_of, changes_of}
+use Rattle.store_laws.specs.Plans.{ReadsKept}
 use Rattle.range_view.specs.Replies.{in_row, op_reply_view}
 use Rattle.txn_core.specs.Steps.{step_view, steps_view}
-use Rattle.txn_core.proofs.Answering.{row-reads, row-changes, row-room, row-answers, row-answered, row-changed, range-reads, inner-reads, range-changes, put-changes, delete-changes, inner-changes, range-answered, put-answered, delete-answered, inner-answered}
+use Rattle.txn_core.proofs.Elements.{At}
+use Rattle.txn_core.proofs.Answering.{row-at, row-end, row-reads, row-changes, row-room, row-pushed}
+use Rattle.txn_core.proofs.Answering.{path-range, path-put, path-delete, path-inner}
+use Rattle.txn_core.proofs.Answering.{range-changes, put-changes, delete-changes, inner-changes}
+use Rattle.txn_core.proofs.Answering.{told, range-told, put-told, delete-told, inner-told}
 use Rattle.txn_core.proofs.reply.+reply.Goals as goal
+
+-- ---- a row
 
 pub row_replies-step_reply-requires : goal.row_replies-step_reply-requires
 row_replies-step_reply-requires t c =
-    let l = c.loop-step in (
+    let l = c.loop-step in
+    let ss = c.args.steps.now in
+    let here : At ss = record { index = l.step-index; value = c.step-item.result; inside = omega arith; is = c.step-item.is } in
+    let room = subst (λ n. n < 2 ^ 64) (sym l.invariant.changes) c.requires.changes in (
       search (rules, the_lemmas),
       (
         c.requires.room,
         (
-          (row-reads c.args.tables.now.compacted c.args.before c.args.steps.now l.step-index c.step-item.result (omega arith) c.step-item.is l.invariant.reads).0,
-          row-room c.args.tables.now.versions (c.args.before + 1) l.next c.args.steps.now l.step-index c.step-item.result _ _ (omega arith) c.step-item.is l.invariant.changes c.requires.changes,
+          (row-reads c.args.tables.now.compacted c.args.before ss here l.invariant.reads).0,
+          row-room c.args.tables.now.versions (c.args.before + 1) l.next ss here _ room,
         ),
       ),
     )
@@ -22,88 +33,147 @@ row_replies-step_reply-requires t c =
 pub row_replies-loop-step-preserved : goal.row_replies-loop-step-preserved
 row_replies-loop-step-preserved t c =
     let l = c.loop-step in
-    let vs = c.args.tables.now.versions in
+    let v = c.args.tables.now in
+    let n = c.args.before in
     let ss = c.args.steps.now in
-    let s = c.step-item.result in
+    let reply = c.in_ok-reply in
+    let here : At ss = record { index = l.step-index; value = c.step-item.result; inside = omega arith; is = c.step-item.is } in
+    let rest = steps_view (drop (l.step-index + 1) ss) in
     record {
-      reads = (row-reads c.args.tables.now.compacted c.args.before ss l.step-index s (omega arith) c.step-item.is l.invariant.reads).1;
-      changes = row-changes vs (c.args.before + 1) l.next c.in_ok-reply.after ss l.step-index s (omega arith) c.step-item.is c.in_ok-reply.ensures.next ∙ l.invariant.changes;
-      replies = ap (λ rs. in_row (map op_reply_view rs) (replies_of vs c.args.tables.now.compacted c.args.before c.in_ok-reply.after (steps_view (drop (l.step-index + 1) ss)))) c.in_ok-push.ensures.items
-          ∙ row-answers vs c.args.tables.now.compacted c.args.before l.next c.in_ok-reply.after ss l.step-index s l.replies.items c.in_ok-reply.reply (omega arith) c.step-item.is c.in_ok-reply.ensures.replies ∙ l.invariant.replies;
+      reads = (row-reads v.compacted n ss here l.invariant.reads).1;
+      changes = row-changes v.versions (n + 1) l.next reply.after ss here reply.ensures.next ∙ l.invariant.changes;
+      replies = ap (λ rs. in_row (map op_reply_view rs) (told v n reply.after rest)) c.in_ok-push.ensures.items
+          ∙ row-pushed l.replies.items reply.reply (told v n reply.after rest)
+          ∙ ap (in_row (map op_reply_view l.replies.items)) (reply.ensures.replies rest ∙ ap (told v n l.next) (sym (row-at ss here)))
+          ∙ l.invariant.replies;
     }
 
 pub row_replies-returns-clause-replies : goal.row_replies-returns-clause-replies
+unfolding replies_of
 row_replies-returns-clause-replies t c =
     let l = c.loop-step in
-    row-answered c.args.tables.now.versions c.args.tables.now.compacted c.args.before l.next c.args.steps.now l.step-index l.replies.items c.loop-step-test.false ∙ l.invariant.replies
+    ap (λ q. in_row (map op_reply_view l.replies.items) (told c.args.tables.now c.args.before l.next q))
+    (sym (row-end c.args.steps.now l.step-index c.loop-step-test.false)) ∙ l.invariant.replies
 
 pub row_replies-returns-clause-next : goal.row_replies-returns-clause-next
+unfolding changes_of
 row_replies-returns-clause-next t c =
     let l = c.loop-step in
-    row-changed c.args.tables.now.versions (c.args.before + 1) l.next c.args.steps.now l.step-index c.loop-step-test.false ∙ l.invariant.changes
+    let none : l.next ≡ l.next + 0 = omega arith in
+    none ∙ ap (λ q. l.next + changes_of c.args.tables.now.versions (c.args.before + 1) l.next q)
+    (sym (row-end c.args.steps.now l.step-index c.loop-step-test.false)) ∙ l.invariant.changes
+
+-- ---- a Range
 
 pub step_reply-range_reply-requires : goal.step_reply-range_reply-requires
-step_reply-range_reply-requires t c = record {
-  room = c.requires.room;
-  kept = range-reads c.args.tables.now.compacted c.args.before c.args.step.now c.in-Range.query c.in-Range.is c.requires.reads;
-}
+step_reply-range_reply-requires t c =
+    let path = path-range c.args.step.now c.in-Range.query c.in-Range.is Path.end in
+    record { room = c.requires.room; kept = (subst (ReadsKept c.args.tables.now.compacted c.args.before) path c.requires.reads).0 }
+
+pub step_reply-returns-in_ok-range_reply-in-Range-clause-replies : goal.step_reply-returns-in_ok-range_reply-in-Range-clause-replies
+step_reply-returns-in_ok-range_reply-in-Range-clause-replies t c = λ rest.
+    let v = c.args.tables.now in
+    let reply = c.in_ok-range_reply-in-Range in
+    range-told v c.args.before c.args.sub c.in-Range.query.now reply.field-0 reply.ensures rest
+    ∙ ap (told v c.args.before c.args.sub) (sym (path-range c.args.step.now c.in-Range.query c.in-Range.is rest))
+
+pub step_reply-returns-in_ok-range_reply-in-Range-clause-next : goal.step_reply-returns-in_ok-range_reply-in-Range-clause-next
+step_reply-returns-in_ok-range_reply-in-Range-clause-next t c =
+    let vs = c.args.tables.now.versions in
+    let main = c.args.before + 1 in
+    range-changes vs main c.args.sub c.in-Range.query.now
+    ∙ ap (λ q. c.args.sub + changes_of vs main c.args.sub q) (sym (path-range c.args.step.now c.in-Range.query c.in-Range.is Path.end))
+
+-- ---- a put
 
 pub step_reply-overflow_add-result : goal.step_reply-overflow_add-result
 step_reply-overflow_add-result t c =
-    let one : c.args.sub + 1 ≡ c.args.sub + changes_of c.args.tables.now.versions (c.args.before + 1) c.args.sub (step_view c.args.step.now Path.end) =
-    put-changes c.args.tables.now.versions (c.args.before + 1) c.args.sub c.args.step.now c.in-Put.put c.in-Put.is in
+    let vs = c.args.tables.now.versions in
+    let main = c.args.before + 1 in
+    let path = path-put c.args.step.now c.in-Put.put c.in-Put.is Path.end in
+    let one : c.args.sub + 1 ≡ c.args.sub + changes_of vs main c.args.sub (step_view c.args.step.now Path.end)
+    = put-changes vs main c.args.sub c.in-Put.put.now ∙ ap (λ q. c.args.sub + changes_of vs main c.args.sub q) (sym path) in
     let room : c.args.sub + 1 < 2 ^ 64 = omega (arith, one, c.requires.changes) in
     search (rules, room)
 
+pub step_reply-returns-in-Put-clause-replies : goal.step_reply-returns-in-Put-clause-replies
+step_reply-returns-in-Put-clause-replies t c = λ rest.
+    let v = c.args.tables.now in
+    put-told v c.args.before c.args.sub c.in-Put.put.now c.previous.result c.previous.ensures rest
+    ∙ ap (told v c.args.before c.args.sub) (sym (path-put c.args.step.now c.in-Put.put c.in-Put.is rest))
+
+pub step_reply-returns-in-Put-clause-next : goal.step_reply-returns-in-Put-clause-next
+step_reply-returns-in-Put-clause-next t c =
+    let vs = c.args.tables.now.versions in
+    let main = c.args.before + 1 in
+    put-changes vs main c.args.sub c.in-Put.put.now
+    ∙ ap (λ q. c.args.sub + changes_of vs main c.args.sub q) (sym (path-put c.args.step.now c.in-Put.put c.in-Put.is Path.end))
+
+-- ---- a delete
+
 pub step_reply-overflow_add-result-in-Delete : goal.step_reply-overflow_add-result-in-Delete
 step_reply-overflow_add-result-in-Delete t c =
+    let vs = c.args.tables.now.versions in
+    let main = c.args.before + 1 in
     let deleted = c.in_ok-deleted-in-Delete.deleted in
-    let more : c.args.sub + deleted ≡ c.args.sub + changes_of c.args.tables.now.versions (c.args.before + 1) c.args.sub (step_view c.args.step.now Path.end) =
-    delete-changes c.args.tables.now.versions (c.args.before + 1) c.args.sub deleted c.args.step.now c.in-Delete.delete c.in-Delete.is c.in_ok-deleted-in-Delete.ensures.count in
+    let path = path-delete c.args.step.now c.in-Delete.delete c.in-Delete.is Path.end in
+    let more : c.args.sub + deleted ≡ c.args.sub + changes_of vs main c.args.sub (step_view c.args.step.now Path.end)
+    = ap (λ k. c.args.sub + k) c.in_ok-deleted-in-Delete.ensures.count ∙ delete-changes vs main c.args.sub c.in-Delete.delete.now
+    ∙ ap (λ q. c.args.sub + changes_of vs main c.args.sub q) (sym path) in
     let room : c.args.sub + deleted < 2 ^ 64 = omega (arith, more, c.requires.changes) in
     search (rules, room)
 
-pub step_reply-row_replies-requires : goal.step_reply-row_replies-requires
-step_reply-row_replies-requires t c =
-    let step = c.args.step.now in
-    let same = inner-changes c.args.tables.now.versions (c.args.before + 1) c.args.sub step c.in-Inner.succeeded c.in-Inner.steps c.deref.result.now c.in-Inner.is c.deref.ensures.value in (
-      search (rules, the_lemmas),
-      (
-        c.requires.room,
-        (inner-reads c.args.tables.now.compacted c.args.before step c.in-Inner.succeeded c.in-Inner.steps c.deref.result.now c.in-Inner.is c.deref.ensures.value c.requires.reads, omega (arith, same, c.requires.changes)),
-      ),
-    )
-
-pub step_reply-returns-in_ok-range_reply-in-Range-clause-replies : goal.step_reply-returns-in_ok-range_reply-in-Range-clause-replies
-step_reply-returns-in_ok-range_reply-in-Range-clause-replies t c = range-answered c.args.tables.now.versions c.args.tables.now.compacted c.args.before c.args.sub c.args.step.now
-    c.in-Range.query c.in_ok-range_reply-in-Range.field-0 c.in-Range.is c.in_ok-range_reply-in-Range.ensures
-
-pub step_reply-returns-in_ok-range_reply-in-Range-clause-next : goal.step_reply-returns-in_ok-range_reply-in-Range-clause-next
-step_reply-returns-in_ok-range_reply-in-Range-clause-next t c = range-changes c.args.tables.now.versions (c.args.before + 1) c.args.sub c.args.step.now c.in-Range.query c.in-Range.is
-
-pub step_reply-returns-in-Put-clause-replies : goal.step_reply-returns-in-Put-clause-replies
-step_reply-returns-in-Put-clause-replies t c =
-    put-answered c.args.tables.now.versions c.args.tables.now.compacted c.args.before c.args.sub c.args.step.now c.in-Put.put c.previous.result c.in-Put.is c.previous.ensures
-
-pub step_reply-returns-in-Put-clause-next : goal.step_reply-returns-in-Put-clause-next
-step_reply-returns-in-Put-clause-next t c = put-changes c.args.tables.now.versions (c.args.before + 1) c.args.sub c.args.step.now c.in-Put.put c.in-Put.is
-
 pub step_reply-returns-in_ok-deleted-in-Delete-clause-replies : goal.step_reply-returns-in_ok-deleted-in-Delete-clause-replies
-step_reply-returns-in_ok-deleted-in-Delete-clause-replies t c =
+step_reply-returns-in_ok-deleted-in-Delete-clause-replies t c = λ rest.
+    let v = c.args.tables.now in
     let d = c.in_ok-deleted-in-Delete in
-    delete-answered c.args.tables.now.versions c.args.tables.now.compacted c.args.before c.args.sub d.deleted c.args.step.now c.in-Delete.delete d.previous c.in-Delete.is d.ensures.count d.ensures.previous
+    delete-told v c.args.before c.args.sub d.deleted c.in-Delete.delete.now d.previous d.ensures.count d.ensures.previous rest
+    ∙ ap (told v c.args.before c.args.sub) (sym (path-delete c.args.step.now c.in-Delete.delete c.in-Delete.is rest))
 
 pub step_reply-returns-in_ok-deleted-in-Delete-clause-next : goal.step_reply-returns-in_ok-deleted-in-Delete-clause-next
 step_reply-returns-in_ok-deleted-in-Delete-clause-next t c =
-    delete-changes c.args.tables.now.versions (c.args.before + 1) c.args.sub c.in_ok-deleted-in-Delete.deleted c.args.step.now c.in-Delete.delete c.in-Delete.is c.in_ok-deleted-in-Delete.ensures.count
+    let vs = c.args.tables.now.versions in
+    let main = c.args.before + 1 in
+    let path = path-delete c.args.step.now c.in-Delete.delete c.in-Delete.is Path.end in
+    ap (λ k. c.args.sub + k) c.in_ok-deleted-in-Delete.ensures.count ∙ delete-changes vs main c.args.sub c.in-Delete.delete.now
+    ∙ ap (λ q. c.args.sub + changes_of vs main c.args.sub q) (sym path)
+
+-- ---- a transaction within
+
+pub step_reply-row_replies-requires : goal.step_reply-row_replies-requires
+step_reply-row_replies-requires t c =
+    let vs = c.args.tables.now.versions in
+    let main = c.args.before + 1 in
+    let inner = steps_view c.deref.result.now in
+    let path
+    = path-inner c.args.step.now c.in-Inner.succeeded c.in-Inner.steps c.deref.result.now c.in-Inner.is c.deref.ensures.value Path.end in
+    let same = inner-changes vs main c.args.sub c.in-Inner.succeeded inner
+    ∙ ap (λ q. c.args.sub + changes_of vs main c.args.sub q) (sym path) in (
+      search (rules, the_lemmas),
+      (
+        c.requires.room,
+        (
+          (subst (ReadsKept c.args.tables.now.compacted c.args.before) path c.requires.reads).0,
+          omega (arith, same, c.requires.changes),
+        ),
+      ),
+    )
 
 pub step_reply-returns-in_ok-replies-in-Inner-clause-replies : goal.step_reply-returns-in_ok-replies-in-Inner-clause-replies
-step_reply-returns-in_ok-replies-in-Inner-clause-replies t c =
-    let within = c.in_ok-replies-in-Inner in
-    inner-answered c.args.tables.now.versions c.args.tables.now.compacted c.args.before c.args.sub within.next c.args.step.now c.in-Inner.succeeded c.in-Inner.steps c.deref.result.now within.replies
-    c.in-Inner.is c.deref.ensures.value within.ensures.replies within.ensures.next
+step_reply-returns-in_ok-replies-in-Inner-clause-replies t c = λ rest.
+    let v = c.args.tables.now in
+    let w = c.in_ok-replies-in-Inner in
+    let b = c.in-Inner.succeeded in
+    let ss = c.deref.result.now in
+    inner-told v c.args.before c.args.sub w.next b (steps_view ss) w.replies w.ensures.replies w.ensures.next rest
+    ∙ ap (told v c.args.before c.args.sub) (sym (path-inner c.args.step.now b c.in-Inner.steps ss c.in-Inner.is c.deref.ensures.value rest))
 
 pub step_reply-returns-in_ok-replies-in-Inner-clause-next : goal.step_reply-returns-in_ok-replies-in-Inner-clause-next
 step_reply-returns-in_ok-replies-in-Inner-clause-next t c =
-    c.in_ok-replies-in-Inner.ensures.next
-    ∙ inner-changes c.args.tables.now.versions (c.args.before + 1) c.args.sub c.args.step.now c.in-Inner.succeeded c.in-Inner.steps c.deref.result.now c.in-Inner.is c.deref.ensures.value
+    let vs = c.args.tables.now.versions in
+    let main = c.args.before + 1 in
+    let b = c.in-Inner.succeeded in
+    let ss = c.deref.result.now in
+    let path = path-inner c.args.step.now b c.in-Inner.steps ss c.in-Inner.is c.deref.ensures.value Path.end in
+    c.in_ok-replies-in-Inner.ensures.next ∙ inner-changes vs main c.args.sub b (steps_view ss)
+    ∙ ap (λ q. c.args.sub + changes_of vs main c.args.sub q) (sym path)

@@ -9,7 +9,9 @@ use Rattle.txn_core.proofs.reply.+reply.Given as goal
 abbrev pub invariant-row_replies-loop-step : goal.invariant-row_replies-loop-step
 invariant-row_replies-loop-step l = record {
   reads : ReadsKept l.tables.compacted l.before (steps_view (drop l.step-index l.steps));
-  changes : l.next + changes_of l.tables.versions (l.before + 1) l.next (steps_view (drop l.step-index l.steps)) ≡ l.sub + changes_of l.tables.versions (l.before + 1) l.sub (steps_view l.steps);
-  replies : in_row (map op_reply_view l.replies.items) (replies_of l.tables.versions l.tables.compacted l.before l.next (steps_view (drop l.step-index l.steps)))
+  changes : l.next + changes_of l.tables.versions (l.before + 1) l.next (steps_view (drop l.step-index l.steps))
+      ≡ l.sub + changes_of l.tables.versions (l.before + 1) l.sub (steps_view l.steps);
+  replies : in_row (map op_reply_view l.replies.items)
+      (replies_of l.tables.versions l.tables.compacted l.before l.next (steps_view (drop l.step-index l.steps)))
       ≡ replies_of l.tables.versions l.tables.compacted l.before l.sub (steps_view l.steps);
 }

@@ -5,4 +5,5 @@ use Rattle.txn_core.specs.Planning.{with_graves}
 use Rattle.txn_core.proofs.changes.Changes.delete.Given as goal
 
 abbrev pub invariant-loop-kv : goal.invariant-loop-kv
-invariant-loop-kv l = with_graves l.main l.self (keys_of (map kv_view (drop l.kv-index l.live))) ≡ with_graves l.main l.fn.self (keys_of (map kv_view l.live))
+invariant-loop-kv l = with_graves l.main l.self (keys_of (map kv_view (drop l.kv-index l.live)))
+    ≡ with_graves l.main l.fn.self (keys_of (map kv_view l.live))
