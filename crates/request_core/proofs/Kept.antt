@@ -1,5 +1,5 @@
 -- What is kept stays counted as it grows, and what a put and a delete add are the versions of the next revision.
-use Rattle.std.proofs.Common.{◌≡◌, ◌≢◌, ℕ, zero, suc, ◌+◌, ◌<◌, ◌≤◌, ◌^◌, ◌%◌, ◌&&◌, List, [], ◌∷◌, ◌++◌, length, map, take, get_or, true, Option, None, Some, option_and_then, refl, sym, ap, subst, arith, eq-eqb, lt-ltb}
+use Rattle.std.proofs.Common.{◌≡◌, ◌≢◌, ℕ, zero, suc, ◌+◌, ◌<◌, ◌≤◌, ◌^◌, ◌&&◌, List, [], ◌∷◌, ◌++◌, length, map, take, get_or, true, Option, None, Some, option_and_then, refl, sym, ap, subst, arith, eq-eqb, lt-ltb}
 use Rattle.std.specs.Option.{MatchOption}
 use Rattle.std.specs.List.{AllByRecursion}
 use Rattle.kv_model.specs.declared.version.Rev.{Rev}
@@ -132,4 +132,5 @@ sound-appended t vs h room n = subst (λ r. IsSound (record t { versions = t.ver
 -- a core whose tables grew
 pub grown-state : (t : Stored) (b : Book) (vs : List Version) (stamp : ℕ) → AreNext t.revision vs
     → core_state (appended t vs) b stamp ≡ with_versions (core_state t b stamp) vs
-grown-state t b vs stamp n = ap (λ r. core_state (record t { versions = t.versions ++ vs; revision = r }) b stamp) (next-main t.revision vs n)
+grown-state t b vs stamp n = ap (λ r. core_state (record t { versions = t.versions ++ vs; revision = r }) b stamp)
+    (next-main t.revision vs n)

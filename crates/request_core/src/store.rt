@@ -89,8 +89,8 @@ impl Core {
         }
     }
 
-    /// How many changing calls came, wrapping: accepted commands that changed something, moments, and
-    /// steps of expiry that revoked a lease. No other call counts. Takes no memory.
+    /// How many changing calls came, wrapping: accepted commands that changed something, moments,
+    /// and steps of expiry that revoked a lease. No other call counts. Takes no memory.
     pub fn stamp(&self) -> u64
         ensures { result ≡ self.now.stamp }
     {
@@ -114,44 +114,45 @@ impl Core {
 
     /// Does one command, on what the core stands for.
     ///
-    /// What an accepted command did is one record, `Does`. In each world that the core stood for, the
-    /// model accepts the command and answers it as the receipt does on the new state, which stands for
-    /// the world after it, and the receipt's `raised` is the model's (`accepted`). The receipt can be
-    /// answered on the new state (`readable`). Where it says that nothing has changed, the core is as
-    /// it was (`unchanged`), and where something has, the stamp is one more (`stamp`). No watch is made
-    /// (`unwatched`), and something besides the versions changed where the model changes it (`beside`).
+    /// What an accepted command did is one record, `Does`. In each world that the core stood for,
+    /// the model accepts the command and answers it as the receipt does on the new state, which
+    /// stands for the world after it, and the receipt's `raised` is the model's (`accepted`). The
+    /// receipt can be answered on the new state (`readable`). Where it says that nothing has
+    /// changed, the core is as it was (`unchanged`), and where something has, the stamp is one more
+    /// (`stamp`). No watch is made (`unwatched`), and something besides the versions changed where
+    /// the model changes it (`beside`).
     ///
     /// What a refused one left is another, `Refuses`: the refusal is the model's, or memory was
-    /// wanting (`refused`), which it never is where the command takes none (`free`), and the core is
-    /// as it was (`kept`).
+    /// wanting (`refused`), which it never is where the command takes none (`free`), and the core
+    /// is as it was (`kept`).
     ///
-    /// The refusals come in the order of the etcd documentation's checks of a request: `NoKey` where
-    /// the key is empty; of a Range, `Compacted` and `Future` where its revision is below the last
-    /// compaction or above the present one; of a Put, `ValueGiven` and `LeaseGiven` where it keeps
-    /// what it also gives, `KeyMissing` where it keeps what is not there, and `LeaseMissing` where it
-    /// names a lease that is not granted; of a grant, `TtlTooLarge` above 9,000,000,000 seconds,
-    /// `LeaseExists` for an ID in use and `TooManyLeases` where 65,536 are granted; of a revoke,
-    /// `LeaseMissing`; and last `RevisionsSpent` where a change would need a revision above the
-    /// greatest. `Memory` comes where a list, a copy or the place of a lease found none, and may come
-    /// in place of `RevisionsSpent`; a Range, a keepalive, a time to live and the list of leases take
-    /// none here.
+    /// The refusals come in the order of the etcd documentation's checks of a request: `NoKey`
+    /// where the key is empty; of a Range, `Compacted` and `Future` where its revision is below the
+    /// last compaction or above the present one; of a Put, `ValueGiven` and `LeaseGiven` where it
+    /// keeps what it also gives, `KeyMissing` where it keeps what is not there, and `LeaseMissing`
+    /// where it names a lease that is not granted; of a grant, `TtlTooLarge` above 9,000,000,000
+    /// seconds, `LeaseExists` for an ID in use and `TooManyLeases` where 65,536 are granted; of a
+    /// revoke, `LeaseMissing`; and last `RevisionsSpent` where a change would need a revision above
+    /// the greatest. `Memory` comes where a list, a copy or the place of a lease found none, and
+    /// may come in place of `RevisionsSpent`; a Range, a keepalive, a time to live and the list of
+    /// leases take none here.
     ///
     /// A Txn is first refused for what hangs on it alone, also in branches that do not run, and a
     /// transaction before its parts: `TooDeep` where it lies in eight others, `TooManyOps` where it
     /// has more than 128 compares or operations of a branch, and `NoKey`, `ValueGiven` and
-    /// `LeaseGiven` as each by itself; then `DuplicateKey` where operations that can run together put
-    /// one key, or put a key and delete it; then, of the operations that run, in their order,
-    /// `Compacted`, `Future`, `KeyMissing` and `LeaseMissing`; and `RevisionsSpent` last. `Memory` may
-    /// come in place of all from `DuplicateKey` on.
+    /// `LeaseGiven` as each by itself; then `DuplicateKey` where operations that can run together
+    /// put one key, or put a key and delete it; then, of the operations that run, in their order,
+    /// `Compacted`, `Future`, `KeyMissing` and `LeaseMissing`; and `RevisionsSpent` last. `Memory`
+    /// may come in place of all from `DuplicateKey` on.
     ///
-    /// A Put takes time logarithmic in the number of keys and in that of the versions, and linear in a
-    /// value that it keeps, which is copied. A DeleteRange walks the keys of its range, live or not,
-    /// each in such time, and adds a tombstone for each that is live, all in one revision. A Txn sorts
-    /// its keys for the check, and takes for each compare and each operation that runs the time of a
-    /// read or a write by itself; all its changes stand in one revision. All this is but for the
-    /// growth of a list. A grant and a keepalive are logarithmic in the number of leases. A revoke
-    /// looks up the keys that were put under the lease, each in such time, and deletes those that
-    /// still are in one revision.
+    /// A Put takes time logarithmic in the number of keys and in that of the versions, and linear
+    /// in a value that it keeps, which is copied. A DeleteRange walks the keys of its range, live
+    /// or not, each in such time, and adds a tombstone for each that is live, all in one revision.
+    /// A Txn sorts its keys for the check, and takes for each compare and each operation that runs
+    /// the time of a read or a write by itself; all its changes stand in one revision. All this is
+    /// but for the growth of a list. A grant and a keepalive are logarithmic in the number of
+    /// leases. A revoke looks up the keys that were put under the lease, each in such time, and
+    /// deletes those that still are in one revision.
     pub fn apply<'c>(&mut self, command: &'c Command) -> Result<Receipt<'c>, Refusal>
         ensures done { IfOk result (λ r. Does self.old self.new (call_of command.now) r) }
         ensures refused { IfErr result (λ e. Refuses self.old self.new (call_of command.now) e) }
@@ -159,15 +160,16 @@ impl Core {
         self.apply_over(command, &mut NoSink)
     }
 
-    /// Does one command, and hands what changes to a sink before it stands, in one batch. A sink that
-    /// finds no memory refuses the command.
+    /// Does one command, and hands what changes to a sink before it stands, in one batch. A sink
+    /// that finds no memory refuses the command.
     pub(crate) fn apply_over<'c, S: Sink>(
         &mut self,
         command: &'c Command,
         sink: &mut S,
     ) -> Result<Receipt<'c>, Refusal>
         ensures done { IfOk result (λ r. Does self.old self.new (call_of command.now) r) }
-        ensures told { OnOk result (IsTold S.takes (added_by self.old.store (call_of command.now)) sink.old sink.new) }
+        ensures told { OnOk result
+            (IsTold S.takes (added_by self.old.store (call_of command.now)) sink.old sink.new) }
         ensures refused { IfErr result (λ e. Refuses self.old self.new (call_of command.now) e) }
         ensures untold { OnErr result (sink.new ≡ sink.old) }
     {
@@ -185,7 +187,8 @@ impl Core {
         sink: &mut S,
     ) -> Result<Todo<'c>, Refusal>
         ensures done { IfOk result (λ t. CarriesOut self.old self.new (call_of command.now) t) }
-        ensures told { OnOk result (IsTold S.takes (added_by self.old.store (call_of command.now)) sink.old sink.new) }
+        ensures told { OnOk result
+            (IsTold S.takes (added_by self.old.store (call_of command.now)) sink.old sink.new) }
         ensures refused { IfErr result (λ e. Refuses self.old self.new (call_of command.now) e) }
         ensures untold { OnErr result (sink.new ≡ sink.old) }
     {
@@ -202,8 +205,8 @@ impl Core {
         }
     }
 
-    /// The answer of a receipt, on the state that it left. It lends keys and values from the core and
-    /// copies none.
+    /// The answer of a receipt, on the state that it left. It lends keys and values from the core
+    /// and copies none.
     ///
     /// `AllocError` comes where the list of an answer, or the sort of a Range, found no memory; so
     /// never to a Put, a grant, a revoke or a keepalive. What a delete showed is read at the end of
@@ -268,7 +271,8 @@ impl Core {
         self.tables.view().get(key)
     }
 
-    /// Appends the versions of the next revision, where there are some, once the sink has taken them.
+    /// Appends the versions of the next revision, where there are some, once the sink has taken
+    /// them.
     fn append_any<S: Sink>(
         &mut self,
         versions: Vec<Version>,
@@ -286,8 +290,8 @@ impl Core {
         self.append(versions, sink)
     }
 
-    /// Appends the versions of the next revision, once the sink has taken them. Where that fails, the
-    /// index of leases may have some pairs more.
+    /// Appends the versions of the next revision, once the sink has taken them. Where that fails,
+    /// the index of leases may have some pairs more.
     fn append<S: Sink>(&mut self, versions: Vec<Version>, sink: &mut S) -> Result<(), AllocError>
         requires room { self.old.store.revision < last_main }
         requires next { AreNext self.old.store.revision versions.items }
