@@ -1,7 +1,6 @@
 -- What a DeleteRange does, in each world that the core stands for.
 use Rattle.std.proofs.Common.{◌≡◌, ◌≢◌, ℕ, suc, ◌+◌, ◌-◌, ◌≤◌, ◌^◌, ◌&&◌, List, [], ◌∷◌, ◌++◌, length, Bor, Bool, true, false, not}
-use Rattle.std.proofs.Common.{nat_lt, Option, None, Some, Err, refl, sym, ◌∙◌, ap, subst, arith, append_assoc, append-nil, lt-ltb}
-use Rattle.std.specs.Option.{option_or}
+use Rattle.std.proofs.Common.{nat_lt, None, Some, Err, refl, sym, ◌∙◌, ap, subst, arith, append_assoc, append-nil, lt-ltb}
 use Rattle.kv_model.specs.declared.refusal.Refusal.{Refusal}
 use Rattle.kv_model.specs.declared.refusal.Refusal.TheVariants.{RevisionsSpent}
 use Rattle.kv_model.specs.declared.call.DeleteRequest.{DeleteRequest}
@@ -13,7 +12,7 @@ use Rattle.kv_model.specs.Ranges.{live, keys_of, refuse_if}
 use Rattle.kv_model.specs.Calls.{Call}
 use Rattle.kv_model.specs.Told.{Reply}
 use Rattle.kv_model.specs.Txns.{extend_all, deletes_of, if_asked}
-use Rattle.kv_model.specs.World.{World, changed}
+use Rattle.kv_model.specs.World.{World}
 use Rattle.kv_model.specs.Step.{made_in}
 use Rattle.store_laws.specs.Stands.{Store, StandsFor, grown_noted}
 use Rattle.store_laws.specs.Stores.{refusal_of_delete, reply_of_delete, changes_of_delete}
@@ -60,7 +59,8 @@ pub deletes-empty : (main : ℕ) (kvs : List KeyValue) → is_empty (deletes_of 
 deletes-empty main [] = refl
 deletes-empty main (kv ∷ kvs) = refl
 
-pub deletes-spent : (r main : ℕ) (kvs : List KeyValue) → refuse_if (not (is_empty (deletes_of main 0 (keys_of kvs))) && is_spent r) RevisionsSpent
+pub deletes-spent : (r main : ℕ) (kvs : List KeyValue)
+    → refuse_if (not (is_empty (deletes_of main 0 (keys_of kvs))) && is_spent r) RevisionsSpent
     ≡ refuse_if (not (is_empty kvs) && is_spent r) RevisionsSpent
 deletes-spent r main kvs = ap (λ b. refuse_if (not b && is_spent r) RevisionsSpent) (deletes-empty main kvs)
 
@@ -72,7 +72,8 @@ behind-before r sub (kv ∷ kvs) = (rev_le-after (record { main = r + 1; sub = s
 
 -- what was live is still found at the end of the revision before, where there is one more
 live-before : (s : CoreState) (kvs : List KeyValue) (r : KeyRange) → kvs ≢ []
-    → live (with_any s (tombstones (s.store.revision + 1) 0 kvs)).store.versions (end_of ((with_any s (tombstones (s.store.revision + 1) 0 kvs)).store.revision - 1)) r
+    → live (with_any s (tombstones (s.store.revision + 1) 0 kvs)).store.versions
+    (end_of ((with_any s (tombstones (s.store.revision + 1) 0 kvs)).store.revision - 1)) r
     ≡ live_in s.store r
 live-before s [] r some = absurd (some refl)
 live-before s (kv ∷ kvs) r some =
@@ -120,7 +121,8 @@ delete-makes s new d n was w h =
     record {
       after = changed_by w us;
       made = delete_told s.store w h d ∙ made_first (refusal_of_delete d) _ _ _
-          (λ none. commit_made s.store.revision (reply_of_delete s.store d) w us (deletes-spent s.store.revision (s.store.revision + 1) kvs ∙ none))
+          (λ none. commit_made s.store.revision (reply_of_delete s.store d) w us
+          (deletes-spent s.store.revision (s.store.revision + 1) kvs ∙ none))
           was.clear;
       stands = committed s.store (after_delete s d).store us w (record {
         stood = h;
@@ -133,11 +135,13 @@ delete-makes s new d n was w h =
 pub delete_done : (s new : CoreState) (d : DeleteRequest) (n : ℕ) (range : Bor KeyRange) → range.now ≡ d.range → WasDeleted s new d n
     → CarriesOut s new (Call.delete d) (todo.Delete range d.prev_kv n)
 delete_done s new d n range same was =
-    let told : Reply.delete n (if_asked (d.prev_kv && nat_lt 0 n) (live (after_delete s d).store.versions (end_of ((after_delete s d).store.revision - 1)) range.now))
+    let told : Reply.delete n
+    (if_asked (d.prev_kv && nat_lt 0 n)
+    (live (after_delete s d).store.versions (end_of ((after_delete s d).store.revision - 1)) range.now))
     ≡ reply_of_delete s.store d
     = (λ i. Reply.delete (was.counted i) (if_asked (d.prev_kv && nat_lt 0 (was.counted i))
-        (live (after_delete s d).store.versions (end_of ((after_delete s d).store.revision - 1)) (same i))))
-      ∙ ap (λ kvs. Reply.delete (length (live_in s.store d.range)) kvs) (shown-kept s d.prev_kv d.range (live_in s.store d.range) refl) in
+    (live (after_delete s d).store.versions (end_of ((after_delete s d).store.revision - 1)) (same i))))
+    ∙ ap (λ kvs. Reply.delete (length (live_in s.store d.range)) kvs) (shown-kept s d.prev_kv d.range (live_in s.store d.range) refl) in
     subst (λ (t : CoreState). CarriesOut s t (Call.delete d) (todo.Delete range d.prev_kv n)) (sym was.made) (record {
       makes = λ w h. subst (λ r. Makes w (Call.delete d) r (after_delete s d).store) (sym told) (delete-makes s new d n was w h);
       allowed = tt;
@@ -148,10 +152,11 @@ delete_done s new d n range same was =
 -- ---- what is refused
 
 -- the model refuses a delete as the store does
-delete-refused : (s : Store) (w : World) (d : DeleteRequest) (e : Refusal) → StandsFor s w → fault_of_delete s d ≡ Some e → made_in w (Call.delete d) ≡ Err e
+delete-refused : (s : Store) (w : World) (d : DeleteRequest) (e : Refusal) → StandsFor s w → fault_of_delete s d ≡ Some e
+    → made_in w (Call.delete d) ≡ Err e
 delete-refused s w d e h one = delete_told s w h d ∙ refused_first (refusal_of_delete d) _ _ e
     (λ spent. commit_spent s.revision (reply_of_delete s d) w (changes_of_delete s d) e
-        (deletes-spent s.revision (s.revision + 1) (live_in s d.range) ∙ spent)) one
+    (deletes-spent s.revision (s.revision + 1) (live_in s d.range) ∙ spent)) one
 
 pub delete_refuses : (s new : CoreState) (d : DeleteRequest) (e : Refusal) → IsRefusal e (fault_of_delete s.store d) → new ≡ s
     → Refuses s new (Call.delete d) e

@@ -1,5 +1,5 @@
 -- What is kept stays counted as it grows, and what a put and a delete add are the versions of the next revision.
-use Rattle.std.proofs.Common.{◌≡◌, ◌≢◌, ℕ, zero, suc, ◌+◌, ◌<◌, ◌≤◌, ◌^◌, ◌%◌, ◌&&◌, List, [], ◌∷◌, ◌++◌, length, map, take, get_or, true, Option, None, Some, option_and_then, refl, sym, ap, subst, arith, eq-eqb, lt-ltb}
+use Rattle.std.proofs.Common.{◌≡◌, ◌≢◌, ℕ, zero, suc, ◌+◌, ◌<◌, ◌≤◌, ◌^◌, ◌&&◌, List, [], ◌∷◌, ◌++◌, length, map, take, get_or, true, Option, None, Some, option_and_then, refl, sym, ap, subst, arith, eq-eqb, lt-ltb}
 use Rattle.std.specs.Option.{MatchOption}
 use Rattle.std.specs.List.{AllByRecursion}
 use Rattle.kv_model.specs.declared.version.Rev.{Rev}
@@ -135,7 +135,8 @@ sound-appended t vs h room n = subst (λ r. IsSound (record t { versions = t.ver
 -- a core whose tables grew
 pub grown-state : (t : Stored) (b : Book) (h : Hub) (vs : List Version) (stamp : ℕ) → AreNext t.revision vs
     → core_state (appended t vs) b h stamp ≡ with_unnoted (core_state t b h stamp) vs
-grown-state t b h vs stamp n = ap (λ r. core_state (record t { versions = t.versions ++ vs; revision = r }) b h stamp) (next-main t.revision vs n)
+grown-state t b h vs stamp n =
+    ap (λ r. core_state (record t { versions = t.versions ++ vs; revision = r }) b h stamp) (next-main t.revision vs n)
 
 -- the watches take note of the versions that were appended
 pub noted-behind : (s : CoreState) (vs : List Version) → noted_from (length s.store.versions) (with_unnoted s vs) ≡ with_versions s vs

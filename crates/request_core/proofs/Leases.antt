@@ -1,6 +1,6 @@
 -- What grants, keepalives, times to live and the list of leases do, in each world that the core stands for.
 use Rattle.std.proofs.Common.{◌≡◌, ℕ, ℤ, List, [], ◌∷◌, Bool, true, false, cond, Option, None, Some, Ok, refl, sym, ◌∙◌, ap, subst}
-use Rattle.std.specs.Prelude.{is_some, nat_lt, option_map, unwrap_or, ◌&&◌, ◌||◌}
+use Rattle.std.specs.Prelude.{is_some, nat_lt, option_map, ◌&&◌, ◌||◌}
 use Rattle.kv_model.specs.declared.refusal.Refusal.{Refusal}
 use Rattle.kv_model.specs.Calls.{Call}
 use Rattle.kv_model.specs.Leases.{Lease, has_id, is_granted, lease_at, insert_lease, keys_of_lease, seconds_left}
@@ -9,7 +9,7 @@ use Rattle.kv_model.specs.Txns.{if_asked}
 use Rattle.kv_model.specs.World.{World}
 use Rattle.kv_model.specs.Step.{made_in, refused_or}
 use Rattle.store_laws.specs.Stands.{Store, StandsFor}
-use Rattle.store_laws.specs.Stores.{with_leases, refusal_of_grant, granted_lease, renewed_leases, reply_of_time_to_live}
+use Rattle.store_laws.specs.Stores.{refusal_of_grant, granted_lease, renewed_leases, reply_of_time_to_live}
 use Rattle.store_laws.proofs.StandsLeases.{leases_stand, grant_told, keep_alive_none, keep_alive_made, time_to_live_told, leases_told}
 use Rattle.lease_book.specs.declared.book.TimeLeft.{TimeLeft}
 use Rattle.request_core.specs.declared.answer.Todo.TheVariants as todo
@@ -38,7 +38,8 @@ leases-moved s ls = record {
 -- ---- Grant
 
 grant-makes : (s : CoreState) (ttl id : ℤ) (w : World) → StandsFor s.store w → refusal_of_grant s.store ttl id ≡ None
-    → Makes w (Call.grant ttl id) (Reply.grant (granted_lease s.store ttl id).id (granted_lease s.store ttl id).ttl) (after_grant s ttl id).store
+    → Makes w (Call.grant ttl id) (Reply.grant (granted_lease s.store ttl id).id (granted_lease s.store ttl id).ttl)
+    (after_grant s ttl id).store
 grant-makes s ttl id w h none =
     let l : Lease = granted_lease s.store ttl id in
     leases-make s (insert_lease l s.store.leases) (Call.grant ttl id) (Reply.grant l.id l.ttl) w h
@@ -105,7 +106,8 @@ found-done s id None is =
       moves = read_moves s false;
     })
 found-done s id (Some l) is =
-    subst (λ (n : CoreState). CarriesOut s n (Call.keep_alive id) (todo.KeepAlive id (Some l.ttl))) (sym (kept-alive s id (Some l) is)) (record {
+    subst (λ (n : CoreState). CarriesOut s n (Call.keep_alive id) (todo.KeepAlive id (Some l.ttl))) (sym (kept-alive s id (Some l) is))
+    (record {
       makes = λ w h. leases-make s (renewed_leases s.store id) (Call.keep_alive id) (Reply.keep_alive id l.ttl) w h
           (keep_alive_made s.store w h id l is);
       allowed = tt;

@@ -1,5 +1,5 @@
 -- What a Put does, in each world that the core stands for.
-use Rattle.std.proofs.Common.{◌≡◌, ℕ, ◌+◌, ◌-◌, List, [], ◌∷◌, ◌++◌, map, Bor, true, false, Option, None, Some, Err, refl, sym, ◌∙◌, ap, subst}
+use Rattle.std.proofs.Common.{◌≡◌, ℕ, ◌+◌, ◌-◌, List, [], ◌∷◌, ◌++◌, map, Bor, true, false, None, Some, Err, refl, sym, ◌∙◌, ap, subst}
 use Rattle.std.proofs.Common.{arith}
 use Rattle.std.specs.Option.{option_or}
 use Rattle.kv_model.specs.declared.refusal.Refusal.{Refusal}
@@ -36,7 +36,8 @@ put-grows : (s : CoreState) (w : World) → StandsFor s.store w → (p : PutRequ
 put-grows s w h p = λ i. record s.store {
   versions = s.store.versions ++ put_version (next_rev s.store.revision) p (value_now_is s.store w h p.key i) ∷ [];
   revision = s.store.revision + 1;
-  watches = map (noted (put_version (next_rev s.store.revision) p (value_now_is s.store w h p.key i) ∷ []) (s.store.revision + 1)) s.store.watches;
+  watches = map (noted (put_version (next_rev s.store.revision) p (value_now_is s.store w h p.key i) ∷ []) (s.store.revision + 1))
+      s.store.watches;
 }
 
 -- what a put finds before it is still found at the end of the revision before
@@ -55,10 +56,12 @@ put-makes : (s : CoreState) (p : PutRequest) → fault_of_put s.store p ≡ None
     → (w : World) → StandsFor s.store w → Makes w (Call.put p) (reply_of_put s.store p) (after_put s p).store
 put-makes s p clear w h =
     let us : List Mutation = changes_of_put s.store p in
-    let none : option_or (refusal_of_put s.store p) (refuse_if (is_spent s.store.revision) RevisionsSpent) ≡ None = fault-held s.store w h p ∙ clear in
+    let none : option_or (refusal_of_put s.store p) (refuse_if (is_spent s.store.revision) RevisionsSpent)
+    ≡ None = fault-held s.store w h p ∙ clear in
     record {
       after = changed w us;
-      made = put_told s.store w h p ∙ made_first (refusal_of_put s.store p) _ _ _ (commit_made s.store.revision (reply_of_put s.store p) w us) none;
+      made = put_told s.store w h p
+          ∙ made_first (refusal_of_put s.store p) _ _ _ (commit_made s.store.revision (reply_of_put s.store p) w us) none;
       stands = subst (λ t. StandsFor t (changed w us)) (put-grows s w h p)
           (put_stands s.store w h p (put_has_key s.store p (or-none-first _ _ none)));
     }
@@ -81,7 +84,8 @@ put_done s new p key same d = subst (λ (n : CoreState). CarriesOut s n (Call.pu
 -- ---- what is refused
 
 -- the model refuses a put as the store does
-put-refused : (s : Store) (w : World) (p : PutRequest) (e : Refusal) → StandsFor s w → fault_of_put s p ≡ Some e → made_in w (Call.put p) ≡ Err e
+put-refused : (s : Store) (w : World) (p : PutRequest) (e : Refusal) → StandsFor s w → fault_of_put s p ≡ Some e → made_in w (Call.put p)
+    ≡ Err e
 put-refused s w p e h one = put_told s w h p ∙ refused_first (refusal_of_put s p) _ _ e
     (commit_spent s.revision (reply_of_put s p) w (changes_of_put s p) e) (fault-held s w h p ∙ one)
 

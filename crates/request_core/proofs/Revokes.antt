@@ -1,8 +1,7 @@
 -- What a revoke and a step of expiry do, in each world that the core stands for.
-use Rattle.std.proofs.Common.{◌≡◌, ◌≢◌, ℕ, ℤ, ◌+◌, ◌<◌, ◌≤◌, ◌^◌, ◌&&◌, List, [], ◌∷◌, length, Bool, true, false, cond, not, nat_lt}
-use Rattle.std.proofs.Common.{Option, None, Some, Ok, Err, refl, sym, ◌∙◌, ap, subst, arith, lt-ltb, le-ltb}
+use Rattle.std.proofs.Common.{◌≡◌, ℕ, ℤ, ◌+◌, ◌≤◌, ◌^◌, List, [], ◌∷◌, length, Bool, true, false, cond, nat_lt}
+use Rattle.std.proofs.Common.{Option, None, Some, Err, refl, sym, ◌∙◌, ap, subst, arith, lt-ltb, le-ltb}
 use Rattle.std.specs.Prelude.{option_map, MatchBool, ⊤, ◌||◌}
-use Rattle.std.specs.Option.{option_or}
 use Rattle.std.proofs.lemmas.List.{length-map}
 use Rattle.kv_model.specs.declared.refusal.Refusal.{Refusal}
 use Rattle.kv_model.specs.declared.refusal.Refusal.TheVariants.{Memory, RevisionsSpent}
@@ -10,13 +9,11 @@ use Rattle.kv_model.specs.declared.version.Version.{Version}
 use Rattle.kv_model.specs.Calls.{Call}
 use Rattle.kv_model.specs.History.{KeyValue, Mutation}
 use Rattle.kv_model.specs.Leases.{Lease, without_lease, keys_of_lease, due}
-use Rattle.kv_model.specs.Ranges.{keys_of}
 use Rattle.kv_model.specs.Told.{Reply, Expiry}
-use Rattle.kv_model.specs.Txns.{deletes_of}
 use Rattle.kv_model.specs.World.{World, revision}
 use Rattle.kv_model.specs.Step.{made_in, expiry_of, expire, expire_at, revoke_in}
-use Rattle.store_laws.specs.Stands.{Store, StandsFor, grown}
-use Rattle.store_laws.specs.Stores.{with_leases, refusal_of_revoke, changes_of_revoke}
+use Rattle.store_laws.specs.Stands.{Store, StandsFor}
+use Rattle.store_laws.specs.Stores.{refusal_of_revoke, changes_of_revoke}
 use Rattle.store_laws.proofs.StandsLeases.{leases_stand, revoke_told, revoke_stands, due_stands}
 use Rattle.request_core.specs.declared.answer.Expiry.{Expiry as CoreExpiry}
 use Rattle.request_core.specs.declared.answer.Expiry.TheVariants as expiry
@@ -56,7 +53,8 @@ any-rises s main [] = le-ltb s.store.revision s.store.revision (omega arith)
 any-rises s main (kv ∷ kvs) =
     lt-ltb s.store.revision (s.store.revision + 1) (omega arith) ∙ sym (lt-ltb 0 (length (kv ∷ kvs)) (omega arith))
 
-revoke-left : (s new : CoreState) (id : ℤ) (n : ℕ) → WasRevoked s new id n → (with_any (unleased s id) (added_by_revoke s.store id)).store ≡ new.store
+revoke-left : (s new : CoreState) (id : ℤ) (n : ℕ) → WasRevoked s new id n → (with_any (unleased s id) (added_by_revoke s.store id)).store
+    ≡ new.store
 revoke-left s new id n was = ap (λ (t : CoreState). t.store)
     (any-leased s (without_lease id s.store.leases) (added_by_revoke s.store id) ∙ sym was.made)
 
@@ -78,7 +76,8 @@ revoke-makes s new id n was w h =
     record {
       after = changed_by (without s.store w id) us;
       made = revoke_told s.store w h id ∙ made_first (refusal_of_revoke s.store id) _ _ _
-          (λ none. commit_made s.store.revision Reply.revoke (without s.store w id) us (deletes-spent s.store.revision (s.store.revision + 1) kvs ∙ none))
+          (λ none. commit_made s.store.revision Reply.revoke (without s.store w id) us
+          (deletes-spent s.store.revision (s.store.revision + 1) kvs ∙ none))
           was.clear;
       stands = committed (unleased s id).store new.store us (without s.store w id) (record {
         stood = leases_stand s.store w (without_lease id s.store.leases) h;
@@ -118,10 +117,11 @@ revoke_done s new id n was = record {
 }
 
 -- the model refuses a revoke as the store does
-revoke-refused : (s : Store) (w : World) (id : ℤ) (e : Refusal) → StandsFor s w → fault_of_revoke s id ≡ Some e → made_in w (Call.revoke id) ≡ Err e
+revoke-refused : (s : Store) (w : World) (id : ℤ) (e : Refusal) → StandsFor s w → fault_of_revoke s id ≡ Some e
+    → made_in w (Call.revoke id) ≡ Err e
 revoke-refused s w id e h one = revoke_told s w h id ∙ refused_first (refusal_of_revoke s id) _ _ e
     (λ spent. commit_spent s.revision Reply.revoke (without s w id) (changes_of_revoke s id) e
-        (deletes-spent s.revision (s.revision + 1) (leased_in s id) ∙ spent)) one
+    (deletes-spent s.revision (s.revision + 1) (leased_in s id) ∙ spent)) one
 
 pub revoke_refuses : (s new : CoreState) (id : ℤ) (e : Refusal) → IsRefusal e (fault_of_revoke s.store id) → new ≡ s
     → Refuses s new (Call.revoke id) e
@@ -193,12 +193,14 @@ lease_expires s new id e x = record {
     is-expired (expiry.Expired i m up) id n b h = refl
 
 -- the lease that is due has keys, and no revision comes after the present one
-expiry_spent : (s : Store) (w : World) (id : ℤ) (e : Refusal) → StandsFor s w → due_in s ≡ Some id → fault_of_revoke s id ≡ Some e → (expire w).0 ≡ Expiry.spent
+expiry_spent : (s : Store) (w : World) (id : ℤ) (e : Refusal) → StandsFor s w → due_in s ≡ Some id → fault_of_revoke s id ≡ Some e
+    → (expire w).0 ≡ Expiry.spent
 expiry_spent s w id e h is one =
     ap (λ x. x.0) (some-due w (due w.clock w.leases) id (due-id s w h ∙ is) ∙ ap (λ m. expiry_of id w m) (revoke-refused s w id e h one))
 
 -- a step of expiry that is refused wants memory, or the revisions are spent
-pub expiry_refuses : (s new : CoreState) (id : ℤ) (r : Refusal) → due_in s.store ≡ Some id → IsRefusal r (fault_of_revoke s.store id) → new ≡ s
+pub expiry_refuses : (s new : CoreState) (id : ℤ) (r : Refusal) → due_in s.store ≡ Some id → IsRefusal r (fault_of_revoke s.store id)
+    → new ≡ s
     → RefusesExpiry s new (cond (is_memory r) Memory RevisionsSpent)
 expiry_refuses s new id r due h same = record { refused = by (is_memory r) h; kept = same }
   where

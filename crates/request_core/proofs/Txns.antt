@@ -1,6 +1,6 @@
 -- What a transaction does, in each world that the core stands for.
 use Rattle.std.proofs.Common.{◌≡◌, ◌≢◌, ◌⊎◌, inl, inr, ℕ, ◌+◌, ◌<◌, ◌≤◌, ◌^◌, ◌&&◌, List, [], ◌∷◌, ◌++◌, length, map, Vec, Global}
-use Rattle.std.proofs.Common.{Bool, true, false, not, Option, None, Some, Ok, Err, refl, sym, ◌∙◌, ap, subst, arith, append-nil}
+use Rattle.std.proofs.Common.{Bool, true, false, not, Option, None, Some, Err, refl, sym, ◌∙◌, ap, subst, arith, append-nil}
 use Rattle.std.specs.Option.{option_or}
 use Rattle.std.specs.List.{AllByRecursion}
 use Rattle.kv_model.specs.declared.call.Txn.{Txn}
@@ -134,17 +134,19 @@ pub record WasRun (s new : CoreState) (ops : Ops) (b : Bool) (inner : Path) : Ty
   pub few : length (changes_of_path s.store (path_in s.store ops)) < 2 ^ 64
 
 -- what ran can be answered on what was left
-txn-readable : (s new : CoreState) (ops : Ops) (b : Bool) (inner : Path) → WasRun s new ops b inner → CanReply new.store s.store.revision inner
+txn-readable : (s new : CoreState) (ops : Ops) (b : Bool) (inner : Path) → WasRun s new ops b inner
+    → CanReply new.store s.store.revision inner
 txn-readable s new ops b inner was =
     let q : Path = path_in s.store ops in
     let reads : ReadsKept s.store.compacted s.store.revision (Path.txn b inner Path.end)
     = subst (ReadsKept s.store.compacted s.store.revision) (sym was.path)
-      (not-refused-reads (is_granted s.store.leases) s.store.compacted s.store.revision s.store.versions q (faultless s.store ops was.clear).1) in
+    (not-refused-reads (is_granted s.store.leases) s.store.compacted s.store.revision s.store.versions q
+    (faultless s.store ops was.clear).1) in
     let count : changes_of new.store.versions (s.store.revision + 1) 0 inner ≡ length (changes_of_path s.store q)
     = sym (branch_changes new.store.versions (s.store.revision + 1) 0 b inner)
     ∙ (λ i. changes_of (left-versions s new ops was.clear was.made i) (s.store.revision + 1) 0 (was.path i))
     ∙ changes_counted s.store.versions s.store.revision q (kept-by s.store.revision s.store.versions was.upto was.places)
-      (checked-clear s.store ops was.clear) in
+    (checked-clear s.store ops was.clear) in
     record {
       reads = subst (λ c. ReadsKept c s.store.revision inner) (sym (left-compacted s new ops was.made)) reads.0;
       few = subst (λ n. n < 2 ^ 64) (sym count) was.few;
@@ -155,7 +157,8 @@ txn-readable s new ops b inner was =
 left-answer : (s new : CoreState) (ops : Ops) (b : Bool) (inner : Path) → WasRun s new ops b inner
     → Reply.txn b (replies_of new.store.versions new.store.compacted s.store.revision 0 inner) ≡ reply_of_path s.store (path_in s.store ops)
 left-answer s new ops b inner was = λ i. Reply.txn (succeeded (was.path i))
-    (replies_of (left-versions s new ops was.clear was.made i) (left-compacted s new ops was.made i) s.store.revision 0 (inner_path (was.path i)))
+    (replies_of (left-versions s new ops was.clear was.made i) (left-compacted s new ops was.made i) s.store.revision 0
+    (inner_path (was.path i)))
 
 -- the store grows by its changes, where there are some
 txn-grows : (s : CoreState) (ops : Ops) → fault_of_txn s.store ops ≡ None → changes_of_path s.store (path_in s.store ops) ≢ []
@@ -164,7 +167,7 @@ txn-grows s ops clear some =
     let q : Path = path_in s.store ops in
     let rose : now_after s.store.revision (changes_of_path s.store q) ≡ s.store.revision + 1
     = from-now s.store.revision (s.store.revision + 1) 0 (changes_of_path s.store q) some
-      (planned-from s.store.versions (s.store.revision + 1) [] q tt) in
+    (planned-from s.store.versions (s.store.revision + 1) [] q tt) in
     grows_by s (changes_of_path s.store q) (added_by_txn s.store ops)
     (planned-extends s.store.versions (s.store.revision + 1) q (checked-clear s.store ops clear)) rose
     ∙ sym (any-some s (changes_of_path s.store q) some)
@@ -182,7 +185,8 @@ txn-told : (s : Store) (w : World) → StandsFor s w → (t : Txn) → static_fa
     ≡ refused_or (refusal_of_path s (path_in s (txn_view t)))
     (commit_at s.revision (reply_of_path s (path_in s (txn_view t))) w (changes_of_path s (path_in s (txn_view t))))
 txn-told s w h t = subst (λ (ops : Ops). static_fault ops ≡ None → made_in w (as_call ops) ≡ refused_or (refusal_of_path s (path_in s ops))
-    (commit_at s.revision (reply_of_path s (path_in s ops)) w (changes_of_path s (path_in s ops)))) (sym (txn_view-out t)) (txn_told s w h _ _ _)
+    (commit_at s.revision (reply_of_path s (path_in s ops)) w (changes_of_path s (path_in s ops)))) (sym (txn_view-out t))
+    (txn_told s w h _ _ _)
 
 txn-makes : (s new : CoreState) (t : Txn) (b : Bool) (inner : Path) → WasRun s new (txn_view t) b inner → (w : World) → StandsFor s.store w
     → Makes w (as_call (txn_view t)) (reply_of_path s.store (path_in s.store (txn_view t))) (after_txn s (txn_view t)).store
@@ -194,7 +198,8 @@ txn-makes s new t b inner was w h =
     let static : static_fault ops ≡ None = (faultless s.store ops was.clear).0 in
     record {
       after = changed_by w us;
-      made = txn-told s.store w h t static ∙ made_first (refusal_of_path s.store q) _ _ _ (commit_made s.store.revision (reply_of_path s.store q) w us)
+      made = txn-told s.store w h t static
+          ∙ made_first (refusal_of_path s.store q) _ _ _ (commit_made s.store.revision (reply_of_path s.store q) w us)
           (or-none-second (static_fault ops) _ was.clear);
       stands = committed s.store (after_txn s ops).store us w (record {
         stood = h;
@@ -210,9 +215,9 @@ txn_done s new t b steps was =
     let left : new ≡ after_txn s (txn_view t) = was.made in
     record {
       makes = λ w h. subst (λ (n : CoreState). Makes w (as_call (txn_view t))
-              (Reply.txn b (replies_of new.store.versions new.store.compacted s.store.revision 0 (steps_view steps.items))) n.store) (sym left)
+          (Reply.txn b (replies_of new.store.versions new.store.compacted s.store.revision 0 (steps_view steps.items))) n.store) (sym left)
           (subst (λ r. Makes w (as_call (txn_view t)) r (after_txn s (txn_view t)).store)
-              (sym (left-answer s new (txn_view t) b (steps_view steps.items) was)) (txn-makes s new t b (steps_view steps.items) was w h));
+          (sym (left-answer s new (txn_view t) b (steps_view steps.items) was)) (txn-makes s new t b (steps_view steps.items) was w h));
       allowed = txn-readable s new (txn_view t) b (steps_view steps.items) was;
       beside = λ w h. sym (txn-beside w t);
       moves = subst (λ (n : CoreState). Moves s n false) (sym left) (any_moves s (added_by_txn s.store (txn_view t)) false);
@@ -221,7 +226,8 @@ txn_done s new t b steps was =
 -- ---- a refused one
 
 txn-static : (w : World) (t : Txn) (e : Refusal) → static_fault (txn_view t) ≡ Some e → made_in w (as_call (txn_view t)) ≡ Err e
-txn-static w t e = subst (λ (ops : Ops). static_fault ops ≡ Some e → made_in w (as_call ops) ≡ Err e) (sym (txn_view-out t)) (txn_refused w _ _ _ e)
+txn-static w t e = subst (λ (ops : Ops). static_fault ops ≡ Some e → made_in w (as_call ops) ≡ Err e) (sym (txn_view-out t))
+    (txn_refused w _ _ _ e)
 
 -- the model refuses a transaction as the store does
 txn-refused : (s : Store) (w : World) (t : Txn) (e : Refusal) → StandsFor s w → fault_of_txn s (txn_view t) ≡ Some e
@@ -232,7 +238,8 @@ txn-refused s w t e h one = by (static_fault (txn_view t)) refl one
     q = path_in s (txn_view t)
 
     by : (o : Option Refusal) → static_fault (txn_view t) ≡ o
-        → option_or o (option_or (refusal_of_path s q) (refuse_if (not (is_empty (changes_of_path s q)) && is_spent s.revision) RevisionsSpent)) ≡ Some e
+        → option_or o (option_or (refusal_of_path s q)
+        (refuse_if (not (is_empty (changes_of_path s q)) && is_spent s.revision) RevisionsSpent)) ≡ Some e
         → made_in w (as_call (txn_view t)) ≡ Err e
     by (Some f) is one = txn-static w t e (is ∙ one)
     by None is one = txn-told s w h t is

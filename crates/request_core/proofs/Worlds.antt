@@ -13,7 +13,7 @@ use Rattle.kv_model.specs.Ranges.{refuse_if}
 use Rattle.kv_model.specs.Calls.{Call}
 use Rattle.kv_model.specs.Txns.{extend_all, added_by}
 use Rattle.kv_model.specs.Told.{Answer, Reply}
-use Rattle.kv_model.specs.Wire.{raised, number_made, changes_beside}
+use Rattle.kv_model.specs.Wire.{raised, number_made}
 use Rattle.kv_model.specs.World.{World, revision, changed}
 use Rattle.kv_model.specs.Step.{Made, last_main, made_in, perform, refused_or, commit_at, world_of, answer_of as answer_of_made}
 use Rattle.store_laws.specs.Stands.{Store, StandsFor, grown_noted, noted}
@@ -23,7 +23,7 @@ use Rattle.request_core.specs.declared.answer.Receipt.{Receipt}
 use Rattle.request_core.specs.declared.answer.Todo.{Todo}
 use Rattle.request_core.specs.State.{CoreState, counted, is_spent, raised_from, stamp_after, with_any, with_versions}
 use Rattle.request_core.specs.Answers.{IsAllowed, IsRefusal, answer_of, has_changed, is_beside, is_memory, reply_left}
-use Rattle.request_core.specs.Commands.{CarriesOut, Does, IsIssued, Makes, Moves, first_refusal}
+use Rattle.request_core.specs.Commands.{CarriesOut, Does, IsIssued, Moves, first_refusal}
 
 -- ---- the first of two refusals
 
@@ -94,7 +94,8 @@ does old new call r f =
           let after : m.after ≡ (perform w call).1 = sym (ap (λ x. x.1) all) in
           record {
             answers = ap (λ x. x.0) all
-                ∙ sym (ap (λ a. Ok a) (left ∙ ap (λ n. record { reply = reply_left t mid.store mid.store.revision; revision = n }) m.stands.revision_is));
+                ∙ sym (ap (λ a. Ok a)
+                (left ∙ ap (λ n. record { reply = reply_left t mid.store mid.store.revision; revision = n }) m.stands.revision_is));
             stands = subst (λ u. StandsFor new.store u) after (subst (λ s. StandsFor s m.after) (sym same) m.stands);
             raised = i.raised ∙ (λ j. raised_from (h.revision_is j) (m.stands.revision_is j)) ∙ ap (λ u. raised w u) after;
             watch = i.unwatched ∙ sym (none-made w.made m.after.made (sym m.stands.made ∙ d.moves.watches ∙ h.made))

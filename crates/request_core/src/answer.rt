@@ -65,8 +65,8 @@ pub enum Todo<'c> {
     },
     /// A lease is revoked.
     Revoke,
-    /// A renewed lease, with its time to live in seconds; `None` where no lease has the ID, and then
-    /// nothing changed.
+    /// A renewed lease, with its time to live in seconds; `None` where no lease has the ID, and
+    /// then nothing changed.
     KeepAlive {
         id: i64,
         ttl: Option<u64>,
@@ -138,7 +138,8 @@ pub enum Answer<'a> {
         id: i64,
         /// How long the lease still has; `None` where no lease has the ID.
         left: Option<TimeLeft>,
-        /// The live keys whose last put names the lease, ascending; empty where they are not asked for.
+        /// The live keys whose last put names the lease, ascending; empty where they are not asked
+        /// for.
         keys: Vec<&'a [u8]>,
     },
     Leases {

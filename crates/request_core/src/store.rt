@@ -1,11 +1,11 @@
 //! The core: one step of the store.
-ghost use Rattle.kv_model.specs.Feed.{Published, published};
 ghost use Rattle.range_view.specs.Replies.{kv_view, reply_view};
-ghost use Rattle.request_core.specs.Writing.{AreNext, IsHeldTo};
+ghost use Rattle.request_core.specs.Writing.{IsHeldTo};
 ghost use Rattle.kv_model.specs.Step.{last_main};
-ghost use Rattle.std.specs.Prelude.{◌≡◌, ◌≢◌, [], true, is_ok, option_map, ◌<◌, ◌≤◌, drop, length};
+ghost use Rattle.std.specs.Prelude.{◌≡◌, [], true, is_ok, option_map, ◌≤◌, length};
 ghost use Rattle.std.specs.Prelude.{IfOk, IfErr, OnOk, OnErr};
 
+mod appending;
 mod deleting;
 mod expiring;
 mod leasing;
@@ -21,9 +21,8 @@ use self::leasing::{granted, renewed};
 use crate::answer::{Answer, Receipt, Status, Todo};
 use bytes::Bytes;
 use kv_model::call::Command;
-use kv_model::feed::{NoSink, Op, Sink};
+use kv_model::feed::{NoSink, Sink};
 use kv_model::refusal::Refusal;
-use kv_model::version::Version;
 use lease_book::LeaseBook;
 use lease_keys::LeaseKeys;
 use range_view::reply::KvRef;
@@ -63,7 +62,7 @@ impl Core {
     ghost use Rattle.kv_model.specs.World.{opening};
     ghost use Rattle.store_laws.specs.Stands.{StandsFor};
     ghost use Rattle.request_core.specs.State.{CoreState, IsTold, added_by, core_state, held_in};
-    ghost use Rattle.request_core.specs.State.{is_spent, no_watches, noted_from, with_any, with_unnoted, with_versions};
+    ghost use Rattle.request_core.specs.State.{is_spent, no_watches};
     ghost use Rattle.range_view.specs.Stored.{blank_at};
     ghost use Rattle.request_core.specs.Answers.{IsReadable, answer_view, answer_of, is_free};
     ghost use Rattle.request_core.specs.Commands.{CarriesOut, Does, Refuses};
@@ -92,8 +91,8 @@ impl Core {
         }
     }
 
-    /// How many changing calls came, wrapping: accepted commands that changed something, moments, and
-    /// steps of expiry that revoked a lease. No other call counts. Takes no memory.
+    /// How many changing calls came, wrapping: accepted commands that changed something, moments,
+    /// and steps of expiry that revoked a lease. No other call counts. Takes no memory.
     pub fn stamp(&self) -> u64
         ensures { result ≡ self.now.stamp }
     {
@@ -117,44 +116,45 @@ impl Core {
 
     /// Does one command, on what the core stands for.
     ///
-    /// What an accepted command did is one record, `Does`. In each world that the core stood for, the
-    /// model accepts the command and answers it as the receipt does on the new state, which stands for
-    /// the world after it, and the receipt's `raised` is the model's (`accepted`). The receipt can be
-    /// answered on the new state (`readable`). Where it says that nothing has changed, the core is as
-    /// it was (`unchanged`), and where something has, the stamp is one more (`stamp`). No watch is made
-    /// (`unwatched`), and something besides the versions changed where the model changes it (`beside`).
+    /// What an accepted command did is one record, `Does`. In each world that the core stood for,
+    /// the model accepts the command and answers it as the receipt does on the new state, which
+    /// stands for the world after it, and the receipt's `raised` is the model's (`accepted`). The
+    /// receipt can be answered on the new state (`readable`). Where it says that nothing has
+    /// changed, the core is as it was (`unchanged`), and where something has, the stamp is one more
+    /// (`stamp`). No watch is made (`unwatched`), and something besides the versions changed where
+    /// the model changes it (`beside`).
     ///
     /// What a refused one left is another, `Refuses`: the refusal is the model's, or memory was
-    /// wanting (`refused`), which it never is where the command takes none (`free`), and the core is
-    /// as it was (`kept`).
+    /// wanting (`refused`), which it never is where the command takes none (`free`), and the core
+    /// is as it was (`kept`).
     ///
-    /// The refusals come in the order of the etcd documentation's checks of a request: `NoKey` where
-    /// the key is empty; of a Range, `Compacted` and `Future` where its revision is below the last
-    /// compaction or above the present one; of a Put, `ValueGiven` and `LeaseGiven` where it keeps
-    /// what it also gives, `KeyMissing` where it keeps what is not there, and `LeaseMissing` where it
-    /// names a lease that is not granted; of a grant, `TtlTooLarge` above 9,000,000,000 seconds,
-    /// `LeaseExists` for an ID in use and `TooManyLeases` where 65,536 are granted; of a revoke,
-    /// `LeaseMissing`; and last `RevisionsSpent` where a change would need a revision above the
-    /// greatest. `Memory` comes where a list, a copy or the place of a lease found none, and may come
-    /// in place of `RevisionsSpent`; a Range, a keepalive, a time to live and the list of leases take
-    /// none here.
+    /// The refusals come in the order of the etcd documentation's checks of a request: `NoKey`
+    /// where the key is empty; of a Range, `Compacted` and `Future` where its revision is below the
+    /// last compaction or above the present one; of a Put, `ValueGiven` and `LeaseGiven` where it
+    /// keeps what it also gives, `KeyMissing` where it keeps what is not there, and `LeaseMissing`
+    /// where it names a lease that is not granted; of a grant, `TtlTooLarge` above 9,000,000,000
+    /// seconds, `LeaseExists` for an ID in use and `TooManyLeases` where 65,536 are granted; of a
+    /// revoke, `LeaseMissing`; and last `RevisionsSpent` where a change would need a revision above
+    /// the greatest. `Memory` comes where a list, a copy or the place of a lease found none, and
+    /// may come in place of `RevisionsSpent`; a Range, a keepalive, a time to live and the list of
+    /// leases take none here.
     ///
     /// A Txn is first refused for what hangs on it alone, also in branches that do not run, and a
     /// transaction before its parts: `TooDeep` where it lies in eight others, `TooManyOps` where it
     /// has more than 128 compares or operations of a branch, and `NoKey`, `ValueGiven` and
-    /// `LeaseGiven` as each by itself; then `DuplicateKey` where operations that can run together put
-    /// one key, or put a key and delete it; then, of the operations that run, in their order,
-    /// `Compacted`, `Future`, `KeyMissing` and `LeaseMissing`; and `RevisionsSpent` last. `Memory` may
-    /// come in place of all from `DuplicateKey` on.
+    /// `LeaseGiven` as each by itself; then `DuplicateKey` where operations that can run together
+    /// put one key, or put a key and delete it; then, of the operations that run, in their order,
+    /// `Compacted`, `Future`, `KeyMissing` and `LeaseMissing`; and `RevisionsSpent` last. `Memory`
+    /// may come in place of all from `DuplicateKey` on.
     ///
-    /// A Put takes time logarithmic in the number of keys and in that of the versions, and linear in a
-    /// value that it keeps, which is copied. A DeleteRange walks the keys of its range, live or not,
-    /// each in such time, and adds a tombstone for each that is live, all in one revision. A Txn sorts
-    /// its keys for the check, and takes for each compare and each operation that runs the time of a
-    /// read or a write by itself; all its changes stand in one revision. All this is but for the
-    /// growth of a list. A grant and a keepalive are logarithmic in the number of leases. A revoke
-    /// looks up the keys that were put under the lease, each in such time, and deletes those that
-    /// still are in one revision.
+    /// A Put takes time logarithmic in the number of keys and in that of the versions, and linear
+    /// in a value that it keeps, which is copied. A DeleteRange walks the keys of its range, live
+    /// or not, each in such time, and adds a tombstone for each that is live, all in one revision.
+    /// A Txn sorts its keys for the check, and takes for each compare and each operation that runs
+    /// the time of a read or a write by itself; all its changes stand in one revision. All this is
+    /// but for the growth of a list. A grant and a keepalive are logarithmic in the number of
+    /// leases. A revoke looks up the keys that were put under the lease, each in such time, and
+    /// deletes those that still are in one revision.
     pub fn apply<'c>(&mut self, command: &'c Command) -> Result<Receipt<'c>, Refusal>
         ensures done { IfOk result (λ r. Does self.old self.new (call_of command.now) r) }
         ensures refused { IfErr result (λ e. Refuses self.old self.new (call_of command.now) e) }
@@ -162,15 +162,16 @@ impl Core {
         self.apply_over(command, &mut NoSink)
     }
 
-    /// Does one command, and hands what changes to a sink before it stands, in one batch. A sink that
-    /// finds no memory refuses the command.
+    /// Does one command, and hands what changes to a sink before it stands, in one batch. A sink
+    /// that finds no memory refuses the command.
     pub(crate) fn apply_over<'c, S: Sink>(
         &mut self,
         command: &'c Command,
         sink: &mut S,
     ) -> Result<Receipt<'c>, Refusal>
         ensures done { IfOk result (λ r. Does self.old self.new (call_of command.now) r) }
-        ensures told { OnOk result (IsTold S.takes (added_by self.old.store (call_of command.now)) sink.old sink.new) }
+        ensures told { OnOk result
+            (IsTold S.takes (added_by self.old.store (call_of command.now)) sink.old sink.new) }
         ensures refused { IfErr result (λ e. Refuses self.old self.new (call_of command.now) e) }
         ensures untold { OnErr result (sink.new ≡ sink.old) }
     {
@@ -188,7 +189,8 @@ impl Core {
         sink: &mut S,
     ) -> Result<Todo<'c>, Refusal>
         ensures done { IfOk result (λ t. CarriesOut self.old self.new (call_of command.now) t) }
-        ensures told { OnOk result (IsTold S.takes (added_by self.old.store (call_of command.now)) sink.old sink.new) }
+        ensures told { OnOk result
+            (IsTold S.takes (added_by self.old.store (call_of command.now)) sink.old sink.new) }
         ensures refused { IfErr result (λ e. Refuses self.old self.new (call_of command.now) e) }
         ensures untold { OnErr result (sink.new ≡ sink.old) }
     {
@@ -205,8 +207,8 @@ impl Core {
         }
     }
 
-    /// The answer of a receipt, on the state that it left. It lends keys and values from the core and
-    /// copies none.
+    /// The answer of a receipt, on the state that it left. It lends keys and values from the core
+    /// and copies none.
     ///
     /// `AllocError` comes where the list of an answer, or the sort of a Range, found no memory; so
     /// never to a Put, a grant, a revoke or a keepalive. What a delete showed is read at the end of
@@ -270,97 +272,4 @@ impl Core {
     {
         self.tables.view().get(key)
     }
-
-    /// Appends the versions of the next revision, where there are some, once the sink has taken them.
-    fn append_any<S: Sink>(
-        &mut self,
-        versions: Vec<Version>,
-        sink: &mut S,
-    ) -> Result<(), AllocError>
-        requires room { versions.items ≢ [] → self.old.store.revision < last_main }
-        requires next { versions.items ≢ [] → AreNext self.old.store.revision versions.items }
-        ensures ok { OnOk result (self.new ≡ with_any self.old versions.items) }
-        ensures told { OnOk result (IsTold S.takes versions.items sink.old sink.new) }
-        ensures err { OnErr result ((self.new ≡ self.old) × (sink.new ≡ sink.old)) }
-    {
-        if versions.is_empty() {
-            return Ok(());
-        }
-        self.append(versions, sink)
-    }
-
-    /// Appends the versions of the next revision, once the sink has taken them, and the watches take
-    /// note of them.
-    fn append<S: Sink>(&mut self, versions: Vec<Version>, sink: &mut S) -> Result<(), AllocError>
-        requires room { self.old.store.revision < last_main }
-        requires next { AreNext self.old.store.revision versions.items }
-        ensures ok { OnOk result (self.new ≡ with_versions self.old versions.items) }
-        ensures told { OnOk result (S.takes sink.old (Published.batch versions.items) sink.new) }
-        ensures err { OnErr result ((self.new ≡ self.old) × (sink.new ≡ sink.old)) }
-    {
-        let before = self.count();
-        match self.append_unnoted(versions, sink) {
-            Ok(()) => {
-                self.note_from(before);
-                Ok(())
-            }
-            Err(full) => Err(full),
-        }
-    }
-
-    /// How many versions are kept.
-    fn count(&self) -> usize
-        ensures { result ≡ length self.now.store.versions }
-    {
-        self.tables.versions().len()
-    }
-
-    /// The watches take note of the versions from an index on, which are of the present revision.
-    fn note_from(&mut self, index: usize)
-        requires { index ≤ length self.old.store.versions }
-        ensures { self.new ≡ noted_from index self.old }
-    {
-        let versions = rest_from(self.tables.versions(), index);
-        self.hub.note(versions, self.tables.revision());
-    }
-
-    /// Appends the versions of the next revision, once the sink has taken them. Where that fails, the
-    /// index of leases may have some pairs more.
-    fn append_unnoted<S: Sink>(
-        &mut self,
-        versions: Vec<Version>,
-        sink: &mut S,
-    ) -> Result<(), AllocError>
-        requires room { self.old.store.revision < last_main }
-        requires next { AreNext self.old.store.revision versions.items }
-        ensures ok { OnOk result (self.new ≡ with_unnoted self.old versions.items) }
-        ensures told { OnOk result (S.takes sink.old (Published.batch versions.items) sink.new) }
-        ensures err { OnErr result ((self.new ≡ self.old) × (sink.new ≡ sink.old)) }
-    {
-        let main = self.tables.revision() + 1;
-        self.keys.add_all(&versions)?;
-        let batch = batch_of(self.alloc, &versions)?;
-        self.tables.append(versions)?;
-        if let Err(full) = sink.take(batch) {
-            self.tables.retract(main);
-            return Err(full);
-        }
-        Ok(())
-    }
-}
-
-/// The versions from an index on.
-fn rest_from(versions: &[Version], index: usize) -> &[Version]
-    requires { index ≤ length versions.now }
-    ensures { result.now ≡ drop index versions.now }
-{
-    let (_, rest) = versions.split_at(index);
-    rest
-}
-
-/// The batch of versions, which are cloned.
-fn batch_of(alloc: Global, versions: &[Version]) -> Result<Op, AllocError>
-    ensures { IfOk result (λ op. published op ≡ Published.batch versions.now) }
-{
-    Ok(Op::Batch(Vec::from_clones(alloc, versions)?))
 }

@@ -1,7 +1,8 @@
 //! What only calls within the crate reach: the last revisions, and what a sink that refuses leaves.
 //!
-//! A core, a receipt and a command are each handed to `drop`, and no function that has a core asserts: within the crate, each way out of
-//! a function carries the release of all the parts of what it holds, and a test that let go of a core in several places took a minute of proof.
+//! A core, a receipt and a command are each handed to `drop`, and no function that has a core
+//! asserts: within the crate, each way out of a function carries the release of all the parts of
+//! what it holds, and a test that let go of a core in several places took a minute of proof.
 use crate::store::starting::at_last_but_one;
 use crate::store::{Core, LAST_MAIN};
 use bytes::Bytes;
@@ -36,7 +37,8 @@ fn delete(key: &'static [u8], end: &'static [u8]) -> Command {
     })
 }
 
-/// Does a command, and gives the revision after it. Without clauses, so that a test does not carry those of `apply`.
+/// Does a command, and gives the revision after it. Without clauses, so that a test does not carry
+/// those of `apply`.
 fn done(core: &mut Core, command: Command) -> Result<u64, Refusal> {
     let receipt = core.apply(&command);
     let revision = match &receipt {
@@ -100,7 +102,8 @@ fn store(core: &mut Core) -> Result<u64, Refusal> {
     done(core, put(b"b", b"2"))
 }
 
-/// What a put and a delete are refused for by a full sink, and whether they left the numbers as they were.
+/// What a put and a delete are refused for by a full sink, and whether they left the numbers as
+/// they were.
 fn refused_takings(core: &mut Core) -> (Option<Refusal>, Option<Refusal>, bool) {
     let before = core.status();
     let of_put = refused_by_sink(core, put(b"a", b"2"));

@@ -14,15 +14,16 @@ use range_view::reply::KvRef;
 use std::alloc::{AllocError, Global};
 use txn_core::{held_refusal, put_fault, put_version, tombstone};
 
-/// The first refusal of a put whose key holds this, if there is one, by whether the lease that it names is granted; that of
-/// spent revisions comes last.
+/// The first refusal of a put whose key holds this, if there is one, by whether the lease that it
+/// names is granted; that of spent revisions comes last.
 pub fn fault_of_put(
     request: &PutRequest,
     held: Option<KvRef<'_>>,
     is_granted: bool,
     is_spent: bool,
 ) -> Option<Refusal>
-    ensures { result ≡ option_or (option_or (txns.put_fault request.now) (writes.held_refusal (λ _. is_granted) request.now (option_map kv_view held.entry)))
+    ensures { result ≡ option_or (option_or (txns.put_fault request.now)
+        (writes.held_refusal (λ _. is_granted) request.now (option_map kv_view held.entry)))
         (refuse_if is_spent Refusal.RevisionsSpent) }
 {
     if let Some(refusal) = put_fault(request) {
@@ -46,14 +47,16 @@ pub fn put_versions(
     held: Option<KvRef<'_>>,
 ) -> Result<Vec<Version>, AllocError>
     requires { writes.CanCount (option_map kv_view held) }
-    ensures { IfOk result (λ vs. vs.items ≡ writes.put_version rev request.now (option_map kv_view held.entry) ∷ []) }
+    ensures { IfOk result
+        (λ vs. vs.items ≡ writes.put_version rev request.now (option_map kv_view held.entry) ∷ []) }
 {
     let mut versions = Vec::with_capacity(alloc, 1)?;
     versions.push(put_version(alloc, rev, request, held)?)?;
     Ok(versions)
 }
 
-/// The tombstones of live keys at a revision, numbered from 0 in the order of the keys, which are copied.
+/// The tombstones of live keys at a revision, numbered from 0 in the order of the keys, which are
+/// copied.
 pub fn tombstones(alloc: Global, main: u64, live: &[KvRef<'_>]) -> Result<Vec<Version>, AllocError>
     ensures { IfOk result (λ vs. vs.items ≡ writing.tombstones main 0 (map kv_view live.now)) }
 {

@@ -31,8 +31,10 @@ impl Core {
         sink: &mut S,
     ) -> Result<Todo<'c>, Refusal>
         ensures done { IfOk result (λ t. CarriesOut self.old self.new (Call.delete request.now) t) }
-        ensures told { OnOk result (IsTold S.takes (added_by self.old.store (Call.delete request.now)) sink.old sink.new) }
-        ensures refused { IfErr result (λ e. Refuses self.old self.new (Call.delete request.now) e) }
+        ensures told { OnOk result
+            (IsTold S.takes (added_by self.old.store (Call.delete request.now)) sink.old sink.new) }
+        ensures refused { IfErr result
+            (λ e. Refuses self.old self.new (Call.delete request.now) e) }
         ensures untold { OnErr result (sink.new ≡ sink.old) }
     {
         match self.delete(request, sink) {
@@ -45,12 +47,17 @@ impl Core {
         }
     }
 
-    /// Appends the tombstones of a delete, and tells how many. What can fail comes first, and the sink's taking last.
+    /// Appends the tombstones of a delete, and tells how many. What can fail comes first, and the
+    /// sink's taking last.
     fn delete<S: Sink>(&mut self, request: &DeleteRequest, sink: &mut S) -> Result<u64, Refusal>
-        ensures made { IfOk result (λ n. (fault_of_delete self.old.store request.now ≡ None) × (self.new ≡ after_delete self.old request.now)) }
+        ensures made { IfOk result
+            (λ n. (fault_of_delete self.old.store request.now ≡ None)
+            × (self.new ≡ after_delete self.old request.now)) }
         ensures counted { IfOk result (λ n. n ≡ length (live_in self.old.store request.now.range)) }
-        ensures told { OnOk result (IsTold S.takes (added_by self.old.store (Call.delete request.now)) sink.old sink.new) }
-        ensures refused { IfErr result (λ e. IsRefusal e (fault_of_delete self.old.store request.now)) }
+        ensures told { OnOk result
+            (IsTold S.takes (added_by self.old.store (Call.delete request.now)) sink.old sink.new) }
+        ensures refused { IfErr result
+            (λ e. IsRefusal e (fault_of_delete self.old.store request.now)) }
         ensures err { OnErr result ((self.new ≡ self.old) × (sink.new ≡ sink.old)) }
     {
         let versions = match self.versions_of_delete(request) {
@@ -66,8 +73,11 @@ impl Core {
 
     /// The tombstones that a delete adds, or its first refusal.
     fn versions_of_delete(&self, request: &DeleteRequest) -> Result<Vec<Version>, Refusal>
-        ensures made { IfOk result (λ vs. (fault_of_delete self.now.store request.now ≡ None) × (vs.items ≡ added_by_delete self.now.store request.now)) }
-        ensures refused { IfErr result (λ e. IsRefusal e (fault_of_delete self.now.store request.now)) }
+        ensures made { IfOk result
+            (λ vs. (fault_of_delete self.now.store request.now ≡ None)
+            × (vs.items ≡ added_by_delete self.now.store request.now)) }
+        ensures refused { IfErr result
+            (λ e. IsRefusal e (fault_of_delete self.now.store request.now)) }
     {
         let main = self.tables.revision() + 1;
         if request.range.key.is_empty() {
@@ -92,7 +102,9 @@ impl Core {
         range: &KeyRange,
         asked: bool,
     ) -> Result<Vec<KvRef<'_>>, AllocError>
-        ensures { IfOk result (λ kvs. map kv_view kvs.items ≡ if_asked asked (live self.now.store.versions (end_of (revision - 1)) range.now)) }
+        ensures { IfOk result
+            (λ kvs. map kv_view kvs.items
+            ≡ if_asked asked (live self.now.store.versions (end_of (revision - 1)) range.now)) }
     {
         if asked {
             let place = end_of(revision.saturating_sub(1));

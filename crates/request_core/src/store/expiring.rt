@@ -18,8 +18,8 @@ impl Core {
     ghost use Rattle.request_core.specs.Commands.{Expires, RefusesExpiry};
 
     /// Hands in the present moment, in milliseconds, and answers the clock: the greatest moment so
-    /// far. An earlier one leaves the clock, and one above 2^62 counts as 2^62. Either is a changing
-    /// call. Takes no memory. Constant time.
+    /// far. An earlier one leaves the clock, and one above 2^62 counts as 2^62. Either is a
+    /// changing call. Takes no memory. Constant time.
     pub fn moment(&mut self, now: u64) -> u64
         ensures clock { result ≡ self.new.store.clock }
         ensures made { self.new ≡ after_moment self.old now }
@@ -30,16 +30,17 @@ impl Core {
         self.book.moment(now)
     }
 
-    /// One step of expiry: revokes the lease that is due first, by deadline and then by ID, and deletes
-    /// its keys in one revision. That is a changing call, whether it has keys or not. Where no lease is
-    /// due, the core is left as it was, its stamp too, so that an answer that was asked for before may
-    /// still be read. `Expires` says what was done: it is what the model does in each world that the
-    /// core stood for (`expired`), nothing where no lease was due (`unchanged`), and else counted
-    /// (`stamp`).
+    /// One step of expiry: revokes the lease that is due first, by deadline and then by ID, and
+    /// deletes its keys in one revision. That is a changing call, whether it has keys or not. Where
+    /// no lease is due, the core is left as it was, its stamp too, so that an answer that was asked
+    /// for before may still be read. `Expires` says what was done: it is what the model does in
+    /// each world that the core stood for (`expired`), nothing where no lease was due
+    /// (`unchanged`), and else counted (`stamp`).
     ///
-    /// Refused as `RevisionsSpent` where the lease has keys and no revision comes after the present one,
-    /// and as `Memory`, and as nothing else (`refused` of `RefusesExpiry`); the core is then as it was
-    /// (`kept`). Finding that no lease is due takes constant time; else the cost is that of a revoke.
+    /// Refused as `RevisionsSpent` where the lease has keys and no revision comes after the present
+    /// one, and as `Memory`, and as nothing else (`refused` of `RefusesExpiry`); the core is then
+    /// as it was (`kept`). Finding that no lease is due takes constant time; else the cost is that
+    /// of a revoke.
     pub fn expire(&mut self) -> Result<Expiry, Refusal>
         ensures done { IfOk result (λ e. Expires self.old self.new e) }
         ensures refused { IfErr result (λ e. RefusesExpiry self.old self.new e) }
@@ -47,11 +48,12 @@ impl Core {
         self.expire_over(&mut NoSink)
     }
 
-    /// One step of expiry that hands the tombstones to a sink before they stand, in one batch. A sink
-    /// that finds no memory refuses the step.
+    /// One step of expiry that hands the tombstones to a sink before they stand, in one batch. A
+    /// sink that finds no memory refuses the step.
     pub(crate) fn expire_over<S: Sink>(&mut self, sink: &mut S) -> Result<Expiry, Refusal>
         ensures done { IfOk result (λ e. Expires self.old self.new e) }
-        ensures told { OnOk result (IsTold S.takes (added_by_expiry self.old.store) sink.old sink.new) }
+        ensures told { OnOk result
+            (IsTold S.takes (added_by_expiry self.old.store) sink.old sink.new) }
         ensures refused { IfErr result (λ e. RefusesExpiry self.old self.new e) }
         ensures untold { OnErr result (sink.new ≡ sink.old) }
     {
@@ -65,7 +67,8 @@ impl Core {
     fn expire_lease<S: Sink>(&mut self, id: i64, sink: &mut S) -> Result<Expiry, Refusal>
         requires { due_in self.old.store ≡ Some id }
         ensures done { IfOk result (λ e. Expires self.old self.new e) }
-        ensures told { OnOk result (IsTold S.takes (added_by_revoke self.old.store id) sink.old sink.new) }
+        ensures told { OnOk result
+            (IsTold S.takes (added_by_revoke self.old.store id) sink.old sink.new) }
         ensures refused { IfErr result (λ e. RefusesExpiry self.old self.new e) }
         ensures untold { OnErr result (sink.new ≡ sink.old) }
     {

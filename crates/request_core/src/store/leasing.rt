@@ -37,8 +37,12 @@ impl Core {
     }
 
     fn grant(&mut self, ttl: i64, id: i64) -> Result<Granted, Refusal>
-        ensures made { IfOk result (λ _. (refusal_of_grant self.old.store ttl id ≡ None) × (self.new ≡ after_grant self.old ttl id)) }
-        ensures answer { IfOk result (λ g. (g.id ≡ (granted_lease self.old.store ttl id).id) × (g.ttl ≡ (granted_lease self.old.store ttl id).ttl)) }
+        ensures made { IfOk result
+            (λ _. (refusal_of_grant self.old.store ttl id ≡ None)
+            × (self.new ≡ after_grant self.old ttl id)) }
+        ensures answer { IfOk result
+            (λ g. (g.id ≡ (granted_lease self.old.store ttl id).id)
+            × (g.ttl ≡ (granted_lease self.old.store ttl id).ttl)) }
         ensures refused { IfErr result (λ e. IsRefusal e (refusal_of_grant self.old.store ttl id)) }
         ensures err { OnErr result (self.new ≡ self.old) }
     {
@@ -84,7 +88,10 @@ impl Core {
         id: i64,
         keys: bool,
     ) -> Result<Answer<'_>, AllocError>
-        ensures { IfOk result (λ a. answer_view a ≡ record { reply = reply_of_time_to_live self.now.store id keys (lease_at self.now.store.leases id); revision = revision }) }
+        ensures { IfOk result (λ a. answer_view a ≡ record {
+          reply = reply_of_time_to_live self.now.store id keys (lease_at self.now.store.leases id);
+          revision = revision;
+        }) }
     {
         let left = self.book.time_left(id);
         let keys = self.names_of_lease(id, keys && left.is_some())?;
@@ -98,7 +105,9 @@ impl Core {
 
     /// The live keys whose last put names the lease, where they are asked for.
     fn names_of_lease(&self, id: i64, asked: bool) -> Result<Vec<&[u8]>, AllocError>
-        ensures { IfOk result (λ ks. map (λ k. k.now) ks.items ≡ if_asked asked (keys_of_lease self.now.store.versions self.now.store.revision id)) }
+        ensures { IfOk result
+            (λ ks. map (λ k. k.now) ks.items
+            ≡ if_asked asked (keys_of_lease self.now.store.versions self.now.store.revision id)) }
     {
         if asked {
             keys_of(self.alloc, &self.keys_of_lease(id)?)
@@ -128,7 +137,8 @@ pub fn granted<'a>(revision: u64, id: i64, ttl: u64) -> Answer<'a>
 
 /// The answer to a keepalive, where the time to live is that of the lease.
 pub fn renewed<'a>(revision: u64, id: i64, ttl: Option<u64>) -> Answer<'a>
-    ensures { answer_view result ≡ record { reply = Reply.keep_alive id (unwrap_or ttl 0); revision = revision } }
+    ensures { answer_view result
+        ≡ record { reply = Reply.keep_alive id (unwrap_or ttl 0); revision = revision } }
 {
     Answer::KeepAlive {
         revision,

@@ -31,7 +31,8 @@ impl Core {
         sink: &mut S,
     ) -> Result<Todo<'c>, Refusal>
         ensures done { IfOk result (λ t. CarriesOut self.old self.new (Call.put request.now) t) }
-        ensures told { OnOk result (IsTold S.takes (added_by self.old.store (Call.put request.now)) sink.old sink.new) }
+        ensures told { OnOk result
+            (IsTold S.takes (added_by self.old.store (Call.put request.now)) sink.old sink.new) }
         ensures refused { IfErr result (λ e. Refuses self.old self.new (Call.put request.now) e) }
         ensures untold { OnErr result (sink.new ≡ sink.old) }
     {
@@ -46,9 +47,13 @@ impl Core {
 
     /// Appends the version that a put makes. What can fail comes first, and the sink's taking last.
     fn put<S: Sink>(&mut self, request: &PutRequest, sink: &mut S) -> Result<(), Refusal>
-        ensures made { OnOk result ((fault_of_put self.old.store request.now ≡ None) × (self.new ≡ after_put self.old request.now)) }
-        ensures told { OnOk result (IsTold S.takes (added_by self.old.store (Call.put request.now)) sink.old sink.new) }
-        ensures refused { IfErr result (λ e. IsRefusal e (fault_of_put self.old.store request.now)) }
+        ensures made { OnOk result
+            ((fault_of_put self.old.store request.now ≡ None)
+            × (self.new ≡ after_put self.old request.now)) }
+        ensures told { OnOk result
+            (IsTold S.takes (added_by self.old.store (Call.put request.now)) sink.old sink.new) }
+        ensures refused { IfErr result
+            (λ e. IsRefusal e (fault_of_put self.old.store request.now)) }
         ensures err { OnErr result ((self.new ≡ self.old) × (sink.new ≡ sink.old)) }
     {
         let versions = match self.versions_of_put(request) {
@@ -63,9 +68,12 @@ impl Core {
 
     /// The one version that a put adds, or its first refusal.
     fn versions_of_put(&self, request: &PutRequest) -> Result<Vec<Version>, Refusal>
-        ensures made { IfOk result (λ vs. (fault_of_put self.now.store request.now ≡ None) × (vs.items ≡ added_by_put self.now.store request.now ∷ [])) }
+        ensures made { IfOk result
+            (λ vs. (fault_of_put self.now.store request.now ≡ None)
+            × (vs.items ≡ added_by_put self.now.store request.now ∷ [])) }
         ensures next { IfOk result (λ vs. AreNext self.now.store.revision vs.items) }
-        ensures refused { IfErr result (λ e. IsRefusal e (fault_of_put self.now.store request.now)) }
+        ensures refused { IfErr result
+            (λ e. IsRefusal e (fault_of_put self.now.store request.now)) }
     {
         let rev = Rev {
             main: self.tables.revision() + 1,
@@ -84,7 +92,9 @@ impl Core {
 
     /// What a key held before a revision, where it is asked for.
     pub(crate) fn value_before(&self, revision: u64, key: &Bytes, asked: bool) -> Option<KvRef<'_>>
-        ensures { option_map kv_view result ≡ previous_value asked (value_at self.now.store.versions (end_of (revision - 1)) key.now) }
+        ensures { option_map kv_view result
+            ≡ previous_value asked
+            (value_at self.now.store.versions (end_of (revision - 1)) key.now) }
     {
         if asked {
             let place = end_of(revision.saturating_sub(1));

@@ -40,8 +40,10 @@ impl Core {
 
     /// The reply to a Range whose revision is not refused.
     pub(crate) fn range(&self, query: &RangeQuery) -> Result<RangeReply<'_>, AllocError>
-        requires { revision_refusal self.now.store.compacted self.now.store.revision query.now.revision ≡ None }
-        ensures { IfOk result (λ r. reply_view r ≡ range_reply self.now.store.versions self.now.store.compacted self.now.store.revision
+        requires { revision_refusal self.now.store.compacted self.now.store.revision
+            query.now.revision ≡ None }
+        ensures { IfOk result (λ r. reply_view r
+            ≡ range_reply self.now.store.versions self.now.store.compacted self.now.store.revision
             (end_of self.now.store.revision) query.now) }
     {
         match self.tables.view().range(self.alloc, query) {

@@ -22,15 +22,16 @@ impl Core {
     ghost use Rattle.request_core.specs.Answers.{IsRefusal};
     ghost use Rattle.request_core.specs.Commands.{CarriesOut, Refuses};
 
-    /// A revoke appends the tombstones of the lease's keys at the next revision, and nothing where it
-    /// has none, and takes the lease out.
+    /// A revoke appends the tombstones of the lease's keys at the next revision, and nothing where
+    /// it has none, and takes the lease out.
     pub(crate) fn apply_revoke<'c, S: Sink>(
         &mut self,
         id: i64,
         sink: &mut S,
     ) -> Result<Todo<'c>, Refusal>
         ensures done { IfOk result (λ t. CarriesOut self.old self.new (Call.revoke id) t) }
-        ensures told { OnOk result (IsTold S.takes (added_by self.old.store (Call.revoke id)) sink.old sink.new) }
+        ensures told { OnOk result
+            (IsTold S.takes (added_by self.old.store (Call.revoke id)) sink.old sink.new) }
         ensures refused { IfErr result (λ e. Refuses self.old self.new (Call.revoke id) e) }
         ensures untold { OnErr result (sink.new ≡ sink.old) }
     {
@@ -40,11 +41,15 @@ impl Core {
         }
     }
 
-    /// Takes a lease and its keys out, and tells how many keys. What can fail comes first, and the sink's taking last.
+    /// Takes a lease and its keys out, and tells how many keys. What can fail comes first, and the
+    /// sink's taking last.
     pub(crate) fn revoke<S: Sink>(&mut self, id: i64, sink: &mut S) -> Result<u64, Refusal>
-        ensures made { IfOk result (λ n. (fault_of_revoke self.old.store id ≡ None) × (self.new ≡ after_revoke self.old id)) }
+        ensures made { IfOk result
+            (λ n. (fault_of_revoke self.old.store id ≡ None)
+            × (self.new ≡ after_revoke self.old id)) }
         ensures counted { IfOk result (λ n. n ≡ length (leased_in self.old.store id)) }
-        ensures told { OnOk result (IsTold S.takes (added_by_revoke self.old.store id) sink.old sink.new) }
+        ensures told { OnOk result
+            (IsTold S.takes (added_by_revoke self.old.store id) sink.old sink.new) }
         ensures refused { IfErr result (λ e. IsRefusal e (fault_of_revoke self.old.store id)) }
         ensures err { OnErr result ((self.new ≡ self.old) × (sink.new ≡ sink.old)) }
     {
@@ -62,7 +67,9 @@ impl Core {
 
     /// The tombstones that a revoke adds, or its first refusal.
     fn versions_of_revoke(&self, id: i64) -> Result<Vec<Version>, Refusal>
-        ensures made { IfOk result (λ vs. (fault_of_revoke self.now.store id ≡ None) × (vs.items ≡ added_by_revoke self.now.store id)) }
+        ensures made { IfOk result
+            (λ vs. (fault_of_revoke self.now.store id ≡ None)
+            × (vs.items ≡ added_by_revoke self.now.store id)) }
         ensures reached { AreReached self.now.store }
         ensures refused { IfErr result (λ e. IsRefusal e (fault_of_revoke self.now.store id)) }
     {
@@ -90,10 +97,11 @@ impl Core {
         self.tables.revision() + 1
     }
 
-    /// The live keys whose last put names the lease, in the order of the keys, lent from the versions.
+    /// The live keys whose last put names the lease, in the order of the keys, lent from the
+    /// versions.
     ///
-    /// `AllocError` comes where a list found no memory. The keys that were put under the lease are looked up, each in time
-    /// logarithmic in the keys and the versions; no other key is.
+    /// `AllocError` comes where a list found no memory. The keys that were put under the lease are
+    /// looked up, each in time logarithmic in the keys and the versions; no other key is.
     pub(crate) fn keys_of_lease(&self, id: i64) -> Result<Vec<KvRef<'_>>, AllocError>
         ensures { IfOk result (λ kvs. map kv_view kvs.items ≡ leased_in self.now.store id) }
     {

@@ -11,9 +11,11 @@ use kv_model::feed::NoSink;
 use kv_model::version::{Body, Rev, Version};
 use std::alloc::{AllocError, Global};
 
-/// A core whose one version is a put of b at the last revision but one. `AllocError` where no memory is found for it.
+/// A core whose one version is a put of b at the last revision but one. `AllocError` where no
+/// memory is found for it.
 pub fn at_last_but_one(alloc: Global) -> Result<Core, AllocError>
-    ensures { IfOk result (λ core. StandsFor core.store (world_of_put (last_main - 1) (codes "b"))) }
+    ensures { IfOk result
+        (λ core. StandsFor core.store (world_of_put (last_main - 1) (codes "b"))) }
 {
     let versions = first_put(alloc, LAST_MAIN - 1)?;
     let mut core = Core::at(alloc, LAST_MAIN - 2);

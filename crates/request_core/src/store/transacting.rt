@@ -37,9 +37,13 @@ impl Core {
         txn: &'c Txn,
         sink: &mut S,
     ) -> Result<Todo<'c>, Refusal>
-        ensures done { IfOk result (λ t. CarriesOut self.old self.new (as_call (txn_view txn.now)) t) }
-        ensures told { OnOk result (IsTold S.takes (added_by self.old.store (as_call (txn_view txn.now))) sink.old sink.new) }
-        ensures refused { IfErr result (λ e. Refuses self.old self.new (as_call (txn_view txn.now)) e) }
+        ensures done { IfOk result
+            (λ t. CarriesOut self.old self.new (as_call (txn_view txn.now)) t) }
+        ensures told { OnOk result
+            (IsTold S.takes (added_by self.old.store (as_call (txn_view txn.now)))
+            sink.old sink.new) }
+        ensures refused { IfErr result
+            (λ e. Refuses self.old self.new (as_call (txn_view txn.now)) e) }
         ensures untold { OnErr result (sink.new ≡ sink.old) }
     {
         let before = self.tables.revision();
@@ -53,21 +57,29 @@ impl Core {
         }
     }
 
-    /// Appends the versions of a transaction, and tells whether its compares hold and which operations ran. What can fail comes
-    /// first, and the sink's taking last.
+    /// Appends the versions of a transaction, and tells whether its compares hold and which
+    /// operations ran. What can fail comes first, and the sink's taking last.
     fn run<'c, S: Sink>(
         &mut self,
         txn: &'c Txn,
         sink: &mut S,
     ) -> Result<(bool, Vec<Step<'c>>), Refusal>
-        ensures made { OnOk result ((fault_of_txn self.old.store (txn_view txn.now) ≡ None) × (self.new ≡ after_txn self.old (txn_view txn.now))) }
-        ensures path { IfOk result (λ r. Path.txn r.0 (steps_view r.1.items) Path.end ≡ path_in self.old.store (txn_view txn.now)) }
-        ensures few { OnOk result (length (changes_of_path self.old.store (path_in self.old.store (txn_view txn.now))) < 2 ^ 64) }
+        ensures made { OnOk result
+            ((fault_of_txn self.old.store (txn_view txn.now) ≡ None)
+            × (self.new ≡ after_txn self.old (txn_view txn.now))) }
+        ensures path { IfOk result
+            (λ r. Path.txn r.0 (steps_view r.1.items) Path.end
+            ≡ path_in self.old.store (txn_view txn.now)) }
+        ensures few { OnOk result
+            (length (changes_of_path self.old.store
+            (path_in self.old.store (txn_view txn.now))) < 2 ^ 64) }
         ensures upto { IsUpTo self.old.store.revision self.old.store.versions }
         ensures places { AllByRecursion (λ v. v.rev.sub < 2 ^ 64) self.old.store.versions }
         ensures fits { self.old.store.revision ≤ last_main }
-        ensures told { OnOk result (IsTold S.takes (added_by_txn self.old.store (txn_view txn.now)) sink.old sink.new) }
-        ensures refused { IfErr result (λ e. IsRefusal e (fault_of_txn self.old.store (txn_view txn.now))) }
+        ensures told { OnOk result
+            (IsTold S.takes (added_by_txn self.old.store (txn_view txn.now)) sink.old sink.new) }
+        ensures refused { IfErr result
+            (λ e. IsRefusal e (fault_of_txn self.old.store (txn_view txn.now))) }
         ensures err { OnErr result ((self.new ≡ self.old) × (sink.new ≡ sink.old)) }
     {
         let Plan {
@@ -86,14 +98,22 @@ impl Core {
 
     /// What a transaction is to do, or its first refusal.
     fn plan<'c>(&self, txn: &'c Txn) -> Result<Plan<'c>, Refusal>
-        ensures made { IfOk result (λ p. (fault_of_txn self.now.store (txn_view txn.now) ≡ None) × (p.versions.items ≡ added_by_txn self.now.store (txn_view txn.now))) }
-        ensures path { IfOk result (λ p. Path.txn p.succeeded (steps_view p.steps.items) Path.end ≡ path_in self.now.store (txn_view txn.now)) }
-        ensures few { OnOk result (length (changes_of_path self.now.store (path_in self.now.store (txn_view txn.now))) < 2 ^ 64) }
+        ensures made { IfOk result
+            (λ p. (fault_of_txn self.now.store (txn_view txn.now) ≡ None)
+            × (p.versions.items ≡ added_by_txn self.now.store (txn_view txn.now))) }
+        ensures path { IfOk result
+            (λ p. Path.txn p.succeeded (steps_view p.steps.items) Path.end
+            ≡ path_in self.now.store (txn_view txn.now)) }
+        ensures few { OnOk result
+            (length (changes_of_path self.now.store
+            (path_in self.now.store (txn_view txn.now))) < 2 ^ 64) }
         ensures upto { IsUpTo self.now.store.revision self.now.store.versions }
         ensures places { AllByRecursion (λ v. v.rev.sub < 2 ^ 64) self.now.store.versions }
         ensures fits { self.now.store.revision ≤ last_main }
-        ensures counted { AllByRecursion (λ v. IsCountedTo self.now.store.revision v.body) self.now.store.versions }
-        ensures refused { IfErr result (λ e. IsRefusal e (fault_of_txn self.now.store (txn_view txn.now))) }
+        ensures counted { AllByRecursion
+            (λ v. IsCountedTo self.now.store.revision v.body) self.now.store.versions }
+        ensures refused { IfErr result
+            (λ e. IsRefusal e (fault_of_txn self.now.store (txn_view txn.now))) }
     {
         let view = self.view();
         if let Err(refusal) = check(self.alloc, txn) {
@@ -111,11 +131,18 @@ impl Core {
 
     /// What is kept, seen at the end of the present revision.
     fn view(&self) -> View<'_>
-        ensures value { result ≡ record { versions = self.now.store.versions; compacted = self.now.store.compacted; revision = self.now.store.revision; place = end_of self.now.store.revision } }
+        ensures value { result
+            ≡ record {
+              versions = self.now.store.versions;
+              compacted = self.now.store.compacted;
+              revision = self.now.store.revision;
+              place = end_of self.now.store.revision;
+            } }
         ensures upto { IsUpTo self.now.store.revision self.now.store.versions }
         ensures places { AllByRecursion (λ v. v.rev.sub < 2 ^ 64) self.now.store.versions }
         ensures fits { self.now.store.revision ≤ last_main }
-        ensures counted { AllByRecursion (λ v. IsCountedTo self.now.store.revision v.body) self.now.store.versions }
+        ensures counted { AllByRecursion
+            (λ v. IsCountedTo self.now.store.revision v.body) self.now.store.versions }
     {
         self.tables.view_at(end_of(self.tables.revision()))
     }
@@ -127,7 +154,10 @@ impl Core {
         steps: &[Step<'_>],
     ) -> Result<Vec<OpReply<'_>>, AllocError>
         requires { CanReply self.now.store before (steps_view steps.now) }
-        ensures { IfOk result (λ rs. replies_view rs.items ≡ replies_of self.now.store.versions self.now.store.compacted before 0 (steps_view steps.now)) }
+        ensures { IfOk result
+            (λ rs. replies_view rs.items
+            ≡ replies_of self.now.store.versions self.now.store.compacted before 0
+            (steps_view steps.now)) }
     {
         txn_core::replies(self.alloc, &self.tables, before, steps)
     }

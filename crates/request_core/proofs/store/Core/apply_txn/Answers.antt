@@ -9,7 +9,8 @@ use Rattle.request_core.proofs.store.Core.apply_txn.Goals as goal
 pub returns-in-Ok-clause-done : goal.returns-in-Ok-clause-done
 returns-in-Ok-clause-done g c =
     let before = c.revision-before.ensures.value ∙ ap (λ (s : CoreState). s.store.revision) c.self.view_is in
-    subst (λ (n : ℕ). CarriesOut c.args.self.now c.run.new.self (as_call (txn_view c.args.txn.now)) (todo.Txn n c.in-Ok.succeeded c.in-Ok.steps)) (sym before)
+    subst (λ (n : ℕ). CarriesOut c.args.self.now c.run.new.self (as_call (txn_view c.args.txn.now))
+    (todo.Txn n c.in-Ok.succeeded c.in-Ok.steps)) (sym before)
     (txn_done c.args.self.now c.run.new.self c.args.txn.now c.in-Ok.succeeded c.in-Ok.steps (record {
       upto = c.in-Ok.ensures.upto;
       places = c.in-Ok.ensures.places;
