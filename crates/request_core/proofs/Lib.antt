@@ -9,3 +9,4 @@ pub mod Revokes
 pub mod Starting
 pub mod Txns
 pub mod Worlds
+pub mod Watching

@@ -21,7 +21,7 @@ use Rattle.kv_model.specs.Txns as txns
 use Rattle.kv_model.specs.World.{World, opening}
 use Rattle.kv_model.specs.History.{Mutation, KeyValue, put, value_at, end_of, rev_le}
 use Rattle.kv_model.specs.Step.{last_main}
-use Rattle.store_laws.specs.Stands.{Store, noted}
+use Rattle.store_laws.specs.Stands.{Store, Tracked, noted}
 use Rattle.watch_hub.specs.Hub.{Hub}
 use Rattle.store_laws.specs.Stores.{path_in, refusal_of_path, changes_of_path, refusal_of_delete, with_leases}
 use Rattle.store_laws.specs.Stores.{granted_lease, refusal_of_revoke, renewed_leases, at_store_moment}
@@ -111,6 +111,10 @@ abbrev pub noted_from : ℕ → CoreState → CoreState
 noted_from n s = record s {
   store = record s.store { watches = map (noted (drop n s.store.versions) s.store.revision) s.store.watches };
 }
+
+-- with these watches, and otherwise as it was
+abbrev pub with_watches : List Tracked → CoreState → CoreState
+with_watches ts s = record s { store = record s.store { watches = ts } }
 
 -- with these versions as the next revision, where there are some
 abbrev pub with_any : CoreState → List Version → CoreState

@@ -16,6 +16,7 @@ mod revoking;
 #[cfg(test)]
 pub(crate) mod starting;
 mod transacting;
+mod watching;
 
 use self::leasing::{granted, renewed};
 use crate::answer::{Answer, Receipt, Status, Todo};

@@ -1,6 +1,6 @@
 -- What a store stands for behind a delivery to a watch.
-use Rattle.std.proofs.Common.{◌≡◌, ◌⊎◌, inl, inr, ℕ, ◌+◌, ◌<◌, ◌≤◌, List, [], ◌∷◌, filter, Bool, true, false, ◌&&◌, ◌==◌, cond, Option, None, Some, option_map, refl, sym, ◌∙◌, ap, subst, arith}
-use Rattle.std.specs.Prelude.{nat_lt, nat_le, MatchBool, ⊤}
+use Rattle.std.proofs.Common.{◌≡◌, ◌⊎◌, inl, inr, ℕ, ◌+◌, ◌<◌, ◌≤◌, List, [], ◌∷◌, filter, Bool, true, false, ◌&&◌, ◌==◌, not, cond, Option, None, Some, option_map, refl, sym, ◌∙◌, ap, subst, arith}
+use Rattle.std.specs.Prelude.{nat_lt, nat_le, is_some, MatchBool, ⊤}
 use Rattle.std.specs.List.{AllByRecursion}
 use Rattle.std.proofs.lemmas.Bool.Decides.{nat_tests}
 use Rattle.kv_model.specs.declared.version.Version.{Version}
@@ -11,7 +11,7 @@ use Rattle.kv_model.specs.Watches.{Delivery, undelivered, last_revision, deliver
 use Rattle.store_laws.specs.Stands.{Store, Tracked, TracksNext, Tracks, TracksAll, StandsFor, first_main_of}
 use Rattle.store_laws.proofs.StandsWatches.{good-undelivered}
 use Rattle.store_laws.proofs.TrimLaws.{rising-dress}
-use Rattle.watch_hub.specs.Hub.{NumbersAscend, pending_of, tracked_at}
+use Rattle.watch_hub.specs.Hub.{NumbersAscend, pending_of, tracked_at, without_tracked}
 use Rattle.watch_hub.specs.Delivering.{Course, course_from, course_at, delivery_from, delivery_kept, message_from, taken_by, delivered, told_at}
 use Rattle.watch_hub.proofs.Delivering.{AreFrom, least, delivery_stands}
 use Rattle.watch_hub.proofs.Standing.{ended_stands, told_stands}
@@ -83,6 +83,17 @@ from-least m q (v ∷ vs) = by (nat_le m v.rev.main) refl (q v) (from-least m q 
 
 -- ---- a delivery
 
+module _ (s : Store) (w : World) (h : StandsFor s w) (n : ℕ) where
+  -- what is told is what the whole history tells
+  pub delivery_told : told_at s.versions s.compacted (option_map pending_of (tracked_at s.watches n)) ≡ (deliver w n).0
+  delivery_told = by (found (versions w) (revision w) n s.watches w.watches h.watches)
+    where
+      by : Found (versions w) (revision w) n s.watches w.watches → told_at s.versions s.compacted (option_map pending_of (tracked_at s.watches n)) ≡ delivery w (watch_at w.watches n)
+      by (inl f) = ap (λ (o : Option Tracked). told_at s.versions s.compacted (option_map pending_of o)) f.0 ∙ ap (delivery w) (sym f.1)
+      by (inr f) =
+          ap (λ (o : Option Tracked). told_at s.versions s.compacted (option_map pending_of o)) f.2
+          ∙ sym (delivery_stands s w h f.0 f.1 f.4) ∙ ap (delivery w) (sym f.3)
+
 module _ (s : Store) (w : World) (h : StandsFor s w) (n : ℕ) (ascend : NumbersAscend s.watches) where
   abbrev from : ℕ → Watched → List Version
   from m watched = filter (λ v. nat_le m v.rev.main && matches watched v) s.versions
@@ -118,17 +129,7 @@ module _ (s : Store) (w : World) (h : StandsFor s w) (n : ℕ) (ascend : Numbers
           (only (λ y. last_revision (from m t.watched) ≡ last_revision (undelivered (versions w) y)) n x w.watches
           (watches-ascend (versions w) (revision w) s.watches w.watches h.watches ascend) at (ap last_revision same.0))
 
-  -- what is told is what the whole history tells
-  pub delivery_told : told_at s.versions s.compacted (option_map pending_of (tracked_at s.watches n)) ≡ (deliver w n).0
-  delivery_told = by (found (versions w) (revision w) n s.watches w.watches h.watches)
-    where
-      by : Found (versions w) (revision w) n s.watches w.watches → told_at s.versions s.compacted (option_map pending_of (tracked_at s.watches n)) ≡ delivery w (watch_at w.watches n)
-      by (inl f) = ap (λ (o : Option Tracked). told_at s.versions s.compacted (option_map pending_of o)) f.0 ∙ ap (delivery w) (sym f.1)
-      by (inr f) =
-          ap (λ (o : Option Tracked). told_at s.versions s.compacted (option_map pending_of o)) f.2
-          ∙ sym (delivery_stands s w h f.0 f.1 f.4) ∙ ap (delivery w) (sym f.3)
-
-  -- and the store goes on standing for the world
+  -- the store goes on standing for the world
   pub delivery_left : StandsFor (record s { watches = delivered s.versions s.revision s.compacted n s.watches }) (deliver w n).1
   delivery_left = by (found (versions w) (revision w) n s.watches w.watches h.watches)
     where
@@ -139,3 +140,23 @@ module _ (s : Store) (w : World) (h : StandsFor s w) (n : ℕ) (ascend : Numbers
       by (inl f) = subst (λ (d : Delivery). left (tracked_at s.watches n) d) (ap (delivery w) (sym f.1)) (subst (λ (o : Option Tracked). left o Delivery.no_watch) (sym f.0) h)
       by (inr f) = subst (λ (d : Delivery). left (tracked_at s.watches n) d) (sym (delivery_stands s w h f.0 f.1 f.4) ∙ ap (delivery w) (sym f.3))
           (subst (λ (o : Option Tracked). left o (delivery_kept s.versions s.compacted f.0)) (sym f.2) (goes-on f.0 f.1 f.3 f.4 f.0.late refl f.0.first refl))
+
+-- ---- a watch is ended
+
+-- it stood where the world has it
+pub stood : (s : Store) (w : World) → StandsFor s w → (n : ℕ) → is_some (tracked_at s.watches n) ≡ is_some (watch_at w.watches n)
+stood s w h n = by (found (versions w) (revision w) n s.watches w.watches h.watches)
+  where
+    by : Found (versions w) (revision w) n s.watches w.watches → is_some (tracked_at s.watches n) ≡ is_some (watch_at w.watches n)
+    by (inl f) = ap is_some f.0 ∙ sym (ap is_some f.1)
+    by (inr f) = ap is_some f.2 ∙ sym (ap is_some f.3)
+
+-- where there is none, none goes
+pub none_goes : (ts : List Tracked) (n : ℕ) → is_some (tracked_at ts n) ≡ false → without_tracked n ts ≡ ts
+none_goes [] n e = refl
+none_goes (t ∷ ts) n e = by (none_goes ts n) (t.number == n) e
+  where
+    by : (is_some (tracked_at ts n) ≡ false → without_tracked n ts ≡ ts) → (b : Bool) → is_some (cond b (Some t) (tracked_at ts n)) ≡ false
+        → cond (not b) (t ∷ without_tracked n ts) (without_tracked n ts) ≡ t ∷ ts
+    by later true e = absurd (cc)
+    by later false e = ap (λ us. t ∷ us) (later e)

@@ -1,0 +1,65 @@
+//! Watches: what each is told next, how it goes on behind that, and how it ends.
+ghost use Rattle.kv_model.specs.declared.refusal.Refusal.TheVariants.{NoWatch};
+ghost use Rattle.kv_model.specs.Watches.{deliver, Delivery as ModelDelivery};
+ghost use Rattle.kv_model.specs.World.{World, watch_at, without_watch};
+ghost use Rattle.std.specs.Prelude.{◌≡◌, ⊤, is_ok, is_some, IfOk, IfErr, OnErr, MatchBool};
+ghost use Rattle.store_laws.specs.Stands.{StandsFor};
+ghost use Rattle.watch_hub.specs.Messages.{delivery_view};
+
+use super::Core;
+use kv_model::refusal::Refusal;
+use watch_hub::Delivery;
+
+impl Core {
+    ghost use Rattle.request_core.specs.Answers.{is_memory};
+    ghost use Rattle.request_core.specs.State.{with_watches};
+
+    /// What the watch of a number is told next (the etcd documentation's Watch): nothing where it is
+    /// caught up, the events of whole revisions, or that it is cancelled since what it still had to be
+    /// told of is compacted. It lends from the core and changes nothing; `advance` follows once it was
+    /// told.
+    ///
+    /// The refusals: `NoWatch` where no watch has the number, `Memory` where the list of the events
+    /// found none. The time is logarithmic in the number of versions, linear in that of those from the
+    /// watch's first match on up to the end of the message, and for each event with a previous value
+    /// logarithmic in the number of keys and of versions.
+    pub fn deliver(&self, number: u64) -> Result<Delivery<'_>, Refusal>
+        ensures told { IfOk result (λ d. (w : World) → StandsFor self.now.store w
+            → delivery_view d ≡ (deliver w number).0) }
+        ensures refused { IfErr result (λ e. MatchBool (is_memory e) ⊤ ((e ≡ NoWatch)
+            × ((w : World) → StandsFor self.now.store w
+            → (deliver w number).0 ≡ ModelDelivery.no_watch))) }
+    {
+        self.hub.deliver(self.alloc, &self.tables, number)
+    }
+
+    /// The watch of a number goes on behind what `deliver` shows: it stays as it was where that is
+    /// nothing, it ends where it is cancelled, and else it was told of all up to the last revision of
+    /// the message. Where no watch has the number, nothing changes. No changing call is counted. Takes
+    /// no memory.
+    ///
+    /// The time is that of `deliver` without previous values, twice.
+    pub fn advance(&mut self, number: u64)
+        ensures stands { (w : World) → StandsFor self.old.store w
+            → StandsFor self.new.store (deliver w number).1 }
+        ensures others { self.new ≡ with_watches self.new.store.watches self.old }
+    {
+        self.hub.go_on(&self.tables, number);
+    }
+
+    /// Ends the watch of a number. `NoWatch` comes where no watch has the number, and then nothing
+    /// changes. No changing call is counted. Takes no memory.
+    ///
+    /// It is found in logarithmic time; the places of those that were made later move.
+    pub fn cancel(&mut self, number: u64) -> Result<(), Refusal>
+        ensures stood { (w : World) → StandsFor self.old.store w
+            → is_ok result ≡ is_some (watch_at w.watches number) }
+        ensures stands { (w : World) → StandsFor self.old.store w
+            → StandsFor self.new.store (record w { watches = without_watch number w.watches }) }
+        ensures others { self.new ≡ with_watches self.new.store.watches self.old }
+        ensures missing { IfErr result (λ e. e ≡ NoWatch) }
+        ensures unchanged { OnErr result (self.new ≡ self.old) }
+    {
+        self.hub.cancel(number)
+    }
+}
