@@ -22,7 +22,7 @@ use Rattle.range_view.specs.Stored.{Viewed}
 use Rattle.txn_core.specs.declared.step.Step.{Step}
 use Rattle.txn_core.specs.Planning.{made, refusal_of, is_memory, IsRefusal, path_in, made_in, refusal_in}
 use Rattle.txn_core.specs.Steps.{in_row, step_view}
-use Rattle.txn_core.proofs.Walking.{txn_view-out, op_view-Range, op_view-Put, op_view-Delete}
+use Rattle.txn_core.proofs.Walking.{or-nothing, txn_view-out, op_view-Range, op_view-Put, op_view-Delete}
 use Rattle.txn_core.proofs.Elements.{At, from-here}
 
 -- ---- refusals
@@ -52,10 +52,6 @@ refused-first e None b h = by (is_memory e) h
     by : (m : Bool) → MatchBool m ⊤ (None ≡ Some e) → MatchBool m ⊤ (b ≡ Some e)
     by true g = tt
     by false g = cc
-
-or-none : (a : Option Refusal) → option_or a None ≡ a
-or-none None = refl
-or-none (Some x) = refl
 
 pub none-first : (a b : Option Refusal) → a ≡ None → option_or a b ≡ b
 none-first a b e = ap (λ o. option_or o b) e
@@ -124,9 +120,9 @@ behind-refused v ls e cs s f r = by (list_all (holds v.versions v.revision) cs)
     by : (b : Bool) → IsRefusal e (refusal_in v ls (cond b (Path.txn true (path_in v s) Path.end) (Path.txn false (path_in v f) Path.end)))
         → IsRefusal e (refusal_in v ls (behind (cond b (Path.txn true (path_in v s) Path.end) (Path.txn false (path_in v f) Path.end)) r))
     by true h = refused-first e (refusal_in v ls (path_in v s)) (refusal_in v ls r)
-        (subst (IsRefusal e) (or-none (refusal_in v ls (path_in v s))) h)
+        (subst (IsRefusal e) (or-nothing (refusal_in v ls (path_in v s))) h)
     by false h = refused-first e (refusal_in v ls (path_in v f)) (refusal_in v ls r)
-        (subst (IsRefusal e) (or-none (refusal_in v ls (path_in v f))) h)
+        (subst (IsRefusal e) (or-nothing (refusal_in v ls (path_in v f))) h)
 
 pub refused-inner : (v : Viewed) (ls : List Lease) (e : Refusal) (t : Txn) → IsRefusal e (refusal_in v ls (path_in v (txn_view t)))
     → (rest : Ops) → IsRefusal e (refusal_in v ls (path_in v (then (op_view (Inner t)) rest)))
@@ -177,7 +173,7 @@ made-txn v ws b q = refl
 
 pub refusal-txn : (v : Viewed) (ls : List Lease) (b : Bool) (q : Path) → refusal_in v ls (Path.txn b q Path.end) ≡ refusal_in v ls q
 unfolding refusal_of
-refusal-txn v ls b q = or-none (refusal_in v ls q)
+refusal-txn v ls b q = or-nothing (refusal_in v ls q)
 
 -- ---- a row
 

@@ -182,7 +182,7 @@ row_fault-end depth os i h = sym (ap (λ (ps : List Operation). walk_fault depth
 
 -- ---- an operation
 
-or-nothing : (a : Option Refusal) → option_or a None ≡ a
+pub or-nothing : (a : Option Refusal) → option_or a None ≡ a
 or-nothing None = refl
 or-nothing (Some x) = refl
 

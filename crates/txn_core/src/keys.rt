@@ -79,7 +79,7 @@ fn count_between(keys: &[&Bytes], from: &Bytes, to: &Bytes) -> usize
     requires { AreSorted keys.now }
     ensures { result ≡ count_of (λ k. key_le from.now k && key_lt k to.now) (keys_view keys.now) }
 {
-    if to.cmp(&from).is_lt() {
+    if to.cmp(from).is_lt() {
         return 0;
     }
     count_below(keys, to) - count_below(keys, from)

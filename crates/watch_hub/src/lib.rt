@@ -3,8 +3,9 @@
 //! The one contract is that of [`WatchHub`]: its value is the list of the watches that stand, in
 //! the order in which they were made, and how many were made so far; each call is a function on
 //! such lists. A watch that is behind holds the main revision of the first version that it matches
-//! and was not told of. One that is caught up holds none, and a delivery to it costs nothing. What
-//! it is told of a revision is read from `range_view`'s tables when it is delivered.
+//! and was not told of; one that is caught up holds none. A watch that is late, since its start was
+//! compacted when it was made, is told that alone. [`Pending`] is what a delivery needs of a watch;
+//! the versions that it tells of are read in `range_view`'s tables.
 //!
 //! For example, where the key a was put at the revisions 2, 3 and 4, with the first undelivered
 //! match of each watch behind its number:
