@@ -4,25 +4,13 @@ use Rattle.std.proofs.lemmas.Bool.Decides.{nat_tests}
 use Rattle.std.specs.declared.cmp.Ordering.{Ordering}
 use Rattle.std.specs.declared.cmp.Ordering.TheVariants.{Less, Equal, Greater}
 use Rattle.std.specs.Ordering.{ordering_reverse, is_eq, is_lt, is_le, is_gt}
-use Rattle.std.specs.Cmp.Lexicographic.{bytes_decides, nat_list_cmp_total}
+use Rattle.std.specs.Cmp.Lexicographic.{nat_list_cmp_total}
 use Rattle.std.proofs.lemmas.Map.Lookups.{exact_bytes}
 use Rattle.kv_model.specs.declared.version.KeyRange.{KeyRange}
 use Rattle.kv_model.specs.Lists.{is_empty}
 use Rattle.kv_model.specs.Keys.{key_cmp, key_lt, key_le, same_key, zero_byte, in_range}
-
-pub same-refl : (k : List ℕ) → same_key k k ≡ true
-same-refl k = (bytes_decides k k).1 refl
-
-pub same-eq : (k l : List ℕ) → same_key k l ≡ true → k ≡ l
-same-eq k l h = (bytes_decides k l).0 h
-
-pub cmp-refl : (k : List ℕ) → key_cmp k k ≡ Equal
-cmp-refl k = by (key_cmp k k) (nat_list_cmp_total.antisymm k k)
-  where
-    by : (o : Ordering) → o ≡ ordering_reverse o → o ≡ Equal
-    by Less e = cc
-    by Equal e = refl
-    by Greater e = cc
+use Rattle.store_laws.proofs.HistoryLaws.{same_key-eq}
+use Rattle.store_laws.proofs.KeyLaws.{same-refl, cmp-refl}
 
 pub less-greater : (k l : List ℕ) → key_cmp k l ≡ Greater → key_cmp l k ≡ Less
 less-greater k l e = nat_list_cmp_total.antisymm l k ∙ ap ordering_reverse e
@@ -37,7 +25,7 @@ eq-same q k = by (same_key k q) refl
     no Greater e h = refl
 
     by : (b : Bool) → same_key k q ≡ b → is_eq (key_cmp q k) ≡ b
-    by true e = ap (λ l. is_eq (key_cmp q l)) (same-eq k q e) ∙ ap is_eq (cmp-refl q)
+    by true e = ap (λ l. is_eq (key_cmp q l)) (same_key-eq k q e) ∙ ap is_eq (cmp-refl q)
     by false e = no (key_cmp q k) refl e
 
 -- ---- bounds
@@ -46,15 +34,6 @@ one_key-cmp : (a k : List ℕ) → (o : Ordering) → key_cmp a k ≡ o → (is_
 one_key-cmp a k Less e = refl
 one_key-cmp a k Equal e = refl
 one_key-cmp a k Greater e = refl
-
-same-comm : (k l : List ℕ) → same_key k l ≡ same_key l k
-same-comm k l = by (same_key k l) refl (same_key l k) refl
-  where
-    by : (b : Bool) → same_key k l ≡ b → (c : Bool) → same_key l k ≡ c → b ≡ c
-    by true e true f = refl
-    by true e false f = sym (ap (λ j. same_key l j) (same-eq k l e) ∙ same-refl l) ∙ f
-    by false e true f = sym e ∙ ap (λ j. same_key k j) (same-eq l k f) ∙ same-refl k
-    by false e false f = refl
 
 pub contains-one : (a k : List ℕ) → (is_le (key_cmp a k) && not (is_lt (key_cmp a k))) ≡ same_key k a
 contains-one a k = one_key-cmp a k (key_cmp a k) refl ∙ eq-same a k

@@ -7,4 +7,4 @@ mod interval;
 pub mod revisions;
 
 pub use index::{Indexed, KeyIndex};
-pub use revisions::{Mark, Revisions};
+pub use revisions::Revisions;

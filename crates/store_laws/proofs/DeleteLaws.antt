@@ -18,7 +18,8 @@ use Rattle.kv_model.specs.Ranges.{insert_key, keys, live, value_within, keys_of}
 use Rattle.kv_model.specs.Txns.{deletes_of}
 use Rattle.store_laws.proofs.HistoryLaws.{same_key-eq}
 use Rattle.store_laws.proofs.KeyLaws.{cmp-refl, AllAbove, IsAscending, ascending-filter, ascending-keys}
-use Rattle.store_laws.proofs.PlaceLaws.{rev_lt-subs}
+use Rattle.store_laws.proofs.PlaceLaws.{each-filter}
+use Rattle.store_laws.proofs.RevOrder.{rev_lt-subs}
 
 -- ---- the key that a value is shown under
 
@@ -97,14 +98,6 @@ given-insert k (l ∷ ls) h a = by (key_cmp k l) (given-insert k ls h a.1)
 pub given-keys : (vs : List Version) → AllByRecursion (λ v. v.key ≢ []) vs → AreGiven (keys vs)
 given-keys [] h = tt
 given-keys (v ∷ vs) h = given-insert v.key (keys vs) h.0 (given-keys vs h.1)
-
-pub each-filter : {X : Type 0} (P : X → Type 0) (t : X → Bool) (xs : List X) → AllByRecursion P xs → AllByRecursion P (filter t xs)
-each-filter P t [] h = tt
-each-filter P t (x ∷ xs) h = by (t x) (each-filter P t xs h.1)
-  where
-    by : (b : Bool) → AllByRecursion P (filter t xs) → AllByRecursion P (cond b (x ∷ filter t xs) (filter t xs))
-    by true rest = (h.0, rest)
-    by false rest = rest
 
 -- and are not empty where no version's key is
 pub live-given : (vs : List Version) (p : Rev) (r : KeyRange) → AllByRecursion (λ v. v.key ≢ []) vs → AreGiven (keys_of (live vs p r))
