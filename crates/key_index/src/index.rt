@@ -136,8 +136,8 @@ impl KeyIndex {
 
     /// Takes out a revision of a key, and nothing where the key has it not. Takes no memory.
     ///
-    /// The time is logarithmic in the number of keys where it is the oldest revision of the key, and
-    /// else linear in that of the key's revisions too.
+    /// The time is logarithmic in the number of keys where it is the oldest revision of the key,
+    /// and else linear in that of the key's revisions too.
     pub fn remove(&mut self, key: &Bytes, rev: Rev)
         ensures { self.new ≡ without_revision key.now rev self.old }
     {
@@ -156,7 +156,8 @@ impl KeyIndex {
         }
     }
 
-    /// The last revision of a key that is not after a place, also where it is a tombstone. Takes no memory.
+    /// The last revision of a key that is not after a place, also where it is a tombstone. Takes no
+    /// memory.
     ///
     /// The time is logarithmic in the number of keys and in that of the key's revisions.
     pub fn at(&self, key: &Bytes, place: Rev) -> Option<Rev>
@@ -168,10 +169,11 @@ impl KeyIndex {
         }
     }
 
-    /// The keys of a range, ascending, each with its revisions (etcd: key ranges of a RangeRequest).
+    /// The keys of a range, ascending, each with its revisions (etcd: key ranges of a
+    /// RangeRequest).
     ///
-    /// The error is want of memory. The time is logarithmic in the number of keys, and linear in that
-    /// of the keys of the range: no other key is walked.
+    /// The error is want of memory. The time is logarithmic in the number of keys, and linear in
+    /// that of the keys of the range: no other key is walked.
     pub fn keys_in(&self, range: &KeyRange) -> Result<Vec<Indexed<'_>>, AllocError>
         ensures keys { IfOk result (λ v. map entry_of v.items ≡ in_interval range.now self.now) }
         ensures sound { IsIndex self.now }

@@ -63,7 +63,8 @@ impl Revisions {
 
     /// The last revision that is not after a place, also where it is a tombstone. Takes no memory.
     ///
-    /// Constant time where that is the newest, and else, by halving, logarithmic in the number of the key's revisions.
+    /// Constant time where that is the newest, and else, by halving, logarithmic in the number of
+    /// the key's revisions.
     pub fn at(&self, place: Rev) -> Option<Rev>
         ensures { result ≡ at_place place self.now }
     {

@@ -22,7 +22,8 @@ fn changes_of(versions: &[Version], main: u64) -> &[Version]
 
 /// Takes the newest main revision back. Takes no memory.
 ///
-/// The time is logarithmic in the number of versions and, for each of the changes, in that of the keys.
+/// The time is logarithmic in the number of versions and, for each of the changes, in that of the
+/// keys.
 pub fn take_back(table: &mut VersionTable, index: &mut KeyIndex, main: u64)
     requires upto { IsUpTo main table.old }
     requires tied { AreTied index.old table.old }
@@ -34,8 +35,8 @@ pub fn take_back(table: &mut VersionTable, index: &mut KeyIndex, main: u64)
     table.retract(main);
 }
 
-/// Adds a version to the table and its revision to the index, or to none of the two. To the index it
-/// is the same whether the version is a put or a tombstone.
+/// Adds a version to the table and its revision to the index, or to none of the two. To the index
+/// it is the same whether the version is a put or a tombstone.
 pub fn add(
     table: &mut VersionTable,
     index: &mut KeyIndex,

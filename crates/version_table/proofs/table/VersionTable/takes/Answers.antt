@@ -6,8 +6,7 @@ use Rattle.version_table.proofs.table.VersionTable.takes.Goals as goal
 
 pub returns-in-Some : goal.returns-in-Some
 returns-in-Some c =
-    let e : newest c.args.self.now ≡ Some c.in-Some.newest.now = sym (c.in-Some.ensures ∙ ap newest c.as_slice.ensures.value) in
-    (
+    let e : newest c.args.self.now ≡ Some c.in-Some.newest.now = sym (c.in-Some.ensures ∙ ap newest c.as_slice.ensures.value) in (
       λ h. behind-newest rev_of _ _ _ c.as_slice.ensures.rising e (sym c.is_before.ensures ∙ h),
       λ b. c.is_before.ensures ∙ newest-behind rev_of _ _ _ e b,
     )
