@@ -113,7 +113,8 @@ index-with_revisions k (m ∷ ms) i h = index-set k (m ∷ ms) (some_there m ms)
 
 pub index-retracted : (main : ℕ) (cs : List Version) (i : Index) → IsIndex i → IsIndex (retracted main cs i)
 index-retracted main [] i h = h
-index-retracted main (c ∷ cs) i h = index-retracted main cs (undone_at main c.key i) (index-with_revisions c.key (undone main (revisions c.key i)) i h)
+index-retracted main (c ∷ cs) i h =
+    index-retracted main cs (undone_at main c.key i) (index-with_revisions c.key (undone main (revisions c.key i)) i h)
 
 -- ---- what the code does is that
 
@@ -138,7 +139,8 @@ remove-set k ms (f ∷ es) = by (has k f.0) refl (remove-set k ms es)
     by true e rest = ap (λ b. cond b es ((f.0, ms) ∷ remove_entry (has k) es)) e
     by false e rest = ap (λ b. cond b (set_value (has k) es ms) (f ∷ remove_entry (has k) (set_value (has k) es ms))) e ∙ ap (λ l. f ∷ l) rest
 
-bare-with_revisions : (k : List ℕ) (ms : List Rev) (i : Index) → is_empty ms ≡ true → remove_entry (has k) (set_value (has k) i ms) ≡ with_revisions k ms i
+bare-with_revisions : (k : List ℕ) (ms : List Rev) (i : Index) → is_empty ms ≡ true
+    → remove_entry (has k) (set_value (has k) i ms) ≡ with_revisions k ms i
 bare-with_revisions k [] i e = remove-set k [] i
 bare-with_revisions k (m ∷ ms) i e = cc
 
@@ -160,7 +162,8 @@ not_two q k l h a b =
     let f : true ≡ false = sym one ∙ h in
     cc
 
-found-insert : (k : List ℕ) (v : List Rev) (q : List ℕ) (i : Index) → found q (insert_entry key_cmp i k v) ≡ cond (same_key k q) (Some v) (found q i)
+found-insert : (k : List ℕ) (v : List Rev) (q : List ℕ) (i : Index)
+    → found q (insert_entry key_cmp i k v) ≡ cond (same_key k q) (Some v) (found q i)
 found-insert k v q [] = ap (λ b. cond b (Some v) None) (eq-same q k)
 found-insert k v q (e ∷ es) = by (key_cmp k e.0) refl (found-insert k v q es)
   where
@@ -174,7 +177,8 @@ found-insert k v q (e ∷ es) = by (key_cmp k e.0) refl (found-insert k v q es)
         ∙ ap (λ b. cond (same_key k q) (Some v) (cond b (Some e.1) (found q es))) (sym one)
     by Greater f rest = ap (λ o. cond (has q e.0) (Some e.1) o) rest ∙ apart (has q e.0) (same_key k q) (Some v) (Some e.1) (found q es) (not_two q k e.0 (ap is_eq f))
 
-found-set : (k : List ℕ) (v : List Rev) (q : List ℕ) (i : Index) (w : List Rev) → found k i ≡ Some w → found q (set_value (has k) i v) ≡ cond (same_key k q) (Some v) (found q i)
+found-set : (k : List ℕ) (v : List Rev) (q : List ℕ) (i : Index) (w : List Rev) → found k i ≡ Some w
+    → found q (set_value (has k) i v) ≡ cond (same_key k q) (Some v) (found q i)
 found-set k v q [] w h = cc
 found-set k v q (e ∷ es) w h = by (has k e.0) refl h (found-set k v q es w)
   where
@@ -213,20 +217,25 @@ found-remove k q (e ∷ es) h = by (has k e.0) refl (found-remove k q es h.2)
         here (same_key k q) refl same ∙ ap (λ b. cond (same_key k q) None (cond b (Some e.1) (found q es))) (sym one)
     by false f rest = ap (λ o. cond (has q e.0) (Some e.1) o) rest ∙ apart (has q e.0) (same_key k q) None (Some e.1) (found q es) (not_two q k e.0 f)
 
-pub revisions-with_revision : (k : List ℕ) (m : Rev) (i : Index) (q : List ℕ) → revisions q (with_revision k m i) ≡ cond (same_key k q) (revisions q i ++ m ∷ []) (revisions q i)
+pub revisions-with_revision : (k : List ℕ) (m : Rev) (i : Index) (q : List ℕ)
+    → revisions q (with_revision k m i) ≡ cond (same_key k q) (revisions q i ++ m ∷ []) (revisions q i)
 revisions-with_revision k m i q = by (found k i) refl
   where
-    spread : (b : Bool) (v : List Rev) → (b ≡ true → v ≡ revisions q i ++ m ∷ []) → unwrap_or (cond b (Some v) (found q i)) [] ≡ cond b (revisions q i ++ m ∷ []) (revisions q i)
+    spread : (b : Bool) (v : List Rev) → (b ≡ true → v ≡ revisions q i ++ m ∷ [])
+        → unwrap_or (cond b (Some v) (found q i)) [] ≡ cond b (revisions q i ++ m ∷ []) (revisions q i)
     spread true v h = h refl
     spread false v h = refl
 
-    by : (o : Option (List Rev)) → found k i ≡ o → revisions q (added k m o i) ≡ cond (same_key k q) (revisions q i ++ m ∷ []) (revisions q i)
+    by : (o : Option (List Rev)) → found k i ≡ o
+        → revisions q (added k m o i) ≡ cond (same_key k q) (revisions q i ++ m ∷ []) (revisions q i)
     by None e = ap (λ o. unwrap_or o []) (found-insert k (m ∷ []) q i)
         ∙ spread (same_key k q) (m ∷ []) (λ s. sym (ap (λ o. unwrap_or o [] ++ m ∷ []) (ap (λ j. found j i) (sym (same_key-eq k q s)) ∙ e)))
     by (Some ms) e = ap (λ o. unwrap_or o []) (found-set k (ms ++ m ∷ []) q i ms e)
-        ∙ spread (same_key k q) (ms ++ m ∷ []) (λ s. sym (ap (λ o. unwrap_or o [] ++ m ∷ []) (ap (λ j. found j i) (sym (same_key-eq k q s)) ∙ e)))
+        ∙ spread (same_key k q) (ms ++ m ∷ [])
+        (λ s. sym (ap (λ o. unwrap_or o [] ++ m ∷ []) (ap (λ j. found j i) (sym (same_key-eq k q s)) ∙ e)))
 
-pub revisions-with_revisions : (k : List ℕ) (ms : List Rev) (i : Index) → IsIndex i → (found k i ≡ None → ms ≡ []) → (q : List ℕ) → revisions q (with_revisions k ms i) ≡ cond (same_key k q) ms (revisions q i)
+pub revisions-with_revisions : (k : List ℕ) (ms : List Rev) (i : Index) → IsIndex i → (found k i ≡ None → ms ≡ []) → (q : List ℕ)
+    → revisions q (with_revisions k ms i) ≡ cond (same_key k q) ms (revisions q i)
 revisions-with_revisions k [] i h a q = ap (λ o. unwrap_or o []) (found-remove k q i h) ∙ spread (same_key k q)
   where
     spread : (b : Bool) → unwrap_or (cond b None (found q i)) [] ≡ cond b [] (revisions q i)
@@ -269,14 +278,16 @@ module _ (f : List Rev → List Rev) (nothing : f [] ≡ []) (k : List ℕ) (i :
 abbrev pub changes_key : List ℕ → List Version → Bool
 changes_key q cs = list_any (λ c. same_key c.key q) cs
 
-pub revisions-retracted : (main : ℕ) (cs : List Version) (i : Index) → IsIndex i → (q : List ℕ) → revisions q (retracted main cs i) ≡ cond (changes_key q cs) (undone main (revisions q i)) (revisions q i)
+pub revisions-retracted : (main : ℕ) (cs : List Version) (i : Index) → IsIndex i → (q : List ℕ)
+    → revisions q (retracted main cs i) ≡ cond (changes_key q cs) (undone main (revisions q i)) (revisions q i)
 revisions-retracted main [] i h q = refl
 revisions-retracted main (c ∷ cs) i h q =
     revisions-retracted main cs (undone_at main c.key i) (index-with_revisions c.key (undone main (revisions c.key i)) i h) q
     ∙ ap (λ ms. cond (changes_key q cs) (undone main ms) ms) (revisions-changed (undone main) refl c.key i h q)
     ∙ by (changes_key q cs) (same_key c.key q)
   where
-    by : (a b : Bool) → cond a (undone main (cond b (undone main (revisions q i)) (revisions q i))) (cond b (undone main (revisions q i)) (revisions q i)) ≡ cond (b || a) (undone main (revisions q i)) (revisions q i)
+    by : (a b : Bool) → cond a (undone main (cond b (undone main (revisions q i)) (revisions q i)))
+        (cond b (undone main (revisions q i)) (revisions q i)) ≡ cond (b || a) (undone main (revisions q i)) (revisions q i)
     by true true = undone-undone main (revisions q i)
     by true false = refl
     by false true = refl

@@ -1,6 +1,6 @@
 -- Rising revisions of one key.
-use Rattle.std.proofs.Common.{◌≡◌, ◌≢◌, ℕ, zero, suc, ◌<◌, ◌≤◌, ◌-◌, List, [], ◌∷◌, ◌++◌, length, Bool, true, false, not, ◌&&◌, ◌==◌}
-use Rattle.std.proofs.Common.{cond, drop, find, Option, None, Some, option_map, Bor, refl, sym, ◌∙◌, ap, subst, arith, length-append}
+use Rattle.std.proofs.Common.{◌≡◌, ℕ, zero, suc, ◌<◌, ◌≤◌, ◌-◌, List, [], ◌∷◌, ◌++◌, length, Bool, true, false, not, ◌&&◌, ◌==◌}
+use Rattle.std.proofs.Common.{cond, drop, find, Option, None, Some, option_map, Bor, refl, sym, ◌∙◌, ap, subst, arith}
 use Rattle.std.proofs.lemmas.Bool.Decides.{nat_tests}
 use Rattle.std.proofs.lemmas.List.{append-nil}
 use Rattle.std.proofs.lemmas.Option.{slice_get_read}
@@ -57,12 +57,6 @@ undone-pop main qs rs None e h = ap (undone main) (sym (append-nil rs) ∙ sym e
 undone-pop main qs rs (Some q) e h =
     let last : (q.main == main) ≡ true = sym (ap (is_of (λ (r : Rev). r) main) (ap newest e ∙ rising.newest-push rs q)) ∙ h in
     sym (ap (undone main) e ∙ undone-push main rs q last)
-
-pub popped-shorter : (main : ℕ) (qs rs : List Rev) (o : Option Rev) → qs ≡ rs ++ option_to_list o → ends_in main qs ≡ true
-    → (0 < length qs → o ≢ None) → length rs < length qs
-popped-shorter main [] rs o e h s = cc
-popped-shorter main (q ∷ qs) rs None e h s = absurd (s (omega arith) refl)
-popped-shorter main (q ∷ qs) rs (Some r) e h s = omega (arith, ap length e, length-append rs (r ∷ []))
 
 pub undone-same : (main : ℕ) (qs : List Rev) → ends_in main qs ≡ false → undone main qs ≡ qs
 undone-same main [] h = refl

@@ -30,7 +30,8 @@ or_none : (o : Option Version) → option_or o None ≡ o
 or_none None = refl
 or_none (Some u) = refl
 
-at-revisions_of : (p : Rev) (k : List ℕ) (vs : List Version) → at_place p (revisions_of k vs) ≡ option_map (λ (v : Version). v.rev) (latest vs p k)
+at-revisions_of : (p : Rev) (k : List ℕ) (vs : List Version)
+    → at_place p (revisions_of k vs) ≡ option_map (λ (v : Version). v.rev) (latest vs p k)
 at-revisions_of p k [] = refl
 at-revisions_of p k (v ∷ vs) = by (same_key v.key k) (at-revisions_of p k vs)
   where

@@ -1,6 +1,6 @@
 -- How the versions that are kept grow by those of a revision, and lose them again.
-use Rattle.std.proofs.Common.{◌≡◌, ◌≤◌, ◌<◌, ◌+◌, ◌-◌, ◌==◌, ℕ, zero, suc, List, [], ◌∷◌, ◌++◌, Bool, true, false, ◌&&◌, cond, nat_lt, length}
-use Rattle.std.proofs.Common.{take, drop, refl, sym, ◌∙◌, ap, subst, arith, append_assoc, eq-eqb, None, Some}
+use Rattle.std.proofs.Common.{◌≡◌, ◌≤◌, ◌<◌, ◌+◌, ◌-◌, ◌==◌, ℕ, zero, suc, List, [], ◌∷◌, ◌++◌, Bool, true, false, ◌&&◌, cond, nat_lt}
+use Rattle.std.proofs.Common.{length, take, drop, refl, sym, ◌∙◌, ap, subst, arith, append_assoc, eq-eqb, None, Some}
 use Rattle.std.proofs.lemmas.Bool.Decides.{nat_tests}
 use Rattle.std.specs.List.{AllByRecursion}
 use Rattle.std.specs.List.Sorted.{IsPartitionPoint, IsPartitionedBy}
@@ -52,13 +52,15 @@ always-present r h =
 -- ---- main revisions
 
 pub below-not_of : (main : ℕ) (vs : List Version) → IsBelow main vs → AreNotOf main vs
-below-not_of main vs h = each-map (λ (v : Version). v.rev.main < main) (λ v. (v.rev.main == main) ≡ false) (λ v less. other-number v.rev.main main less) vs h
+below-not_of main vs h =
+    each-map (λ (v : Version). v.rev.main < main) (λ v. (v.rev.main == main) ≡ false) (λ v less. other-number v.rev.main main less) vs h
 
 pub upto-below : (main : ℕ) (vs us : List Version) → IsBelow main vs → AreOf main us → IsUpTo main (vs ++ us)
 upto-below main vs us h g =
     each-append (λ (v : Version). v.rev.main ≤ main) vs us
     (each-map (λ (v : Version). v.rev.main < main) (λ v. v.rev.main ≤ main) (λ v less. omega arith) vs h)
-    (each-map (λ (v : Version). (v.rev.main == main) ≡ true) (λ v. v.rev.main ≤ main) (λ v same. let e = equal-number v.rev.main main same in omega arith) us g)
+    (each-map (λ (v : Version). (v.rev.main == main) ≡ true) (λ v. v.rev.main ≤ main)
+    (λ v same. let e = equal-number v.rev.main main same in omega arith) us g)
 
 pub below-upto : (main : ℕ) (vs : List Version) → IsBelow main vs → IsUpTo (main - 1) vs
 below-upto main vs h = each-map (λ (v : Version). v.rev.main < main) (λ v. v.rev.main ≤ main - 1) (λ v less. omega arith) vs h
@@ -121,7 +123,8 @@ goes_on-above p [] h = tt
 goes_on-above p (v ∷ vs) h =
     let parts = both (v.rev.main == p.main && nat_lt p.sub v.rev.sub) (goes_on v.rev vs) h in
     let first = step p v.rev parts.0 in
-    (first.0, each-map (λ w. rev_lt v.rev w.rev ≡ true) (λ w. rev_lt p w.rev ≡ true) (λ w up. rev_lt-trans p v.rev w.rev first.0 up) vs (goes_on-above v.rev vs parts.1))
+    let behind = goes_on-above v.rev vs parts.1 in
+    (first.0, each-map (λ w. rev_lt v.rev w.rev ≡ true) (λ w. rev_lt p w.rev ≡ true) (λ w. rev_lt-trans p v.rev w.rev first.0) vs behind)
 
 goes_on-rising : (p : Rev) (vs : List Version) → goes_on p vs ≡ true → IsRising vs
 goes_on-rising p [] h = tt
@@ -144,13 +147,18 @@ next-rising now [] h = tt
 next-rising now (v ∷ vs) h = let parts = both (v.rev.main == now + 1) (goes_on v.rev vs) h in (goes_on-above v.rev vs parts.1, goes_on-rising v.rev vs parts.1)
 
 older-before : (now : ℕ) (v w : Version) → v.rev.main ≤ now → (w.rev.main == now + 1) ≡ true → rev_lt v.rev w.rev ≡ true
-older-before now v w h g = let e = equal-number w.rev.main (now + 1) g in let less : v.rev.main < w.rev.main = omega arith in rev_lt-mains v.rev w.rev less
+older-before now v w h g =
+    let e = equal-number w.rev.main (now + 1) g in
+    let less : v.rev.main < w.rev.main = omega arith in
+    rev_lt-mains v.rev w.rev less
 
 -- and stand behind all that are kept
 pub rising-next : (now : ℕ) (vs us : List Version) → IsRising vs → IsUpTo now vs → is_next now us ≡ true → IsRising (vs ++ us)
 rising-next now [] us r u h = next-rising now us h
 rising-next now (v ∷ vs) us r u h = (
-  each-append (λ w. rev_lt v.rev w.rev ≡ true) vs us r.0 (each-map (λ w. (w.rev.main == now + 1) ≡ true) (λ w. rev_lt v.rev w.rev ≡ true) (λ w same. older-before now v w u.0 same) us (next-of now us h)),
+  each-append (λ w. rev_lt v.rev w.rev ≡ true) vs us r.0
+      (each-map (λ w. (w.rev.main == now + 1) ≡ true) (λ w. rev_lt v.rev w.rev
+      ≡ true) (λ w. older-before now v w u.0) us (next-of now us h)),
   rising-next now vs us r.1 u.1 h,
 )
 
@@ -208,10 +216,12 @@ all-yielded done rest all n e len none = sym (append-nil done) ∙ ap (λ xs. do
 
 -- the next one stands behind what was kept and what was added before it
 pub ready : (vs us done rest : List Version) (v : Version) → IsRising (vs ++ us) → done ++ (v ∷ rest) ≡ us → IsBehind v.rev (vs ++ done)
-ready vs us done rest v r e = (rising-parts rev_of (vs ++ done) v rest (subst IsRising (ap (λ ws. vs ++ ws) (sym e) ∙ sym (append_assoc vs done (v ∷ rest))) r)).0
+ready vs us done rest v r e =
+    (rising-parts rev_of (vs ++ done) v rest (subst IsRising (ap (λ ws. vs ++ ws) (sym e) ∙ sym (append_assoc vs done (v ∷ rest))) r)).0
 
 pub front-of : (main : ℕ) (us done rest : List Version) → AreOf main us → done ++ rest ≡ us → AreOf main done
-front-of main us done rest h e = (AllByRecursion-split (λ (v : Version). (v.rev.main == main) ≡ true) done rest (subst (AreOf main) (sym e) h)).0
+front-of main us done rest h e =
+    (AllByRecursion-split (λ (v : Version). (v.rev.main == main) ≡ true) done rest (subst (AreOf main) (sym e) h)).0
 
 -- ---- a revision more
 

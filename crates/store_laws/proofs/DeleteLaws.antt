@@ -105,11 +105,12 @@ live-given vs p r h = subst AreGiven (sym (live-keys vs p r)) (each-filter (λ k
     (given-keys vs h))
 
 -- the same of some of the live keys
-above-some : (t : KeyValue → Bool) (k : List ℕ) (kvs : List KeyValue) → AllAbove k (keys_of kvs) → AllAbove k (keys_of (filter t kvs))
-above-some t k [] h = tt
-above-some t k (kv ∷ kvs) h = by (t kv) (above-some t k kvs h.1)
+each-some : (P : List ℕ → Type 0) (t : KeyValue → Bool) (kvs : List KeyValue) → AllByRecursion P (keys_of kvs)
+    → AllByRecursion P (keys_of (filter t kvs))
+each-some P t [] h = tt
+each-some P t (kv ∷ kvs) h = by (t kv) (each-some P t kvs h.1)
   where
-    by : (b : Bool) → AllAbove k (keys_of (filter t kvs)) → AllAbove k (keys_of (cond b (kv ∷ filter t kvs) (filter t kvs)))
+    by : (b : Bool) → AllByRecursion P (keys_of (filter t kvs)) → AllByRecursion P (keys_of (cond b (kv ∷ filter t kvs) (filter t kvs)))
     by true rest = (h.0, rest)
     by false rest = rest
 
@@ -118,16 +119,11 @@ ascending-some t [] h = tt
 ascending-some t (kv ∷ kvs) h = by (t kv) (ascending-some t kvs h.1)
   where
     by : (b : Bool) → IsAscending (keys_of (filter t kvs)) → IsAscending (keys_of (cond b (kv ∷ filter t kvs) (filter t kvs)))
-    by true rest = (above-some t kv.key kvs h.0, rest)
+    by true rest = (each-some (λ k. key_cmp kv.key k ≡ Less) t kvs h.0, rest)
     by false rest = rest
 
 pub given-some : (t : KeyValue → Bool) (kvs : List KeyValue) → AreGiven (keys_of kvs) → AreGiven (keys_of (filter t kvs))
-given-some t [] h = tt
-given-some t (kv ∷ kvs) h = by (t kv) (given-some t kvs h.1)
-  where
-    by : (b : Bool) → AreGiven (keys_of (filter t kvs)) → AreGiven (keys_of (cond b (kv ∷ filter t kvs) (filter t kvs)))
-    by true rest = (h.0, rest)
-    by false rest = rest
+given-some = each-some (λ k. k ≢ [])
 
 -- ---- their deletes
 

@@ -60,7 +60,8 @@ module _ (vs : List Version) (p : Rev) (c : ℕ) (v : Version) (n : nat_le v.rev
   none-earlier [] b t l = refl
   none-earlier (u ∷ us) b t l = revisions_of-cons v.key u us ∙ by (same_key u.key v.key) refl (none-earlier us b.1 t.1 l.1)
     where
-      by : (a : Bool) → same_key u.key v.key ≡ a → revisions_of v.key us ≡ [] → cond a (u.rev ∷ revisions_of v.key us) (revisions_of v.key us) ≡ []
+      by : (a : Bool) → same_key u.key v.key ≡ a → revisions_of v.key us ≡ []
+          → cond a (u.rev ∷ revisions_of v.key us) (revisions_of v.key us) ≡ []
       by true e rest =
           let under : nat_le u.rev.main c ≡ true = lower-number u.rev.main v.rev.main c (rev_lt-main u.rev v.rev l.0) n in
           let out : is_superseded vs c u ≡ true = goes u e l.0 in
@@ -81,5 +82,6 @@ visited-oldest i vs p c v r a t e =
     ap (is_oldest v.rev) (
     a.each v.key ∙ ap (revisions_of v.key) f.is ∙ revisions_of-append v.key f.before (v ∷ f.after)
     ∙ ap (λ qs. qs ++ revisions_of v.key (v ∷ f.after)) none
-    ∙ revisions_of-cons v.key v f.after ∙ ap (λ b. cond b (v.rev ∷ revisions_of v.key f.after) (revisions_of v.key f.after)) (same-refl v.key))
+    ∙ revisions_of-cons v.key v f.after
+    ∙ ap (λ b. cond b (v.rev ∷ revisions_of v.key f.after) (revisions_of v.key f.after)) (same-refl v.key))
     ∙ is_rev-self v.rev

@@ -25,7 +25,8 @@ use Rattle.trim_core.specs.Steps.{if_by, next_version, step_of}
 
 -- ---- the version to visit
 
-above-find : (q : Rev) (t : Version → Bool) (vs : List Version) (v : Version) → IsAbove (λ (u : Version). u.rev) q vs → find t vs ≡ Some v → rev_lt q v.rev ≡ true
+above-find : (q : Rev) (t : Version → Bool) (vs : List Version) (v : Version) → IsAbove (λ (u : Version). u.rev) q vs → find t vs ≡ Some v
+    → rev_lt q v.rev ≡ true
 above-find q t [] v a e = cc
 above-find q t (u ∷ us) v a e = by (t u) e (λ f. above-find q t us v a.1 f)
   where

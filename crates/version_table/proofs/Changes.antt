@@ -76,7 +76,8 @@ newest-of : (main : ℕ) (vs : List Version) (u : Version) (us : List Version) �
 newest-of main [] u [] g = g.0
 newest-of main [] u (w ∷ us) g = by (newest us) (newest-of main [] w us g.1)
   where
-    by : (o : Option Version) → is_of rev_of main (option_or o (Some w)) ≡ true → is_of rev_of main (option_or (option_or o (Some w)) (Some u)) ≡ true
+    by : (o : Option Version) → is_of rev_of main (option_or o (Some w)) ≡ true
+        → is_of rev_of main (option_or (option_or o (Some w)) (Some u)) ≡ true
     by None e = e
     by (Some x) e = e
 newest-of main (v ∷ vs) u us g = by (newest (vs ++ u ∷ us)) (newest-of main vs u us g)

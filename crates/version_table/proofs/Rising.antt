@@ -56,7 +56,8 @@ find-at p [] i v r e h = cc
 find-at p (w ∷ ws) zero v r e h = let same : w ≡ v = cc in ap (λ b. cond b (Some w) (find (is_at p) ws)) (ap (is_at p) same ∙ h)
     ∙ ap Some same
 find-at p (w ∷ ws) (suc i) v r e h =
-    let before : rev_lt w.rev p ≡ true = subst (λ (q : Rev). rev_lt w.rev q ≡ true) (is_rev-same p v.rev h) (above-get w.rev ws i v r.0 e) in
+    let before : rev_lt w.rev p ≡ true =
+    subst (λ (q : Rev). rev_lt w.rev q ≡ true) (is_rev-same p v.rev h) (above-get w.rev ws i v r.0 e) in
     ap (λ b. cond b (Some w) (find (is_at p) ws)) (is_rev-before p w.rev before)
     ∙ find-at p ws i v r.1 e h
 
@@ -85,7 +86,8 @@ without-count_before p (v ∷ vs) r = by (rev_lt v.rev p) refl (without-count_be
         (slice_get (v ∷ vs) (cond b (suc (count_before p vs)) zero))
     by true e rest = ap (λ b. cond (not b) (v ∷ rest_of) rest_of) (is_rev-before p v.rev e) ∙ ap (λ ws. v ∷ ws) rest
         ∙ left-cons p v vs (count_before p vs) (slice_get vs (count_before p vs))
-    by false e rest = ap (λ ws. cond (not (is_at p v)) (v ∷ ws) ws) (rising.others-above rev_of p vs (above-not p v vs e r.0)) ∙ first (is_at p v)
+    by false e rest =
+        ap (λ ws. cond (not (is_at p v)) (v ∷ ws) ws) (rising.others-above rev_of p vs (above-not p v vs e r.0)) ∙ first (is_at p v)
 
 module _ (p : Rev) (vs : List Version) (n : ℕ) (r : IsRising vs) (at : n ≡ count_before p vs) where
   abbrev without : List Version

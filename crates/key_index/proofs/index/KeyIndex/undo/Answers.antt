@@ -4,4 +4,6 @@ use Rattle.key_index.proofs.Bounds.{bound-changed, up_to-undone}
 use Rattle.key_index.proofs.index.KeyIndex.undo.Goals as goal
 
 pub invariant_of-self : goal.invariant_of-self
-invariant_of-self c = rw c.undo.ensures (bound-changed (undone c.args.main) c.self.inside.newest (up_to-undone c.self.inside.newest c.args.main) c.args.key.now _ c.self.invariant)
+invariant_of-self c =
+    let n = c.self.inside.newest in
+    rw c.undo.ensures (bound-changed (undone c.args.main) n (up_to-undone n c.args.main) c.args.key.now _ c.self.invariant)
