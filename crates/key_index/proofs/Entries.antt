@@ -1,5 +1,6 @@
 -- The entries of an index as they change.
-use Rattle.std.proofs.Common.{◌≡◌, ◌≢◌, ℕ, List, [], ◌∷◌, ◌++◌, drop, filter, map, Bool, true, false, ◌||◌, cond, Option, None, Some, unwrap_or, Result, Ok, Err, OnOk, OnErr, refl, sym, ◌∙◌, ap, subst}
+use Rattle.std.proofs.Common.{◌≡◌, ◌≢◌, ℕ, List, [], ◌∷◌, ◌++◌, map, Bool, true, false, ◌||◌, cond, Option, None, Some}
+use Rattle.std.proofs.Common.{unwrap_or, Result, Ok, Err, OnErr, refl, sym, ◌∙◌, ap}
 use Rattle.std.specs.List.{AllByRecursion, list_any}
 use Rattle.std.specs.Map.{set_value, remove_entry}
 use Rattle.std.specs.BTreeMap.{insert_entry, is_at as is_key}
@@ -8,15 +9,15 @@ use Rattle.std.specs.declared.cmp.Ordering.TheVariants.{Less, Equal, Greater}
 use Rattle.std.specs.Ordering.{is_eq, match_ordering}
 use Rattle.std.specs.Cmp.Lexicographic.{nat_list_cmp_total}
 use Rattle.std.proofs.lemmas.Map.Lookups.{exact_bytes}
+use Rattle.kv_model.specs.declared.version.Rev.{Rev}
 use Rattle.kv_model.specs.declared.version.Version.{Version}
 use Rattle.kv_model.specs.Lists.{is_empty}
 use Rattle.kv_model.specs.Keys.{key_cmp, same_key}
-use Rattle.key_index.specs.declared.revisions.Mark.{Mark}
-use Rattle.kv_model.specs.declared.version.Rev.{Rev}
-use Rattle.key_index.specs.Marks.{undone, without}
-use Rattle.key_index.specs.Index.{Index, IsIndex, found, marks, added, with_mark, with_marks, without_front, without_mark, undone_at, retracted}
-use Rattle.key_index.proofs.Marks.{undone-undone}
-use Rattle.key_index.proofs.Keys.{same-eq, less-greater, eq-same}
+use Rattle.key_index.specs.KeyRevisions.{undone}
+use Rattle.key_index.specs.Index.{Index, IsIndex, found, revisions, added, with_revision, with_revisions, undone_at, retracted}
+use Rattle.key_index.proofs.KeyRevisions.{undone-undone}
+use Rattle.store_laws.proofs.HistoryLaws.{same_key-eq}
+use Rattle.key_index.proofs.Keys.{less-greater, eq-same}
 
 abbrev pub IsBelow : List ℕ → Index → Type 0
 IsBelow k es = AllByRecursion (λ f. key_cmp k f.0 ≡ Less) es
@@ -24,31 +25,48 @@ IsBelow k es = AllByRecursion (λ f. key_cmp k f.0 ≡ Less) es
 abbrev pub has : List ℕ → List ℕ → Bool
 has k q = is_key (key_cmp k) q
 
--- ---- it stays an index
+-- ---- what holds of each entry, as the map changes
 
-below-set : (j k : List ℕ) (ms : List Mark) (es : Index) → IsBelow j es → IsBelow j (set_value (has k) es ms)
-below-set j k ms [] h = tt
-below-set j k ms (e ∷ es) h = by (has k e.0) (below-set j k ms es h.1)
+module _ (P : List ℕ × List Rev → Type 0) (k : List ℕ) (qs : List Rev) where
+  pub each-set : ((j : List ℕ) (rs : List Rev) → P (j, rs) → P (j, qs)) → (es : Index) → AllByRecursion P es
+      → AllByRecursion P (set_value (has k) es qs)
+  each-set f [] h = tt
+  each-set f (e ∷ es) h = by (has k e.0) (each-set f es h.1)
+    where
+      by : (b : Bool) → AllByRecursion P (set_value (has k) es qs)
+          → AllByRecursion P (cond b ((e.0, qs) ∷ es) (e ∷ set_value (has k) es qs))
+      by true rest = (f e.0 e.1 h.0, h.1)
+      by false rest = (h.0, rest)
+
+  pub each-insert : P (k, qs) → ((j : List ℕ) (rs : List Rev) → P (j, rs) → P (j, qs)) → (es : Index) → AllByRecursion P es
+      → AllByRecursion P (insert_entry key_cmp es k qs)
+  each-insert p f [] h = (p, tt)
+  each-insert p f (e ∷ es) h = by (key_cmp k e.0) (each-insert p f es h.1)
+    where
+      by : (o : Ordering) → AllByRecursion P (insert_entry key_cmp es k qs)
+          → AllByRecursion P (match_ordering o ((k, qs) ∷ e ∷ es) ((e.0, qs) ∷ es) (e ∷ insert_entry key_cmp es k qs))
+      by Less rest = (p, h)
+      by Equal rest = (f e.0 e.1 h.0, h.1)
+      by Greater rest = (h.0, rest)
+
+pub each-remove : (P : List ℕ × List Rev → Type 0) (k : List ℕ) (es : Index) → AllByRecursion P es
+    → AllByRecursion P (remove_entry (has k) es)
+each-remove P k [] h = tt
+each-remove P k (e ∷ es) h = by (has k e.0) (each-remove P k es h.1)
   where
-    by : (b : Bool) → IsBelow j (set_value (has k) es ms) → IsBelow j (cond b ((e.0, ms) ∷ es) (e ∷ set_value (has k) es ms))
-    by true rest = (h.0, h.1)
+    by : (b : Bool) → AllByRecursion P (remove_entry (has k) es) → AllByRecursion P (cond b es (e ∷ remove_entry (has k) es))
+    by true rest = h.1
     by false rest = (h.0, rest)
 
-pub index-set : (k : List ℕ) (ms : List Mark) → ms ≢ [] → (i : Index) → IsIndex i → IsIndex (set_value (has k) i ms)
+-- ---- it stays an index
+
+pub index-set : (k : List ℕ) (ms : List Rev) → ms ≢ [] → (i : Index) → IsIndex i → IsIndex (set_value (has k) i ms)
 index-set k ms n [] h = tt
 index-set k ms n (e ∷ es) h = by (has k e.0) (index-set k ms n es h.2)
   where
     by : (b : Bool) → IsIndex (set_value (has k) es ms) → IsIndex (cond b ((e.0, ms) ∷ es) (e ∷ set_value (has k) es ms))
     by true rest = (n, h.1, h.2)
-    by false rest = (h.0, below-set e.0 k ms es h.1, rest)
-
-below-remove : (j k : List ℕ) (es : Index) → IsBelow j es → IsBelow j (remove_entry (has k) es)
-below-remove j k [] h = tt
-below-remove j k (e ∷ es) h = by (has k e.0) (below-remove j k es h.1)
-  where
-    by : (b : Bool) → IsBelow j (remove_entry (has k) es) → IsBelow j (cond b es (e ∷ remove_entry (has k) es))
-    by true rest = h.1
-    by false rest = (h.0, rest)
+    by false rest = (h.0, each-set (λ f. key_cmp e.0 f.0 ≡ Less) k ms (λ j rs l. l) es h.1, rest)
 
 pub index-remove : (k : List ℕ) (i : Index) → IsIndex i → IsIndex (remove_entry (has k) i)
 index-remove k [] h = tt
@@ -56,62 +74,47 @@ index-remove k (e ∷ es) h = by (has k e.0) (index-remove k es h.2)
   where
     by : (b : Bool) → IsIndex (remove_entry (has k) es) → IsIndex (cond b es (e ∷ remove_entry (has k) es))
     by true rest = h.2
-    by false rest = (h.0, below-remove e.0 k es h.1, rest)
+    by false rest = (h.0, each-remove (λ f. key_cmp e.0 f.0 ≡ Less) k es h.1, rest)
 
 below-trans : (j k : List ℕ) (es : Index) → key_cmp j k ≡ Less → IsBelow k es → IsBelow j es
 below-trans j k [] e h = tt
 below-trans j k (f ∷ es) e h = (nat_list_cmp_total.trans j k f.0 e h.0, below-trans j k es e h.1)
 
-below-insert : (j k : List ℕ) (ms : List Mark) (es : Index) → key_cmp j k ≡ Less → IsBelow j es → IsBelow j (insert_entry key_cmp es k ms)
-below-insert j k ms [] e h = (e, tt)
-below-insert j k ms (f ∷ es) e h = by (key_cmp k f.0) (below-insert j k ms es e h.1)
-  where
-    by : (o : Ordering) → IsBelow j (insert_entry key_cmp es k ms) → IsBelow j (match_ordering o ((k, ms) ∷ f ∷ es) ((f.0, ms) ∷ es) (f ∷ insert_entry key_cmp es k ms))
-    by Less rest = (e, h)
-    by Equal rest = (h.0, h.1)
-    by Greater rest = (h.0, rest)
-
-pub index-insert : (k : List ℕ) (ms : List Mark) → ms ≢ [] → (i : Index) → IsIndex i → IsIndex (insert_entry key_cmp i k ms)
+pub index-insert : (k : List ℕ) (ms : List Rev) → ms ≢ [] → (i : Index) → IsIndex i → IsIndex (insert_entry key_cmp i k ms)
 index-insert k ms n [] h = (n, tt, tt)
 index-insert k ms n (f ∷ es) h = by (key_cmp k f.0) refl (index-insert k ms n es h.2)
   where
     by : (o : Ordering) → key_cmp k f.0 ≡ o → IsIndex (insert_entry key_cmp es k ms) → IsIndex (match_ordering o ((k, ms) ∷ f ∷ es) ((f.0, ms) ∷ es) (f ∷ insert_entry key_cmp es k ms))
     by Less e rest = (n, (e, below-trans k f.0 es e h.1), h)
     by Equal e rest = (n, h.1, h.2)
-    by Greater e rest = (h.0, below-insert f.0 k ms es (less-greater k f.0 e) h.1, rest)
+    by Greater e rest = (h.0, each-insert (λ g. key_cmp f.0 g.0 ≡ Less) k ms (less-greater k f.0 e) (λ j rs l. l) es h.1, rest)
 
-one_there : (m : Mark) → m ∷ [] ≢ []
-one_there m e = cc
+some_there : (m : Rev) (ms : List Rev) → m ∷ ms ≢ []
+some_there m ms e = cc
 
-push_there : (ms : List Mark) (m : Mark) → ms ++ m ∷ [] ≢ []
+push_there : (ms : List Rev) (m : Rev) → ms ++ m ∷ [] ≢ []
 push_there [] m e = cc
 push_there (n ∷ ns) m e = cc
 
-pub index-with_mark : (k : List ℕ) (m : Mark) (i : Index) → IsIndex i → IsIndex (with_mark k m i)
-index-with_mark k m i h = by (found k i)
+pub index-with_revision : (k : List ℕ) (m : Rev) (i : Index) → IsIndex i → IsIndex (with_revision k m i)
+index-with_revision k m i h = by (found k i)
   where
-    by : (o : Option (List Mark)) → IsIndex (added k m o i)
-    by None = index-insert k (m ∷ []) (one_there m) i h
+    by : (o : Option (List Rev)) → IsIndex (added k m o i)
+    by None = index-insert k (m ∷ []) (some_there m []) i h
     by (Some ms) = index-set k (ms ++ m ∷ []) (push_there ms m) i h
-
-pub index-added : {E : Type 0} (k : List ℕ) (m : Mark) (i j : Index) (r : Result (Unit {0}) E) → OnOk r (j ≡ with_mark k m i) → OnErr r (j ≡ i) → IsIndex i → IsIndex j
-index-added k m i j (Ok u) ok err h = subst IsIndex (sym ok) (index-with_mark k m i h)
-index-added k m i j (Err e) ok err h = subst IsIndex (sym err) h
 
 pub on_err : {E : Type 0} (r : Result (Unit {0}) E) (P Q : Type 0) → OnErr r P → (P → Q) → OnErr r Q
 on_err (Ok u) P Q h f = tt
 on_err (Err e) P Q h f = f h
 
-some_there : (m : Mark) (ms : List Mark) → m ∷ ms ≢ []
-some_there m ms e = cc
-
-pub index-with_marks : (k : List ℕ) (ms : List Mark) (i : Index) → IsIndex i → IsIndex (with_marks k ms i)
-index-with_marks k [] i h = index-remove k i h
-index-with_marks k (m ∷ ms) i h = index-set k (m ∷ ms) (some_there m ms) i h
+pub index-with_revisions : (k : List ℕ) (ms : List Rev) (i : Index) → IsIndex i → IsIndex (with_revisions k ms i)
+index-with_revisions k [] i h = index-remove k i h
+index-with_revisions k (m ∷ ms) i h = index-set k (m ∷ ms) (some_there m ms) i h
 
 pub index-retracted : (main : ℕ) (cs : List Version) (i : Index) → IsIndex i → IsIndex (retracted main cs i)
 index-retracted main [] i h = h
-index-retracted main (c ∷ cs) i h = index-retracted main cs (undone_at main c.key i) (index-with_marks c.key (undone main (marks c.key i)) i h)
+index-retracted main (c ∷ cs) i h =
+    index-retracted main cs (undone_at main c.key i) (index-with_revisions c.key (undone main (revisions c.key i)) i h)
 
 -- ---- what the code does is that
 
@@ -124,10 +127,10 @@ remove-absent k (f ∷ es) e = by (has k f.0) e (λ g. remove-absent k es g)
     by true g rest = cc
     by false g rest = ap (λ l. f ∷ l) (rest g)
 
-pub absent-with_marks : (k : List ℕ) (ms : List Mark) (i : Index) → found k i ≡ None → ms ≡ [] → i ≡ with_marks k ms i
-absent-with_marks k ms i e h = sym (ap (λ l. with_marks k l i) h ∙ remove-absent k i e)
+absent-with_revisions : (k : List ℕ) (ms : List Rev) (i : Index) → found k i ≡ None → ms ≡ [] → i ≡ with_revisions k ms i
+absent-with_revisions k ms i e h = sym (ap (λ l. with_revisions k l i) h ∙ remove-absent k i e)
 
-remove-set : (k : List ℕ) (ms : List Mark) (i : Index) → remove_entry (has k) (set_value (has k) i ms) ≡ remove_entry (has k) i
+remove-set : (k : List ℕ) (ms : List Rev) (i : Index) → remove_entry (has k) (set_value (has k) i ms) ≡ remove_entry (has k) i
 remove-set k ms [] = refl
 remove-set k ms (f ∷ es) = by (has k f.0) refl (remove-set k ms es)
   where
@@ -136,13 +139,10 @@ remove-set k ms (f ∷ es) = by (has k f.0) refl (remove-set k ms es)
     by true e rest = ap (λ b. cond b es ((f.0, ms) ∷ remove_entry (has k) es)) e
     by false e rest = ap (λ b. cond b (set_value (has k) es ms) (f ∷ remove_entry (has k) (set_value (has k) es ms))) e ∙ ap (λ l. f ∷ l) rest
 
-pub bare-with_marks : (k : List ℕ) (ms : List Mark) (i : Index) → is_empty ms ≡ true → remove_entry (has k) (set_value (has k) i ms) ≡ with_marks k ms i
-bare-with_marks k [] i e = remove-set k [] i
-bare-with_marks k (m ∷ ms) i e = cc
-
-pub set-with_marks : (k : List ℕ) (ms : List Mark) (i : Index) → is_empty ms ≡ false → set_value (has k) i ms ≡ with_marks k ms i
-set-with_marks k [] i e = cc
-set-with_marks k (m ∷ ms) i e = refl
+bare-with_revisions : (k : List ℕ) (ms : List Rev) (i : Index) → is_empty ms ≡ true
+    → remove_entry (has k) (set_value (has k) i ms) ≡ with_revisions k ms i
+bare-with_revisions k [] i e = remove-set k [] i
+bare-with_revisions k (m ∷ ms) i e = cc
 
 -- ---- what each key has then
 
@@ -158,11 +158,12 @@ apart false b x y z h = refl
 -- two keys that a third is
 not_two : (q k l : List ℕ) → has k l ≡ false → has q l ≡ true → same_key k q ≡ true → ⊥
 not_two q k l h a b =
-    let one : has k l ≡ true = ap (λ j. has j l) (same-eq k q b) ∙ a in
+    let one : has k l ≡ true = ap (λ j. has j l) (same_key-eq k q b) ∙ a in
     let f : true ≡ false = sym one ∙ h in
     cc
 
-found-insert : (k : List ℕ) (v : List Mark) (q : List ℕ) (i : Index) → found q (insert_entry key_cmp i k v) ≡ cond (same_key k q) (Some v) (found q i)
+found-insert : (k : List ℕ) (v : List Rev) (q : List ℕ) (i : Index)
+    → found q (insert_entry key_cmp i k v) ≡ cond (same_key k q) (Some v) (found q i)
 found-insert k v q [] = ap (λ b. cond b (Some v) None) (eq-same q k)
 found-insert k v q (e ∷ es) = by (key_cmp k e.0) refl (found-insert k v q es)
   where
@@ -176,7 +177,8 @@ found-insert k v q (e ∷ es) = by (key_cmp k e.0) refl (found-insert k v q es)
         ∙ ap (λ b. cond (same_key k q) (Some v) (cond b (Some e.1) (found q es))) (sym one)
     by Greater f rest = ap (λ o. cond (has q e.0) (Some e.1) o) rest ∙ apart (has q e.0) (same_key k q) (Some v) (Some e.1) (found q es) (not_two q k e.0 (ap is_eq f))
 
-found-set : (k : List ℕ) (v : List Mark) (q : List ℕ) (i : Index) (w : List Mark) → found k i ≡ Some w → found q (set_value (has k) i v) ≡ cond (same_key k q) (Some v) (found q i)
+found-set : (k : List ℕ) (v : List Rev) (q : List ℕ) (i : Index) (w : List Rev) → found k i ≡ Some w
+    → found q (set_value (has k) i v) ≡ cond (same_key k q) (Some v) (found q i)
 found-set k v q [] w h = cc
 found-set k v q (e ∷ es) w h = by (has k e.0) refl h (found-set k v q es w)
   where
@@ -184,118 +186,114 @@ found-set k v q (e ∷ es) w h = by (has k e.0) refl h (found-set k v q es w)
         → (found k es ≡ Some w → found q (set_value (has k) es v) ≡ cond (same_key k q) (Some v) (found q es))
         → found q (cond b ((e.0, v) ∷ es) (e ∷ set_value (has k) es v)) ≡ cond (same_key k q) (Some v) (cond (has q e.0) (Some e.1) (found q es))
     by true f g rest =
-        let one : has q e.0 ≡ same_key k q = eq-same q e.0 ∙ ap (λ j. same_key j q) (same-eq e.0 k (sym (eq-same k e.0) ∙ f)) in
+        let one : has q e.0 ≡ same_key k q = eq-same q e.0 ∙ ap (λ j. same_key j q) (same_key-eq e.0 k (sym (eq-same k e.0) ∙ f)) in
         ap (λ b. cond b (Some v) (found q es)) one
         ∙ both (same_key k q) (Some v) (Some e.1) (found q es)
         ∙ ap (λ b. cond (same_key k q) (Some v) (cond b (Some e.1) (found q es))) (sym one)
     by false f g rest = ap (λ o. cond (has q e.0) (Some e.1) o) (rest g) ∙ apart (has q e.0) (same_key k q) (Some v) (Some e.1) (found q es) (not_two q k e.0 f)
 
 -- a key below all of them is not among them
-pub below-absent : (k : List ℕ) (es : Index) → IsBelow k es → found k es ≡ None
+below-absent : (k : List ℕ) (es : Index) → IsBelow k es → found k es ≡ None
 below-absent k [] h = refl
 below-absent k (e ∷ es) h = ap (λ b. cond b (Some e.1) (found k es)) (ap is_eq h.0) ∙ below-absent k es h.1
 
 found-remove : (k q : List ℕ) (i : Index) → IsIndex i → found q (remove_entry (has k) i) ≡ cond (same_key k q) None (found q i)
 found-remove k q [] h = by (same_key k q)
   where
-    by : (b : Bool) → let none : Option (List Mark) = None in none ≡ cond b None None
+    by : (b : Bool) → let none : Option (List Rev) = None in none ≡ cond b None None
     by true = refl
     by false = refl
 found-remove k q (e ∷ es) h = by (has k e.0) refl (found-remove k q es h.2)
   where
     here : (b : Bool) → same_key k q ≡ b → e.0 ≡ k → found q es ≡ cond b None (cond b (Some e.1) (found q es))
-    here true f g = ap (λ j. found j es) (sym (g ∙ same-eq k q f)) ∙ below-absent e.0 es h.1
+    here true f g = ap (λ j. found j es) (sym (g ∙ same_key-eq k q f)) ∙ below-absent e.0 es h.1
     here false f g = refl
 
     by : (b : Bool) → has k e.0 ≡ b → found q (remove_entry (has k) es) ≡ cond (same_key k q) None (found q es)
         → found q (cond b es (e ∷ remove_entry (has k) es)) ≡ cond (same_key k q) None (cond (has q e.0) (Some e.1) (found q es))
     by true f rest =
-        let same : e.0 ≡ k = same-eq e.0 k (sym (eq-same k e.0) ∙ f) in
+        let same : e.0 ≡ k = same_key-eq e.0 k (sym (eq-same k e.0) ∙ f) in
         let one : has q e.0 ≡ same_key k q = eq-same q e.0 ∙ ap (λ j. same_key j q) same in
         here (same_key k q) refl same ∙ ap (λ b. cond (same_key k q) None (cond b (Some e.1) (found q es))) (sym one)
     by false f rest = ap (λ o. cond (has q e.0) (Some e.1) o) rest ∙ apart (has q e.0) (same_key k q) None (Some e.1) (found q es) (not_two q k e.0 f)
 
-pub marks-with_mark : (k : List ℕ) (m : Mark) (i : Index) (q : List ℕ) → marks q (with_mark k m i) ≡ cond (same_key k q) (marks q i ++ m ∷ []) (marks q i)
-marks-with_mark k m i q = by (found k i) refl
+pub revisions-with_revision : (k : List ℕ) (m : Rev) (i : Index) (q : List ℕ)
+    → revisions q (with_revision k m i) ≡ cond (same_key k q) (revisions q i ++ m ∷ []) (revisions q i)
+revisions-with_revision k m i q = by (found k i) refl
   where
-    spread : (b : Bool) (v : List Mark) → (b ≡ true → v ≡ marks q i ++ m ∷ []) → unwrap_or (cond b (Some v) (found q i)) [] ≡ cond b (marks q i ++ m ∷ []) (marks q i)
+    spread : (b : Bool) (v : List Rev) → (b ≡ true → v ≡ revisions q i ++ m ∷ [])
+        → unwrap_or (cond b (Some v) (found q i)) [] ≡ cond b (revisions q i ++ m ∷ []) (revisions q i)
     spread true v h = h refl
     spread false v h = refl
 
-    by : (o : Option (List Mark)) → found k i ≡ o → marks q (added k m o i) ≡ cond (same_key k q) (marks q i ++ m ∷ []) (marks q i)
+    by : (o : Option (List Rev)) → found k i ≡ o
+        → revisions q (added k m o i) ≡ cond (same_key k q) (revisions q i ++ m ∷ []) (revisions q i)
     by None e = ap (λ o. unwrap_or o []) (found-insert k (m ∷ []) q i)
-        ∙ spread (same_key k q) (m ∷ []) (λ s. sym (ap (λ o. unwrap_or o [] ++ m ∷ []) (ap (λ j. found j i) (sym (same-eq k q s)) ∙ e)))
+        ∙ spread (same_key k q) (m ∷ []) (λ s. sym (ap (λ o. unwrap_or o [] ++ m ∷ []) (ap (λ j. found j i) (sym (same_key-eq k q s)) ∙ e)))
     by (Some ms) e = ap (λ o. unwrap_or o []) (found-set k (ms ++ m ∷ []) q i ms e)
-        ∙ spread (same_key k q) (ms ++ m ∷ []) (λ s. sym (ap (λ o. unwrap_or o [] ++ m ∷ []) (ap (λ j. found j i) (sym (same-eq k q s)) ∙ e)))
+        ∙ spread (same_key k q) (ms ++ m ∷ [])
+        (λ s. sym (ap (λ o. unwrap_or o [] ++ m ∷ []) (ap (λ j. found j i) (sym (same_key-eq k q s)) ∙ e)))
 
-pub marks-with_marks : (k : List ℕ) (ms : List Mark) (i : Index) → IsIndex i → (found k i ≡ None → ms ≡ []) → (q : List ℕ) → marks q (with_marks k ms i) ≡ cond (same_key k q) ms (marks q i)
-marks-with_marks k [] i h a q = ap (λ o. unwrap_or o []) (found-remove k q i h) ∙ spread (same_key k q)
+pub revisions-with_revisions : (k : List ℕ) (ms : List Rev) (i : Index) → IsIndex i → (found k i ≡ None → ms ≡ []) → (q : List ℕ)
+    → revisions q (with_revisions k ms i) ≡ cond (same_key k q) ms (revisions q i)
+revisions-with_revisions k [] i h a q = ap (λ o. unwrap_or o []) (found-remove k q i h) ∙ spread (same_key k q)
   where
-    spread : (b : Bool) → unwrap_or (cond b None (found q i)) [] ≡ cond b [] (marks q i)
+    spread : (b : Bool) → unwrap_or (cond b None (found q i)) [] ≡ cond b [] (revisions q i)
     spread true = refl
     spread false = refl
-marks-with_marks k (m ∷ ms) i h a q = by (found k i) refl
+revisions-with_revisions k (m ∷ ms) i h a q = by (found k i) refl
   where
-    spread : (b : Bool) → unwrap_or (cond b (Some (m ∷ ms)) (found q i)) [] ≡ cond b (m ∷ ms) (marks q i)
+    spread : (b : Bool) → unwrap_or (cond b (Some (m ∷ ms)) (found q i)) [] ≡ cond b (m ∷ ms) (revisions q i)
     spread true = refl
     spread false = refl
 
-    by : (o : Option (List Mark)) → found k i ≡ o → marks q (set_value (has k) i (m ∷ ms)) ≡ cond (same_key k q) (m ∷ ms) (marks q i)
+    by : (o : Option (List Rev)) → found k i ≡ o → revisions q (set_value (has k) i (m ∷ ms)) ≡ cond (same_key k q) (m ∷ ms) (revisions q i)
     by None e = absurd (some_there m ms (a e))
     by (Some w) e = ap (λ o. unwrap_or o []) (found-set k (m ∷ ms) q i w e) ∙ spread (same_key k q)
 
-pub absent-front : (k : List ℕ) (i : Index) → found k i ≡ None → drop 1 (marks k i) ≡ []
-absent-front k i e = ap (λ o. drop 1 (unwrap_or o [])) e
+-- ---- other revisions for a key, a function of those that it has
 
-pub absent-without : (p : Rev) (k : List ℕ) (i : Index) → found k i ≡ None → without p (marks k i) ≡ []
-absent-without p k i e = ap (λ o. without p (unwrap_or o [])) e
+module _ (f : List Rev → List Rev) (nothing : f [] ≡ []) (k : List ℕ) (i : Index) where
+  -- a key that is not there changes nothing
+  pub absent-changed : found k i ≡ None → i ≡ with_revisions k (f (revisions k i)) i
+  absent-changed e = absent-with_revisions k (f (revisions k i)) i e (ap (λ o. f (unwrap_or o [])) e ∙ nothing)
 
-pub absent-undone : (main : ℕ) (k : List ℕ) (i : Index) → found k i ≡ None → undone main (marks k i) ≡ []
-absent-undone main k i e = ap (λ o. undone main (unwrap_or o [])) e
+  -- and one that has no revision left goes
+  pub bare-changed : (old new : List Rev) (set gone : Index) → Some old ≡ found k i → new ≡ f old → is_empty new ≡ true
+      → set ≡ set_value (has k) i new → gone ≡ remove_entry (has k) set → gone ≡ with_revisions k (f (revisions k i)) i
+  bare-changed old new set gone has_old is none e g =
+      g ∙ ap (remove_entry (has k)) e ∙ bare-with_revisions k new i none
+      ∙ ap (λ qs. with_revisions k qs i) (is ∙ ap (λ o. f (unwrap_or o [])) has_old)
 
-pub marks-without_front : (k : List ℕ) (i : Index) → IsIndex i → (q : List ℕ) → marks q (without_front k i) ≡ cond (same_key k q) (drop 1 (marks q i)) (marks q i)
-marks-without_front k i h q = marks-with_marks k (drop 1 (marks k i)) i h (absent-front k i) q ∙ by (same_key k q) refl
-  where
-    by : (b : Bool) → same_key k q ≡ b → cond b (drop 1 (marks k i)) (marks q i) ≡ cond b (drop 1 (marks q i)) (marks q i)
-    by true e = ap (λ j. drop 1 (marks j i)) (same-eq k q e)
-    by false e = refl
-
-pub marks-without_mark : (p : Rev) (k : List ℕ) (i : Index) → IsIndex i → (q : List ℕ) → marks q (without_mark k p i) ≡ cond (same_key k q) (without p (marks q i)) (marks q i)
-marks-without_mark p k i h q = marks-with_marks k (without p (marks k i)) i h (absent-without p k i) q ∙ by (same_key k q) refl
-  where
-    by : (b : Bool) → same_key k q ≡ b → cond b (without p (marks k i)) (marks q i) ≡ cond b (without p (marks q i)) (marks q i)
-    by true e = ap (λ j. without p (marks j i)) (same-eq k q e)
-    by false e = refl
-
-marks-undone_at : (main : ℕ) (k : List ℕ) (i : Index) → IsIndex i → (q : List ℕ) → marks q (undone_at main k i) ≡ cond (same_key k q) (undone main (marks q i)) (marks q i)
-marks-undone_at main k i h q = marks-with_marks k (undone main (marks k i)) i h (absent-undone main k i) q ∙ by (same_key k q) refl
-  where
-    by : (b : Bool) → same_key k q ≡ b → cond b (undone main (marks k i)) (marks q i) ≡ cond b (undone main (marks q i)) (marks q i)
-    by true e = ap (λ j. undone main (marks j i)) (same-eq k q e)
-    by false e = refl
+  pub revisions-changed : IsIndex i → (q : List ℕ)
+      → revisions q (with_revisions k (f (revisions k i)) i) ≡ cond (same_key k q) (f (revisions q i)) (revisions q i)
+  revisions-changed h q =
+      revisions-with_revisions k (f (revisions k i)) i h (λ e. ap (λ o. f (unwrap_or o [])) e ∙ nothing) q ∙ by (same_key k q) refl
+    where
+      by : (b : Bool) → same_key k q ≡ b → cond b (f (revisions k i)) (revisions q i) ≡ cond b (f (revisions q i)) (revisions q i)
+      by true e = ap (λ j. f (revisions j i)) (same_key-eq k q e)
+      by false e = refl
 
 -- a change among these is of the key
 abbrev pub changes_key : List ℕ → List Version → Bool
 changes_key q cs = list_any (λ c. same_key c.key q) cs
 
-pub marks-retracted : (main : ℕ) (cs : List Version) (i : Index) → IsIndex i → (q : List ℕ) → marks q (retracted main cs i) ≡ cond (changes_key q cs) (undone main (marks q i)) (marks q i)
-marks-retracted main [] i h q = refl
-marks-retracted main (c ∷ cs) i h q =
-    marks-retracted main cs (undone_at main c.key i) (index-with_marks c.key (undone main (marks c.key i)) i h) q
-    ∙ ap (λ ms. cond (changes_key q cs) (undone main ms) ms) (marks-undone_at main c.key i h q)
+pub revisions-retracted : (main : ℕ) (cs : List Version) (i : Index) → IsIndex i → (q : List ℕ)
+    → revisions q (retracted main cs i) ≡ cond (changes_key q cs) (undone main (revisions q i)) (revisions q i)
+revisions-retracted main [] i h q = refl
+revisions-retracted main (c ∷ cs) i h q =
+    revisions-retracted main cs (undone_at main c.key i) (index-with_revisions c.key (undone main (revisions c.key i)) i h) q
+    ∙ ap (λ ms. cond (changes_key q cs) (undone main ms) ms) (revisions-changed (undone main) refl c.key i h q)
     ∙ by (changes_key q cs) (same_key c.key q)
   where
-    by : (a b : Bool) → cond a (undone main (cond b (undone main (marks q i)) (marks q i))) (cond b (undone main (marks q i)) (marks q i)) ≡ cond (b || a) (undone main (marks q i)) (marks q i)
-    by true true = undone-undone main (marks q i)
+    by : (a b : Bool) → cond a (undone main (cond b (undone main (revisions q i)) (revisions q i)))
+        (cond b (undone main (revisions q i)) (revisions q i)) ≡ cond (b || a) (undone main (revisions q i)) (revisions q i)
+    by true true = undone-undone main (revisions q i)
     by true false = refl
     by false true = refl
     by false false = refl
 
--- ---- a test in the place of an equal one
-
-pub filter-same : {X : Type 0} (t u : X → Bool) → ((x : X) → t x ≡ u x) → (xs : List X) → filter t xs ≡ filter u xs
-filter-same t u h [] = refl
-filter-same t u h (x ∷ xs) = ap (λ b. cond b (x ∷ filter t xs) (filter t xs)) (h x) ∙ ap (λ l. cond (u x) (x ∷ l) l) (filter-same t u h xs)
+-- ---- each element as it is
 
 pub map-same : {X : Type 0} (xs : List X) → map (λ (x : X). x) xs ≡ xs
 map-same [] = refl

@@ -3,23 +3,11 @@ use Rattle.std.proofs.Common.{◌≡◌, ℕ, List, Bool, true, false, not, ◌&
 use Rattle.std.specs.declared.cmp.Ordering.{Ordering}
 use Rattle.std.specs.declared.cmp.Ordering.TheVariants.{Less, Equal, Greater}
 use Rattle.std.specs.Ordering.{ordering_reverse, is_eq, is_lt, is_le, is_gt}
-use Rattle.std.specs.Cmp.Lexicographic.{bytes_decides, nat_list_cmp_total}
+use Rattle.std.specs.Cmp.Lexicographic.{nat_list_cmp_total}
 use Rattle.std.proofs.lemmas.Map.Lookups.{exact_bytes}
 use Rattle.kv_model.specs.Keys.{key_cmp, key_lt, key_le, same_key}
-
-pub same-refl : (k : List ℕ) → same_key k k ≡ true
-same-refl k = (bytes_decides k k).1 refl
-
-pub same-eq : (k l : List ℕ) → same_key k l ≡ true → k ≡ l
-same-eq k l h = (bytes_decides k l).0 h
-
-pub cmp-refl : (k : List ℕ) → key_cmp k k ≡ Equal
-cmp-refl k = by (key_cmp k k) (nat_list_cmp_total.antisymm k k)
-  where
-    by : (o : Ordering) → o ≡ ordering_reverse o → o ≡ Equal
-    by Less e = cc
-    by Equal e = refl
-    by Greater e = cc
+use Rattle.store_laws.proofs.HistoryLaws.{same_key-eq}
+use Rattle.store_laws.proofs.KeyLaws.{same-refl, cmp-refl}
 
 pub less-greater : (k l : List ℕ) → key_cmp k l ≡ Greater → key_cmp l k ≡ Less
 less-greater k l e = nat_list_cmp_total.antisymm l k ∙ ap ordering_reverse e
@@ -34,7 +22,7 @@ eq-same q k = by (same_key k q) refl
     no Greater e h = refl
 
     by : (b : Bool) → same_key k q ≡ b → is_eq (key_cmp q k) ≡ b
-    by true e = ap (λ l. is_eq (key_cmp q l)) (same-eq k q e) ∙ ap is_eq (cmp-refl q)
+    by true e = ap (λ l. is_eq (key_cmp q l)) (same_key-eq k q e) ∙ ap is_eq (cmp-refl q)
     by false e = no (key_cmp q k) refl e
 
 -- ---- bounds

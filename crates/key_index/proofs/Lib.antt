@@ -1,5 +1,4 @@
-pub mod RevOrder
-pub mod Marks
+pub mod KeyRevisions
 pub mod Keys
 pub mod Entries
 pub mod Bounds

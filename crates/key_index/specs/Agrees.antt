@@ -1,32 +1,22 @@
 -- When an index is that of a list of versions, and what a read by it finds.
-use Rattle.std.specs.Prelude.{◌≡◌, ℕ, List, map, filter, Bool, true, false, Option, Some, option_and_then}
+use Rattle.std.specs.Prelude.{◌≡◌, ℕ, List, map, filter, Option, Some, option_and_then}
 use Rattle.std.specs.List.{find}
 use Rattle.kv_model.specs.declared.version.Rev.{Rev}
 use Rattle.kv_model.specs.declared.version.Version.{Version}
-use Rattle.kv_model.specs.declared.version.Body.{Body}
-use Rattle.kv_model.specs.declared.version.Body.TheVariants.{Put, Gone}
 use Rattle.kv_model.specs.Keys.{same_key}
 use Rattle.kv_model.specs.History.{KeyValue, latest, key_value}
 use Rattle.kv_model.specs.Kept.{is_at}
-use Rattle.key_index.specs.declared.revisions.Mark.{Mark}
-use Rattle.key_index.specs.Marks.{at_place}
-use Rattle.key_index.specs.Index.{Index, IsIndex, marks}
-
-abbrev pub is_gone : Body → Bool
-is_gone (Put create version lease value) = false
-is_gone Gone = true
-
-abbrev pub mark_of : Version → Mark
-mark_of v = record { rev = v.rev; gone = is_gone v.body }
+use Rattle.key_index.specs.KeyRevisions.{at_place}
+use Rattle.key_index.specs.Index.{Index, IsIndex, revisions}
 
 -- the revisions of a key's versions, in their order
-abbrev pub marks_of : List ℕ → List Version → List Mark
-marks_of k vs = map mark_of (filter (λ v. same_key v.key k) vs)
+abbrev pub revisions_of : List ℕ → List Version → List Rev
+revisions_of k vs = map (λ (v : Version). v.rev) (filter (λ v. same_key v.key k) vs)
 
 -- the index has just the revisions of the versions
 pub record Agrees (i : Index) (vs : List Version) : Type 0 where
   pub sound : IsIndex i
-  pub each : (k : List ℕ) → marks k i ≡ marks_of k vs
+  pub each : (k : List ℕ) → revisions k i ≡ revisions_of k vs
 
 -- the last version of a key at a place is the one found by its revision, as where versions rise
 abbrev pub FindsLatest : List Version → Type 0
@@ -37,5 +27,5 @@ abbrev pub read_at : List Version → Rev → Option KeyValue
 read_at vs r = option_and_then key_value (find (is_at r) vs)
 
 -- what a key of the index holds at a place, by the version at its revision
-abbrev pub read_entry : List Version → Rev → List ℕ × List Mark → Option KeyValue
+abbrev pub read_entry : List Version → Rev → List ℕ × List Rev → Option KeyValue
 read_entry vs p e = option_and_then (read_at vs) (at_place p e.1)

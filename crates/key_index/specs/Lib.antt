@@ -1,4 +1,4 @@
-pub mod Marks
+pub mod KeyRevisions
 pub mod Index
 pub mod Agrees
 pub mod Lent

@@ -1,9 +1,10 @@
 //! Changes of the map from each key to its revisions. A key without revisions does not stay in it.
 ghost use Rattle.std.specs.Prelude.{◌≡◌, OnOk, OnErr};
-ghost use Rattle.key_index.specs.Marks.{IsBehind};
-ghost use Rattle.key_index.specs.Index.{marks, undone_at, with_mark, without_front, without_mark};
+ghost use Rattle.key_index.specs.KeyRevisions.{IsBehind};
+ghost use Rattle.key_index.specs.Index.{revisions, undone_at};
+ghost use Rattle.key_index.specs.Index.{with_revision, without_front, without_revision};
 
-use crate::revisions::{Mark, Revisions};
+use crate::revisions::Revisions;
 use bytes::Bytes;
 use kv_model::version::Rev;
 use std::alloc::{AllocError, Global};
@@ -14,16 +15,16 @@ pub(crate) fn add(
     alloc: Global,
     keys: &mut BTreeMap<Bytes, Revisions>,
     key: &Bytes,
-    mark: Mark,
+    rev: Rev,
 ) -> Result<(), AllocError>
-    requires { IsBehind mark.rev (marks key.now keys.old.entries) }
-    ensures ok { OnOk result (keys.new.entries ≡ with_mark key.now mark keys.old.entries) }
+    requires { IsBehind rev (revisions key.now keys.old.entries) }
+    ensures ok { OnOk result (keys.new.entries ≡ with_revision key.now rev keys.old.entries) }
     ensures err { OnErr result (keys.new.entries ≡ keys.old.entries) }
 {
     if let Some(revisions) = keys.get_mut(key) {
-        return revisions.push(alloc, mark);
+        return revisions.push(alloc, rev);
     }
-    keys.insert(key.clone()?, Revisions::one(mark))?;
+    keys.insert(key.clone()?, Revisions::one(rev))?;
     Ok(())
 }
 
@@ -55,7 +56,7 @@ pub(crate) fn drop_front(keys: &mut BTreeMap<Bytes, Revisions>, key: &Bytes)
 
 /// Drops a revision of a key.
 pub(crate) fn drop_at(keys: &mut BTreeMap<Bytes, Revisions>, key: &Bytes, rev: Rev)
-    ensures { keys.new.entries ≡ without_mark key.now rev keys.old.entries }
+    ensures { keys.new.entries ≡ without_revision key.now rev keys.old.entries }
 {
     let Some(revisions) = keys.get_mut(key) else {
         return;

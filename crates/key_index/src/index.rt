@@ -1,11 +1,13 @@
 //! From each key to its revisions (etcd: the tree index of keys).
-ghost use Rattle.std.specs.Prelude.{◌≡◌, ◌↔◌, List, [], ◌∷◌, ◌++◌, map, OnOk, OnErr, IfOk, IsTrue, Some, None, true, false};
-ghost use Rattle.key_index.specs.Marks.{IsBehind, after_place, at_place, undone};
-ghost use Rattle.key_index.specs.Index.{IsIndex, in_interval, is_up_to, marks, retracted, retracted_newest, undone_at, with_mark, without_front, without_mark};
+ghost use Rattle.std.specs.Prelude.{◌≡◌, ◌↔◌, [], map, OnOk, OnErr, IfOk, IsTrue};
+ghost use Rattle.key_index.specs.KeyRevisions.{IsBehind, after_place, at_place};
+ghost use Rattle.key_index.specs.Index.{IsIndex, in_interval, is_up_to, revisions};
+ghost use Rattle.key_index.specs.Index.{retracted, retracted_newest, undone_at};
+ghost use Rattle.key_index.specs.Index.{with_revision, without_front, without_revision};
 
 use crate::changes;
 use crate::interval::bounds;
-use crate::revisions::{Mark, Revisions};
+use crate::revisions::Revisions;
 use bytes::Bytes;
 use kv_model::version::{KeyRange, Rev, Version};
 use std::alloc::{AllocError, Global};
@@ -52,10 +54,10 @@ impl KeyIndex {
         }
     }
 
-    /// Whether `put` and `gone` take a revision of a key: it is above each one that the key has. Takes no memory, and
-    /// time logarithmic in the number of keys.
+    /// Whether `put` and `gone` take a revision of a key: it is above each one that the key has.
+    /// Takes no memory, and time logarithmic in the number of keys.
     pub fn takes(&self, key: &Bytes, rev: Rev) -> bool
-        ensures { IsTrue result ↔ IsBehind rev (marks key.now self.now) }
+        ensures { IsTrue result ↔ IsBehind rev (revisions key.now self.now) }
     {
         match self.keys.get(key) {
             Some(revisions) => revisions.takes(rev),
@@ -63,46 +65,42 @@ impl KeyIndex {
         }
     }
 
-    /// Adds a put of a key. Its revision is above each one that the key has.
+    /// Adds the revision of a put of a key. It is above each one that the key has.
     ///
-    /// The error is want of memory, and the index is then as it was. The time is logarithmic in the number of keys.
+    /// The error is want of memory, and the index is then as it was. The time is logarithmic in the
+    /// number of keys.
     pub fn put(&mut self, key: &Bytes, rev: Rev) -> Result<(), AllocError>
-        requires { IsBehind rev (marks key.now self.old) }
-        ensures ok { OnOk result (self.new ≡ with_mark key.now (record { rev = rev; gone = false }) self.old) }
+        requires { IsBehind rev (revisions key.now self.old) }
+        ensures ok { OnOk result (self.new ≡ with_revision key.now rev self.old) }
         ensures err { OnErr result (self.new ≡ self.old) }
     {
-        self.add(key, Mark { rev, gone: false })
-    }
-
-    /// Adds a tombstone of a key. Its revision is above each one that the key has.
-    ///
-    /// The error is want of memory, and the index is then as it was. The time is logarithmic in the number of keys.
-    pub fn gone(&mut self, key: &Bytes, rev: Rev) -> Result<(), AllocError>
-        requires { IsBehind rev (marks key.now self.old) }
-        ensures ok { OnOk result (self.new ≡ with_mark key.now (record { rev = rev; gone = true }) self.old) }
-        ensures err { OnErr result (self.new ≡ self.old) }
-    {
-        self.add(key, Mark { rev, gone: true })
-    }
-
-    /// Adds a revision of a key.
-    fn add(&mut self, key: &Bytes, mark: Mark) -> Result<(), AllocError>
-        requires { IsBehind mark.rev (marks key.now self.old) }
-        ensures ok { OnOk result (self.new ≡ with_mark key.now mark self.old) }
-        ensures err { OnErr result (self.new ≡ self.old) }
-    {
-        changes::add(self.alloc, &mut self.keys, key, mark)?;
-        self.newest = self.newest.max(mark.rev.main);
+        changes::add(self.alloc, &mut self.keys, key, rev)?;
+        self.newest = self.newest.max(rev.main);
         Ok(())
     }
 
-    /// Takes a main revision back, where no later one is there, and else changes nothing: for each of the changes, drops
-    /// what its key has of that revision at the end. With the changes of the newest main revision nothing of it is left;
-    /// a main revision that is not there leaves all as it is. Takes no memory.
+    /// Adds the revision of a tombstone of a key. It is above each one that the key has. Which of
+    /// its revisions are tombstones the versions say, and not the index.
     ///
-    /// The time is logarithmic in the number of keys for each change. Where a later revision was ever added, which need
-    /// not be there any more, it is linear in the number of keys too: they are walked until one has a later revision.
-    /// The store makes no such call, for it takes back just what it added last.
+    /// The error is want of memory, and the index is then as it was. The time is logarithmic in the
+    /// number of keys.
+    pub fn gone(&mut self, key: &Bytes, rev: Rev) -> Result<(), AllocError>
+        requires { IsBehind rev (revisions key.now self.old) }
+        ensures ok { OnOk result (self.new ≡ with_revision key.now rev self.old) }
+        ensures err { OnErr result (self.new ≡ self.old) }
+    {
+        self.put(key, rev)
+    }
+
+    /// Takes a main revision back, where no later one is there, and else changes nothing: for each
+    /// of the changes, drops what its key has of that revision at the end. With the changes of the
+    /// newest main revision nothing of it is left; a main revision that is not there leaves all as
+    /// it is. Takes no memory.
+    ///
+    /// The time is logarithmic in the number of keys for each change. Where a later revision was
+    /// ever added, which need not be there any more, it is linear in the number of keys too: they
+    /// are walked until one has a later revision. The store makes no such call, for it takes back
+    /// just what it added last.
     pub fn retract(&mut self, main: u64, changes: &[Version])
         ensures { self.new ≡ retracted_newest main changes.now self.old }
     {
@@ -128,8 +126,8 @@ impl KeyIndex {
         changes::undo(&mut self.keys, main, key);
     }
 
-    /// Drops the oldest revision of a key, and nothing where it has none. Takes no memory, and time logarithmic in the
-    /// number of keys.
+    /// Drops the oldest revision of a key, and nothing where it has none. Takes no memory, and time
+    /// logarithmic in the number of keys.
     pub fn drop_front(&mut self, key: &Bytes)
         ensures { self.new ≡ without_front key.now self.old }
     {
@@ -138,10 +136,10 @@ impl KeyIndex {
 
     /// Takes out a revision of a key, and nothing where the key has it not. Takes no memory.
     ///
-    /// The time is logarithmic in the number of keys where it is the oldest revision of the key, and else linear in that of
-    /// the key's revisions too.
+    /// The time is logarithmic in the number of keys where it is the oldest revision of the key,
+    /// and else linear in that of the key's revisions too.
     pub fn remove(&mut self, key: &Bytes, rev: Rev)
-        ensures { self.new ≡ without_mark key.now rev self.old }
+        ensures { self.new ≡ without_revision key.now rev self.old }
     {
         changes::drop_at(&mut self.keys, key, rev);
     }
@@ -150,7 +148,7 @@ impl KeyIndex {
     ///
     /// The time is logarithmic in the number of keys and in that of the key's revisions.
     pub fn after(&self, key: &Bytes, place: Rev) -> Option<Rev>
-        ensures { result ≡ after_place place (marks key.now self.now) }
+        ensures { result ≡ after_place place (revisions key.now self.now) }
     {
         match self.keys.get(key) {
             Some(revisions) => revisions.after(place),
@@ -158,11 +156,12 @@ impl KeyIndex {
         }
     }
 
-    /// The last revision of a key that is not after a place, also where it is a tombstone. Takes no memory.
+    /// The last revision of a key that is not after a place, also where it is a tombstone. Takes no
+    /// memory.
     ///
     /// The time is logarithmic in the number of keys and in that of the key's revisions.
     pub fn at(&self, key: &Bytes, place: Rev) -> Option<Rev>
-        ensures { result ≡ at_place place (marks key.now self.now) }
+        ensures { result ≡ at_place place (revisions key.now self.now) }
     {
         match self.keys.get(key) {
             Some(revisions) => revisions.at(place),
@@ -170,10 +169,11 @@ impl KeyIndex {
         }
     }
 
-    /// The keys of a range, ascending, each with its revisions (etcd: key ranges of a RangeRequest).
+    /// The keys of a range, ascending, each with its revisions (etcd: key ranges of a
+    /// RangeRequest).
     ///
-    /// The error is want of memory. The time is logarithmic in the number of keys, and linear in that of the keys of
-    /// the range: no other key is walked.
+    /// The error is want of memory. The time is logarithmic in the number of keys, and linear in
+    /// that of the keys of the range: no other key is walked.
     pub fn keys_in(&self, range: &KeyRange) -> Result<Vec<Indexed<'_>>, AllocError>
         ensures keys { IfOk result (λ v. map entry_of v.items ≡ in_interval range.now self.now) }
         ensures sound { IsIndex self.now }

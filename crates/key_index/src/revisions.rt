@@ -1,25 +1,19 @@
 //! The revisions of one key, in order (etcd: data model, generations of a key).
-ghost use Rattle.std.specs.Prelude.{◌≡◌, ◌↔◌, List, [], ◌∷◌, ◌++◌, ◌<◌, ◌≤◌, length, drop, option_map, IfOk, OnOk, OnErr, IsTrue, Some, None};
+ghost use Rattle.std.specs.Prelude.{◌≡◌, ◌↔◌, List, [], ◌∷◌, ◌++◌, drop};
+ghost use Rattle.std.specs.Prelude.{IfOk, OnOk, OnErr, IsTrue};
 ghost use Rattle.std.specs.List.{slice_get};
 ghost use Rattle.kv_model.specs.Lists.{is_empty};
 ghost use Rattle.kv_model.specs.History.{rev_lt, rev_le};
-ghost use Rattle.key_index.specs.Marks.{IsBehind, IsRising, after_place, at_place, count_up_to, ends_in, ends_up_to, is_oldest, is_rev, newest, rev_of, undone, without};
+ghost use Rattle.key_index.specs.KeyRevisions.{IsBehind, IsRising, after_place, at_place};
+ghost use Rattle.key_index.specs.KeyRevisions.{count_up_to, ends_in, ends_up_to, is_oldest};
+ghost use Rattle.key_index.specs.KeyRevisions.{is_rev, newest, undone, without};
 
 use kv_model::version::Rev;
 use std::alloc::{AllocError, Global};
 use std::collections::VecDeque;
 use std::marker::Model;
 
-/// A revision of a key: a put, or a tombstone. The put after a tombstone, or the first one, begins a generation of
-/// the key, which goes to the next tombstone.
-#[derive(Clone, Copy, Debug)]
-pub struct Mark {
-    pub rev: Rev,
-    /// Whether the revision is a tombstone.
-    pub gone: bool,
-}
-
-/// The revisions of a key, rising.
+/// The revisions of a key, rising: those of its puts and of its tombstones.
 #[derive(Debug, Drop)]
 pub struct Revisions {
     held: Held,
@@ -29,30 +23,30 @@ pub struct Revisions {
 #[derive(Debug, Drop)]
 enum Held {
     Nothing,
-    One(Mark),
-    Many(VecDeque<Mark>),
+    One(Rev),
+    Many(VecDeque<Rev>),
 }
 
 impl Model for Revisions {
     ghost use Rattle.std.specs.Prelude.{List};
-    ghost use Rattle.key_index.specs.declared.revisions.Mark.{Mark};
-    ghost use Rattle.key_index.specs.Held.{marks_in};
-    ghost use Rattle.key_index.specs.Marks.{IsRising};
+    ghost use Rattle.kv_model.specs.declared.version.Rev.{Rev};
+    ghost use Rattle.key_index.specs.Held.{revisions_in};
+    ghost use Rattle.key_index.specs.KeyRevisions.{IsRising};
 
-    ghost Value = { List Mark };
+    ghost Value = { List Rev };
 
-    ghost view = { λ r. marks_in r.held };
+    ghost view = { λ r. revisions_in r.held };
 
-    ghost invariant = { λ r. IsRising (marks_in r.held) };
+    ghost invariant = { λ r. IsRising (revisions_in r.held) };
 }
 
 impl Revisions {
     /// One revision. Takes no memory.
-    pub(crate) fn one(mark: Mark) -> Self
-        ensures { result ≡ mark ∷ [] }
+    pub(crate) fn one(rev: Rev) -> Self
+        ensures { result ≡ rev ∷ [] }
     {
         Revisions {
-            held: Held::One(mark),
+            held: Held::One(rev),
         }
     }
 
@@ -63,26 +57,27 @@ impl Revisions {
         match &self.held {
             Held::Nothing => true,
             Held::One(_) => false,
-            Held::Many(marks) => marks.is_empty(),
+            Held::Many(revisions) => revisions.is_empty(),
         }
     }
 
     /// The last revision that is not after a place, also where it is a tombstone. Takes no memory.
     ///
-    /// Constant time where that is the newest, and else, by halving, logarithmic in the number of the key's revisions.
+    /// Constant time where that is the newest, and else, by halving, logarithmic in the number of
+    /// the key's revisions.
     pub fn at(&self, place: Rev) -> Option<Rev>
         ensures { result ≡ at_place place self.now }
     {
         match &self.held {
             Held::Nothing => None,
-            Held::One(mark) => {
-                if is_up_to(mark.rev, place) {
-                    Some(mark.rev)
+            Held::One(only) => {
+                if is_up_to(*only, place) {
+                    Some(*only)
                 } else {
                     None
                 }
             }
-            Held::Many(marks) => at(marks, place),
+            Held::Many(revisions) => at(revisions, place),
         }
     }
 
@@ -94,14 +89,14 @@ impl Revisions {
     {
         match &self.held {
             Held::Nothing => None,
-            Held::One(mark) => {
-                if is_before(place, mark.rev) {
-                    Some(mark.rev)
+            Held::One(only) => {
+                if is_before(place, *only) {
+                    Some(*only)
                 } else {
                     None
                 }
             }
-            Held::Many(marks) => after(marks, place),
+            Held::Many(revisions) => after(revisions, place),
         }
     }
 
@@ -111,8 +106,8 @@ impl Revisions {
     {
         match &self.held {
             Held::Nothing => true,
-            Held::One(mark) => is_before(mark.rev, rev),
-            Held::Many(marks) => takes(marks, rev),
+            Held::One(only) => is_before(*only, rev),
+            Held::Many(revisions) => takes(revisions, rev),
         }
     }
 
@@ -122,27 +117,27 @@ impl Revisions {
     {
         match &self.held {
             Held::Nothing => true,
-            Held::One(mark) => mark.rev.main <= main,
-            Held::Many(marks) => ends_up_to(marks, main),
+            Held::One(only) => only.main <= main,
+            Held::Many(revisions) => ends_up_to(revisions, main),
         }
     }
 
     /// Adds a revision at the end. The second one takes a list.
-    pub(crate) fn push(&mut self, alloc: Global, mark: Mark) -> Result<(), AllocError>
-        requires { IsBehind mark.rev self.old }
-        ensures ok { OnOk result (self.new ≡ self.old ++ mark ∷ []) }
+    pub(crate) fn push(&mut self, alloc: Global, rev: Rev) -> Result<(), AllocError>
+        requires { IsBehind rev self.old }
+        ensures ok { OnOk result (self.new ≡ self.old ++ rev ∷ []) }
         ensures err { OnErr result (self.new ≡ self.old) }
     {
         match &mut self.held {
             Held::Nothing => {
-                self.held = Held::One(mark);
+                self.held = Held::One(rev);
             }
             Held::One(first) => {
-                let marks = two(alloc, *first, mark)?;
-                self.held = Held::Many(marks);
+                let revisions = two(alloc, *first, rev)?;
+                self.held = Held::Many(revisions);
             }
-            Held::Many(marks) => {
-                marks.push_back(mark)?;
+            Held::Many(revisions) => {
+                revisions.push_back(rev)?;
             }
         }
         Ok(())
@@ -157,22 +152,23 @@ impl Revisions {
             Held::One(_) => {
                 self.held = Held::Nothing;
             }
-            Held::Many(marks) => drop_first(marks),
+            Held::Many(revisions) => drop_first(revisions),
         }
     }
 
-    /// Drops a revision, and nothing where it is not there: the oldest at once, another by a walk over all.
+    /// Drops a revision, and nothing where it is not there: the oldest at once, another by a walk
+    /// over all.
     pub(crate) fn drop_at(&mut self, rev: Rev)
         ensures { self.new ≡ without rev self.old }
     {
         match &mut self.held {
             Held::Nothing => {}
-            Held::One(mark) => {
-                if is_at(*mark, rev) {
+            Held::One(only) => {
+                if is_at(*only, rev) {
                     self.held = Held::Nothing;
                 }
             }
-            Held::Many(marks) => drop_at(marks, rev),
+            Held::Many(revisions) => drop_at(revisions, rev),
         }
     }
 
@@ -182,37 +178,38 @@ impl Revisions {
     {
         match &mut self.held {
             Held::Nothing => {}
-            Held::One(mark) => {
-                if mark.rev.main == main {
+            Held::One(only) => {
+                if only.main == main {
                     self.held = Held::Nothing;
                 }
             }
-            Held::Many(marks) => undo(marks, main),
+            Held::Many(revisions) => undo(revisions, main),
         }
     }
 }
 
 /// A list of two revisions, with room for two more.
-fn two(alloc: Global, first: Mark, second: Mark) -> Result<VecDeque<Mark>, AllocError>
-    ensures { IfOk result (λ marks. marks.items ≡ first ∷ second ∷ []) }
+fn two(alloc: Global, first: Rev, second: Rev) -> Result<VecDeque<Rev>, AllocError>
+    ensures { IfOk result (λ revisions. revisions.items ≡ first ∷ second ∷ []) }
 {
-    let mut marks = VecDeque::with_capacity(alloc, 4)?;
-    marks.push_back(first)?;
-    marks.push_back(second)?;
-    Ok(marks)
+    let mut revisions = VecDeque::with_capacity(alloc, 4)?;
+    revisions.push_back(first)?;
+    revisions.push_back(second)?;
+    Ok(revisions)
 }
 
-/// The last of the revisions that is not after a place: the newest, where it is not, and else found by halving.
-fn at(marks: &VecDeque<Mark>, place: Rev) -> Option<Rev>
-    requires { IsRising marks.now.items }
-    ensures { result ≡ at_place place marks.now.items }
+/// The last of the revisions that is not after a place: the newest, where it is not, and else found
+/// by halving.
+fn at(revisions: &VecDeque<Rev>, place: Rev) -> Option<Rev>
+    requires { IsRising revisions.now.items }
+    ensures { result ≡ at_place place revisions.now.items }
 {
-    match newest(marks) {
+    match newest(revisions) {
         Some(newest) => {
-            if is_up_to(newest.rev, place) {
-                Some(newest.rev)
+            if is_up_to(newest, place) {
+                Some(newest)
             } else {
-                search(marks, place)
+                search(revisions, place)
             }
         }
         None => None,
@@ -220,93 +217,93 @@ fn at(marks: &VecDeque<Mark>, place: Rev) -> Option<Rev>
 }
 
 /// The last of the revisions that is not after a place. It halves.
-fn search(marks: &VecDeque<Mark>, place: Rev) -> Option<Rev>
-    requires { IsRising marks.now.items }
-    ensures { result ≡ at_place place marks.now.items }
+fn search(revisions: &VecDeque<Rev>, place: Rev) -> Option<Rev>
+    requires { IsRising revisions.now.items }
+    ensures { result ≡ at_place place revisions.now.items }
 {
-    match count_up_to(marks, place).checked_sub(1) {
-        Some(last) => rev_at(marks, last),
+    match count_up_to(revisions, place).checked_sub(1) {
+        Some(last) => rev_at(revisions, last),
         None => None,
     }
 }
 
 /// The first of the revisions after a place. It halves.
-fn after(marks: &VecDeque<Mark>, place: Rev) -> Option<Rev>
-    requires { IsRising marks.now.items }
-    ensures { result ≡ after_place place marks.now.items }
+fn after(revisions: &VecDeque<Rev>, place: Rev) -> Option<Rev>
+    requires { IsRising revisions.now.items }
+    ensures { result ≡ after_place place revisions.now.items }
 {
-    rev_at(marks, count_up_to(marks, place))
+    rev_at(revisions, count_up_to(revisions, place))
 }
 
 /// Whether a revision is above all of the revisions.
-fn takes(marks: &VecDeque<Mark>, rev: Rev) -> bool
-    requires { IsRising marks.now.items }
-    ensures { IsTrue result ↔ IsBehind rev marks.now.items }
+fn takes(revisions: &VecDeque<Rev>, rev: Rev) -> bool
+    requires { IsRising revisions.now.items }
+    ensures { IsTrue result ↔ IsBehind rev revisions.now.items }
 {
-    match newest(marks) {
-        Some(newest) => is_before(newest.rev, rev),
+    match newest(revisions) {
+        Some(newest) => is_before(newest, rev),
         None => true,
     }
 }
 
 /// Drops the oldest revision.
-fn drop_first(marks: &mut VecDeque<Mark>)
-    ensures { marks.new.items ≡ drop 1 marks.old.items }
+fn drop_first(revisions: &mut VecDeque<Rev>)
+    ensures { revisions.new.items ≡ drop 1 revisions.old.items }
 {
-    let _ = marks.pop_front();
+    let _ = revisions.pop_front();
 }
 
 /// Drops a revision: the oldest at once, another by a walk over all.
-fn drop_at(marks: &mut VecDeque<Mark>, rev: Rev)
-    requires { IsRising marks.old.items }
-    ensures { marks.new.items ≡ without rev marks.old.items }
+fn drop_at(revisions: &mut VecDeque<Rev>, rev: Rev)
+    requires { IsRising revisions.old.items }
+    ensures { revisions.new.items ≡ without rev revisions.old.items }
 {
-    if is_oldest(marks, rev) {
-        drop_first(marks);
+    if is_oldest(revisions, rev) {
+        drop_first(revisions);
     } else {
-        keep_others(marks, rev);
+        keep_others(revisions, rev);
     }
 }
 
-/// Whether a mark is of a revision.
-fn is_at(mark: Mark, rev: Rev) -> bool
-    ensures { result ≡ is_rev rev mark }
+/// Whether a revision is another one.
+fn is_at(left: Rev, right: Rev) -> bool
+    ensures { result ≡ is_rev right left }
 {
-    mark.rev == rev
+    left == right
 }
 
 /// Drops the revisions of a main revision at the end.
-fn undo(marks: &mut VecDeque<Mark>, main: u64)
-    ensures { marks.new.items ≡ undone main marks.old.items }
+fn undo(revisions: &mut VecDeque<Rev>, main: u64)
+    ensures { revisions.new.items ≡ undone main revisions.old.items }
 {
-    while ends_in(marks, main) {
-        let _ = marks.pop_back();
+    while ends_in(revisions, main) {
+        let _ = revisions.pop_back();
     }
 }
 
 /// The last revision.
-fn newest(marks: &VecDeque<Mark>) -> Option<Mark>
-    ensures { result ≡ newest marks.now.items }
+fn newest(revisions: &VecDeque<Rev>) -> Option<Rev>
+    ensures { result ≡ newest revisions.now.items }
 {
-    marks.back().copied()
+    revisions.back().copied()
 }
 
 /// Whether the last revision is of a main revision.
-fn ends_in(marks: &VecDeque<Mark>, main: u64) -> bool
-    ensures { result ≡ ends_in main marks.now.items }
+fn ends_in(revisions: &VecDeque<Rev>, main: u64) -> bool
+    ensures { result ≡ ends_in main revisions.now.items }
 {
-    match newest(marks) {
-        Some(newest) => newest.rev.main == main,
+    match newest(revisions) {
+        Some(newest) => newest.main == main,
         None => false,
     }
 }
 
 /// Whether the last revision is not of a later main revision.
-fn ends_up_to(marks: &VecDeque<Mark>, main: u64) -> bool
-    ensures { result ≡ ends_up_to main marks.now.items }
+fn ends_up_to(revisions: &VecDeque<Rev>, main: u64) -> bool
+    ensures { result ≡ ends_up_to main revisions.now.items }
 {
-    match newest(marks) {
-        Some(newest) => newest.rev.main <= main,
+    match newest(revisions) {
+        Some(newest) => newest.main <= main,
         None => true,
     }
 }
@@ -326,33 +323,33 @@ fn is_up_to(left: Rev, right: Rev) -> bool
 }
 
 /// The revision at an index.
-fn rev_at(marks: &VecDeque<Mark>, place: usize) -> Option<Rev>
-    ensures { result ≡ option_map rev_of (slice_get marks.now.items place) }
+fn rev_at(revisions: &VecDeque<Rev>, place: usize) -> Option<Rev>
+    ensures { result ≡ slice_get revisions.now.items place }
 {
-    marks.get(place).map(|mark| mark.rev)
+    revisions.get(place).copied()
 }
 
 /// Whether the first of the revisions is this one.
-fn is_oldest(marks: &VecDeque<Mark>, rev: Rev) -> bool
-    ensures { result ≡ is_oldest rev marks.now.items }
+fn is_oldest(revisions: &VecDeque<Rev>, rev: Rev) -> bool
+    ensures { result ≡ is_oldest rev revisions.now.items }
 {
-    match rev_at(marks, 0) {
+    match rev_at(revisions, 0) {
         Some(oldest) => oldest == rev,
         None => false,
     }
 }
 
 /// Keeps the revisions that are others than this one.
-fn keep_others(marks: &mut VecDeque<Mark>, rev: Rev)
-    ensures { marks.new.items ≡ without rev marks.old.items }
+fn keep_others(revisions: &mut VecDeque<Rev>, rev: Rev)
+    ensures { revisions.new.items ≡ without rev revisions.old.items }
 {
-    marks.retain(|mark| !(mark.rev == rev));
+    revisions.retain(|other| !(*other == rev));
 }
 
 /// How many of the revisions, which rise, are not after a place. It halves.
-fn count_up_to(marks: &VecDeque<Mark>, place: Rev) -> usize
-    requires { IsRising marks.now.items }
-    ensures { result ≡ count_up_to place marks.now.items }
+fn count_up_to(revisions: &VecDeque<Rev>, place: Rev) -> usize
+    requires { IsRising revisions.now.items }
+    ensures { result ≡ count_up_to place revisions.now.items }
 {
-    marks.partition_point(|mark| is_up_to(mark.rev, place))
+    revisions.partition_point(|rev| is_up_to(*rev, place))
 }

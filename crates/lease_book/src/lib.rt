@@ -16,7 +16,7 @@
 //! 2,000                           the clock stays; due: none time_left 7             9 of 10 s
 //! ```
 //!
-//! The tests stand in the crate `public_calls`, in `src/leases.rt`.
+//! The tests stand in the crate `store_tests`, in `src/leases.rt`.
 #![tactic(auto)]
 
 pub mod book;

@@ -1,5 +1,6 @@
 -- How the versions that are kept grow by those of a revision, and lose them again.
-use Rattle.std.proofs.Common.{◌≡◌, ◌≤◌, ◌<◌, ◌+◌, ◌-◌, ◌==◌, ℕ, zero, suc, List, [], ◌∷◌, ◌++◌, Bool, true, false, ◌&&◌, cond, nat_lt, length, take, drop, filter, get_or, refl, sym, ◌∙◌, ap, subst, arith, append_assoc, eq-eqb, None, Some}
+use Rattle.std.proofs.Common.{◌≡◌, ◌≤◌, ◌<◌, ◌+◌, ◌-◌, ◌==◌, ℕ, zero, suc, List, [], ◌∷◌, ◌++◌, Bool, true, false, ◌&&◌, cond, nat_lt}
+use Rattle.std.proofs.Common.{length, take, drop, refl, sym, ◌∙◌, ap, subst, arith, append_assoc, eq-eqb, None, Some}
 use Rattle.std.proofs.lemmas.Bool.Decides.{nat_tests}
 use Rattle.std.specs.List.{AllByRecursion}
 use Rattle.std.specs.List.Sorted.{IsPartitionPoint, IsPartitionedBy}
@@ -8,44 +9,19 @@ use Rattle.kv_model.specs.declared.version.Rev.{Rev}
 use Rattle.kv_model.specs.declared.version.Version.{Version}
 use Rattle.kv_model.specs.History.{rev_lt}
 use Rattle.kv_model.specs.Feed.{last_main_or}
+use Rattle.kv_model.specs.Trimming.{oldest_place, trimmed}
 use Rattle.store_laws.specs.Stands.{first_main_of}
-use Rattle.version_table.specs.Rising.{IsBehind, IsRising, retracted}
-use Rattle.version_table.proofs.RevOrder.{main_le, rev_lt-trans, before_main, before_sub}
-use Rattle.version_table.proofs.Rising.{rising-filter}
+use Rattle.store_laws.proofs.HistoryLaws.{AllByRecursion-split}
+use Rattle.store_laws.proofs.PlaceLaws.{each-map, each-append, each-filter}
+use Rattle.store_laws.proofs.RevOrder.{rev_lt-main, rev_lt-mains, rev_lt-subs, rev_lt-trans}
+use Rattle.store_laws.proofs.Rising.{partitioned, rising-filter, rising-parts}
+use Rattle.version_table.specs.Rising.{IsBehind, IsRising, rev_of, retracted}
 use Rattle.version_table.proofs.Changes.{retracted-append}
 use Rattle.trim_core.proofs.Stepping.{trimmed-keeps}
-use Rattle.kv_model.specs.Trimming.{oldest_place, trimmed}
 use Rattle.key_index.specs.Index.{Index}
 use Rattle.key_index.specs.Agrees.{Agrees}
 use Rattle.key_index.proofs.Agrees.{agrees-nothing}
 use Rattle.range_view.specs.Stored.{AreTables, Stored, IsUpTo, IsBelow, AreOf, AreNotOf, IsStored, goes_on, is_next, appended, retracted_to}
-
--- ---- lists
-
-all-append : {X : Type 0} (P : X → Type 0) (xs ys : List X) → AllByRecursion P xs → AllByRecursion P ys → AllByRecursion P (xs ++ ys)
-all-append P [] ys a b = b
-all-append P (x ∷ xs) ys a b = (a.0, all-append P xs ys a.1 b)
-
-pub all-front : {X : Type 0} (P : X → Type 0) (xs ys : List X) → AllByRecursion P (xs ++ ys) → AllByRecursion P xs
-all-front P [] ys a = tt
-all-front P (x ∷ xs) ys a = (a.0, all-front P xs ys a.1)
-
-all-weaker : {X : Type 0} (P Q : X → Type 0) → ((x : X) → P x → Q x) → (xs : List X) → AllByRecursion P xs → AllByRecursion Q xs
-all-weaker P Q f [] a = tt
-all-weaker P Q f (x ∷ xs) a = (f x a.0, all-weaker P Q f xs a.1)
-
-pub all-filter : {X : Type 0} (P : X → Type 0) (t : X → Bool) (xs : List X) → AllByRecursion P xs → AllByRecursion P (filter t xs)
-all-filter P t [] a = tt
-all-filter P t (x ∷ xs) a = by (t x) (all-filter P t xs a.1)
-  where
-    by : (b : Bool) → AllByRecursion P (filter t xs) → AllByRecursion P (cond b (x ∷ filter t xs) (filter t xs))
-    by true rest = (a.0, rest)
-    by false rest = rest
-
-at-index : {X : Type 0} (P : X → Type 0) (xs : List X) (j : ℕ) (d : X) → AllByRecursion P xs → j < length xs → P (get_or xs j d)
-at-index P [] j d a h = absurd (omega arith)
-at-index P (x ∷ xs) zero d a h = a.0
-at-index P (x ∷ xs) (suc j) d a h = at-index P xs j d a.1 (omega arith)
 
 -- ---- numbers
 
@@ -76,30 +52,27 @@ always-present r h =
 -- ---- main revisions
 
 pub below-not_of : (main : ℕ) (vs : List Version) → IsBelow main vs → AreNotOf main vs
-below-not_of main vs h = all-weaker (λ (v : Version). v.rev.main < main) (λ v. (v.rev.main == main) ≡ false) (λ v less. other-number v.rev.main main less) vs h
+below-not_of main vs h =
+    each-map (λ (v : Version). v.rev.main < main) (λ v. (v.rev.main == main) ≡ false) (λ v less. other-number v.rev.main main less) vs h
 
 pub upto-below : (main : ℕ) (vs us : List Version) → IsBelow main vs → AreOf main us → IsUpTo main (vs ++ us)
 upto-below main vs us h g =
-    all-append (λ (v : Version). v.rev.main ≤ main) vs us
-    (all-weaker (λ (v : Version). v.rev.main < main) (λ v. v.rev.main ≤ main) (λ v less. omega arith) vs h)
-    (all-weaker (λ (v : Version). (v.rev.main == main) ≡ true) (λ v. v.rev.main ≤ main) (λ v same. let e = equal-number v.rev.main main same in omega arith) us g)
+    each-append (λ (v : Version). v.rev.main ≤ main) vs us
+    (each-map (λ (v : Version). v.rev.main < main) (λ v. v.rev.main ≤ main) (λ v less. omega arith) vs h)
+    (each-map (λ (v : Version). (v.rev.main == main) ≡ true) (λ v. v.rev.main ≤ main)
+    (λ v same. let e = equal-number v.rev.main main same in omega arith) us g)
 
 pub below-upto : (main : ℕ) (vs : List Version) → IsBelow main vs → IsUpTo (main - 1) vs
-below-upto main vs h = all-weaker (λ (v : Version). v.rev.main < main) (λ v. v.rev.main ≤ main - 1) (λ v less. omega arith) vs h
+below-upto main vs h = each-map (λ (v : Version). v.rev.main < main) (λ v. v.rev.main ≤ main - 1) (λ v less. omega arith) vs h
 
 pub below-next : (now : ℕ) (vs : List Version) → IsUpTo now vs → IsBelow (now + 1) vs
-below-next now vs h = all-weaker (λ (v : Version). v.rev.main ≤ now) (λ v. v.rev.main < now + 1) (λ v less. omega arith) vs h
+below-next now vs h = each-map (λ (v : Version). v.rev.main ≤ now) (λ v. v.rev.main < now + 1) (λ v less. omega arith) vs h
 
 -- ---- where the changes of the newest main revision begin
 
 pub mains-partitioned : (main : ℕ) (vs : List Version) → IsRising vs → IsPartitionedBy (λ v. nat_lt v.rev.main main) vs
-mains-partitioned main [] r i j d l m h = absurd (omega arith)
-mains-partitioned main (v ∷ vs) r zero zero d l m h = h
-mains-partitioned main (v ∷ vs) r zero (suc j) d l m h =
-    let before : v.rev.main ≤ (get_or vs j d).rev.main = main_le v.rev (get_or vs j d).rev (at-index (λ w. rev_lt v.rev w.rev ≡ true) vs j d r.0 (omega arith)) in
-    below-number v.rev.main (get_or vs j d).rev.main main before h
-mains-partitioned main (v ∷ vs) r (suc i) zero d l m h = absurd (omega arith)
-mains-partitioned main (v ∷ vs) r (suc i) (suc j) d l m h = mains-partitioned main vs r.1 i j d (omega arith) (omega arith) h
+mains-partitioned main = partitioned rev_of (λ v. nat_lt v.rev.main main)
+    (λ v w h g. below-number v.rev.main w.rev.main main (rev_lt-main v.rev w.rev h) g)
 
 abbrev Parts : ℕ → List Version → ℕ → Type 0
 Parts main vs n = IsBelow main (take n vs) × AreOf main (drop n vs)
@@ -134,14 +107,6 @@ point-split main vs n h u t =
 
 -- ---- growth at the end
 
-pub behind-middle : (xs : List Version) (v : Version) (ys : List Version) → IsRising (xs ++ v ∷ ys) → IsBehind v.rev xs
-behind-middle [] v ys r = tt
-behind-middle (x ∷ xs) v ys r = (first x.rev xs r.0, behind-middle xs v ys r.1)
-  where
-    first : (p : Rev) (zs : List Version) → AllByRecursion (λ w. rev_lt p w.rev ≡ true) (zs ++ v ∷ ys) → rev_lt p v.rev ≡ true
-    first p [] a = a.0
-    first p (z ∷ zs) a = first p zs a.1
-
 both : (a b : Bool) → (a && b) ≡ true → (a ≡ true) × (b ≡ true)
 both true b h = (refl, h)
 both false b h = cc
@@ -151,14 +116,15 @@ step p q h =
     let parts = both (q.main == p.main) (nat_lt p.sub q.sub) h in
     let same : p.main ≡ q.main = sym (equal-number q.main p.main parts.0) in
     let less : p.sub < q.sub = less-number p.sub q.sub parts.1 in
-    (before_sub p.main q.main p.sub q.sub same less, same)
+    (rev_lt-subs p q same less, same)
 
 goes_on-above : (p : Rev) (vs : List Version) → goes_on p vs ≡ true → AllByRecursion (λ w. rev_lt p w.rev ≡ true) vs
 goes_on-above p [] h = tt
 goes_on-above p (v ∷ vs) h =
     let parts = both (v.rev.main == p.main && nat_lt p.sub v.rev.sub) (goes_on v.rev vs) h in
     let first = step p v.rev parts.0 in
-    (first.0, all-weaker (λ w. rev_lt v.rev w.rev ≡ true) (λ w. rev_lt p w.rev ≡ true) (λ w up. rev_lt-trans p v.rev w.rev first.0 up) vs (goes_on-above v.rev vs parts.1))
+    let behind = goes_on-above v.rev vs parts.1 in
+    (first.0, each-map (λ w. rev_lt v.rev w.rev ≡ true) (λ w. rev_lt p w.rev ≡ true) (λ w. rev_lt-trans p v.rev w.rev first.0) vs behind)
 
 goes_on-rising : (p : Rev) (vs : List Version) → goes_on p vs ≡ true → IsRising vs
 goes_on-rising p [] h = tt
@@ -181,13 +147,18 @@ next-rising now [] h = tt
 next-rising now (v ∷ vs) h = let parts = both (v.rev.main == now + 1) (goes_on v.rev vs) h in (goes_on-above v.rev vs parts.1, goes_on-rising v.rev vs parts.1)
 
 older-before : (now : ℕ) (v w : Version) → v.rev.main ≤ now → (w.rev.main == now + 1) ≡ true → rev_lt v.rev w.rev ≡ true
-older-before now v w h g = let e = equal-number w.rev.main (now + 1) g in let less : v.rev.main < w.rev.main = omega arith in before_main v.rev.main w.rev.main v.rev.sub w.rev.sub less
+older-before now v w h g =
+    let e = equal-number w.rev.main (now + 1) g in
+    let less : v.rev.main < w.rev.main = omega arith in
+    rev_lt-mains v.rev w.rev less
 
 -- and stand behind all that are kept
 pub rising-next : (now : ℕ) (vs us : List Version) → IsRising vs → IsUpTo now vs → is_next now us ≡ true → IsRising (vs ++ us)
 rising-next now [] us r u h = next-rising now us h
 rising-next now (v ∷ vs) us r u h = (
-  all-append (λ w. rev_lt v.rev w.rev ≡ true) vs us r.0 (all-weaker (λ w. (w.rev.main == now + 1) ≡ true) (λ w. rev_lt v.rev w.rev ≡ true) (λ w same. older-before now v w u.0 same) us (next-of now us h)),
+  each-append (λ w. rev_lt v.rev w.rev ≡ true) vs us r.0
+      (each-map (λ w. (w.rev.main == now + 1) ≡ true) (λ w. rev_lt v.rev w.rev
+      ≡ true) (λ w. older-before now v w u.0) us (next-of now us h)),
   rising-next now vs us r.1 u.1 h,
 )
 
@@ -245,10 +216,12 @@ all-yielded done rest all n e len none = sym (append-nil done) ∙ ap (λ xs. do
 
 -- the next one stands behind what was kept and what was added before it
 pub ready : (vs us done rest : List Version) (v : Version) → IsRising (vs ++ us) → done ++ (v ∷ rest) ≡ us → IsBehind v.rev (vs ++ done)
-ready vs us done rest v r e = behind-middle (vs ++ done) v rest (subst IsRising (ap (λ ws. vs ++ ws) (sym e) ∙ sym (append_assoc vs done (v ∷ rest))) r)
+ready vs us done rest v r e =
+    (rising-parts rev_of (vs ++ done) v rest (subst IsRising (ap (λ ws. vs ++ ws) (sym e) ∙ sym (append_assoc vs done (v ∷ rest))) r)).0
 
 pub front-of : (main : ℕ) (us done rest : List Version) → AreOf main us → done ++ rest ≡ us → AreOf main done
-front-of main us done rest h e = all-front (λ (v : Version). (v.rev.main == main) ≡ true) done rest (subst (AreOf main) (sym e) h)
+front-of main us done rest h e =
+    (AllByRecursion-split (λ (v : Version). (v.rev.main == main) ≡ true) done rest (subst (AreOf main) (sym e) h)).0
 
 -- ---- a revision more
 
@@ -307,7 +280,7 @@ other-retracted main s h = sym (ap (λ b. cond b (record s { versions = retracte
 
 -- what is left rises still, up to the present revision
 pub trimmed-rising : (vs : List Version) (p : Rev) (c : ℕ) → IsRising vs → IsRising (trimmed vs p c).versions
-trimmed-rising vs p c r = trimmed-keeps IsRising vs p c r (λ t. rising-filter t vs r)
+trimmed-rising vs p c r = trimmed-keeps IsRising vs p c r (λ t. rising-filter rev_of t vs r)
 
 pub trimmed-upto : (main : ℕ) (vs : List Version) (p : Rev) (c : ℕ) → IsUpTo main vs → IsUpTo main (trimmed vs p c).versions
-trimmed-upto main vs p c u = trimmed-keeps (IsUpTo main) vs p c u (λ t. all-filter (λ (v : Version). v.rev.main ≤ main) t vs u)
+trimmed-upto main vs p c u = trimmed-keeps (IsUpTo main) vs p c u (λ t. each-filter (λ (v : Version). v.rev.main ≤ main) t vs u)

@@ -10,7 +10,14 @@ use Rattle.range_view.specs.declared.reply.OpReply.TheOpen.{OpReply-F}
 
 -- a key-value that is lent, as plain data
 abbrev pub kv_view : KvRef → KeyValue
-kv_view kv = record { key = kv.key.now; value = kv.value.now; create = kv.create; modified = kv.modified; version = kv.version; lease = kv.lease }
+kv_view kv = record {
+  key = kv.key.now;
+  value = kv.value.now;
+  create = kv.create;
+  modified = kv.modified;
+  version = kv.version;
+  lease = kv.lease;
+}
 
 -- a reply that lends key-values, as plain data
 abbrev pub reply_view : RangeReply → ranges.RangeReply
@@ -28,7 +35,8 @@ abbrev pub op_reply_step : OpReply-F (Replies → Replies) → Replies → Repli
 op_reply_step (OpReply-F.Range r) rest = Replies.range (reply_view r) rest
 op_reply_step (OpReply-F.Put held) rest = Replies.put (option_map kv_view held) rest
 op_reply_step (OpReply-F.Delete deleted previous) rest = Replies.delete deleted (map kv_view previous.items) rest
-op_reply_step (OpReply-F.Inner succeeded replies) rest = Replies.txn succeeded (in_row replies.items Replies.no_replies) rest
+op_reply_step (OpReply-F.Inner succeeded replies) rest =
+    Replies.txn succeeded (in_row replies.items Replies.no_replies) rest
 
 abbrev pub op_reply_view : OpReply → Replies → Replies
 op_reply_view = fold-OpReply (Replies → Replies) op_reply_step

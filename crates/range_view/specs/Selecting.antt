@@ -1,5 +1,6 @@
 -- What a walk over the live keys of a range keeps, so that the answer can be made of it.
-use Rattle.std.specs.Prelude.{◌≡◌, ℕ, zero, suc, ℤ, pos, negsuc, List, map, take, length, filter, Bool, true, false, if◌then◌else◌, Option, None, Some}
+use Rattle.std.specs.Prelude.{◌≡◌, ℕ, zero, suc, ℤ, pos, negsuc, List, map, take, length, filter, Bool, true, false}
+use Rattle.std.specs.Prelude.{if◌then◌else◌, Option, None, Some}
 use Rattle.kv_model.specs.declared.call.RangeQuery.{RangeQuery}
 use Rattle.kv_model.specs.declared.call.SortOrder.{SortOrder}
 use Rattle.kv_model.specs.declared.call.SortOrder.TheVariants.{Unsorted, Ascend, Descend}

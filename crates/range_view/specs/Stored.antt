@@ -1,5 +1,6 @@
 -- What is kept, and how it grows.
-use Rattle.std.specs.Prelude.{◌≡◌, ℕ, ◌+◌, ◌-◌, ◌<◌, ◌≤◌, ◌==◌, nat_lt, List, [], ◌∷◌, ◌++◌, Bool, true, false, ◌&&◌, if◌then◌else◌}
+use Rattle.std.specs.Prelude.{◌≡◌, ℕ, ◌+◌, ◌-◌, ◌<◌, ◌≤◌, ◌==◌, nat_lt, List, [], ◌∷◌, ◌++◌, Bool, true, false, ◌&&◌}
+use Rattle.std.specs.Prelude.{if◌then◌else◌}
 use Rattle.std.specs.List.{AllByRecursion}
 use Rattle.kv_model.specs.declared.version.Rev.{Rev}
 use Rattle.kv_model.specs.declared.version.Version.{Version}
@@ -9,8 +10,8 @@ use Rattle.version_table.specs.Rising.{IsRising, retracted}
 use Rattle.key_index.specs.Index.{Index}
 use Rattle.key_index.specs.Agrees.{Agrees}
 
--- what is kept, as clauses see it: the versions, the revision of the last compaction, the present revision, and the first place
--- that trimming has not looked at
+-- what is kept, as clauses see it: the versions, the revision of the last compaction, the present revision, and the
+-- first place that trimming has not looked at
 pub record Stored : Type 0 where
   pub versions : List Version
   pub compacted : ℕ
@@ -79,7 +80,10 @@ appended s vs = record s { versions = s.versions ++ vs; revision = last_main_or 
 
 -- without the present revision, where it is this one and not the first
 abbrev pub retracted_to : ℕ → Stored → Stored
-retracted_to main s = if main == s.revision && nat_lt 1 main then record s { versions = retracted main s.versions; revision = main - 1 } else s
+retracted_to main s =
+    if main == s.revision && nat_lt 1 main
+    then record s { versions = retracted main s.versions; revision = main - 1 }
+    else s
 
 -- with a compaction more: trimming begins again at the oldest version
 abbrev pub compacted_at : ℕ → Stored → Stored

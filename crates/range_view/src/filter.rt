@@ -15,7 +15,8 @@ fn is_within(least: i64, greatest: i64, number: u64) -> bool
     !is_low && !is_high
 }
 
-/// Whether the bounds of a Range on the modified and the created revision let a key-value pass. Takes no memory.
+/// Whether the bounds of a Range on the modified and the created revision let a key-value pass.
+/// Takes no memory.
 pub fn passes(query: &RangeQuery, kv: &KvRef<'_>) -> bool
     ensures { result ≡ passes_filters query.now (kv_view kv.now) }
 {

@@ -1,14 +1,10 @@
 //! How a table of versions and its index grow together, and shrink again where the growth fails.
 ghost use Rattle.std.specs.Prelude.{◌≡◌, ◌++◌, ◌∷◌, [], OnOk, OnErr};
 ghost use Rattle.version_table.specs.Rising.{IsBehind, IsRising, retracted};
-ghost use Rattle.key_index.specs.Agrees.{is_gone};
-ghost use Rattle.key_index.specs.Index.{with_mark, marks};
-ghost use Rattle.key_index.specs.Marks.{IsBehind as IsBehindMarks};
 ghost use Rattle.range_view.specs.Stored.{IsUpTo, IsBelow, AreOf, AreTied};
 
-use bytes::Bytes;
 use key_index::KeyIndex;
-use kv_model::version::{Body, Rev, Version};
+use kv_model::version::{Rev, Version};
 use std::alloc::AllocError;
 use version_table::VersionTable;
 
@@ -26,7 +22,8 @@ fn changes_of(versions: &[Version], main: u64) -> &[Version]
 
 /// Takes the newest main revision back. Takes no memory.
 ///
-/// The time is logarithmic in the number of versions and, for each of the changes, in that of the keys.
+/// The time is logarithmic in the number of versions and, for each of the changes, in that of the
+/// keys.
 pub fn take_back(table: &mut VersionTable, index: &mut KeyIndex, main: u64)
     requires upto { IsUpTo main table.old }
     requires tied { AreTied index.old table.old }
@@ -38,30 +35,8 @@ pub fn take_back(table: &mut VersionTable, index: &mut KeyIndex, main: u64)
     table.retract(main);
 }
 
-/// Adds a revision of a key to an index, a put or a tombstone.
-fn note(index: &mut KeyIndex, key: &Bytes, rev: Rev, gone: bool) -> Result<(), AllocError>
-    requires { IsBehindMarks rev (marks key.now index.old) }
-    ensures ok { OnOk result (index.new ≡ with_mark key.now (record { rev = rev; gone = gone }) index.old) }
-    ensures err { OnErr result (index.new ≡ index.old) }
-{
-    if gone {
-        index.gone(key, rev)
-    } else {
-        index.put(key, rev)
-    }
-}
-
-/// Whether a version is a tombstone.
-fn is_gone(version: &Version) -> bool
-    ensures { result ≡ is_gone version.now.body }
-{
-    match version.body {
-        Body::Gone => true,
-        Body::Put { .. } => false,
-    }
-}
-
-/// Adds a version to the table and to the index, or to none of the two.
+/// Adds a version to the table and its revision to the index, or to none of the two. To the index
+/// it is the same whether the version is a put or a tombstone.
 pub fn add(
     table: &mut VersionTable,
     index: &mut KeyIndex,
@@ -75,9 +50,8 @@ pub fn add(
 {
     let key = version.key.clone()?;
     let rev = version.rev;
-    let gone = is_gone(&version);
     table.push(version)?;
-    match note(index, &key, rev, gone) {
+    match index.put(&key, rev) {
         Ok(()) => Ok(()),
         Err(error) => {
             table.remove(rev);

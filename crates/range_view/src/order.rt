@@ -1,4 +1,5 @@
-//! In which order a Range shows what it found (the etcd documentation's RangeRequest: SortOrder and SortTarget).
+//! In which order a Range shows what it found (the etcd documentation's RangeRequest: SortOrder and
+//! SortTarget).
 ghost use Rattle.std.specs.Prelude.{◌≡◌, OnOk, OnErr, map};
 ghost use Rattle.kv_model.specs.Ranges.{order_cmp, target_cmp, sorted};
 ghost use Rattle.range_view.specs.Replies.{kv_view};
@@ -32,16 +33,18 @@ fn compare(order: SortOrder, target: SortTarget, a: &KvRef<'_>, b: &KvRef<'_>) -
     }
 }
 
-/// Sorts key-values that stand in the order of their keys. What ties stays in that order, whichever way the sort goes.
+/// Sorts key-values that stand in the order of their keys. What ties stays in that order, whichever
+/// way the sort goes.
 ///
-/// It takes n log n comparisons of n key-values, and memory for half of them. `AllocError` comes where there is none, and then
-/// they stay as they were.
+/// It takes n log n comparisons of n key-values, and memory for half of them. `AllocError` comes
+/// where there is none, and then they stay as they were.
 pub fn sort(
     kvs: &mut Vec<KvRef<'_>>,
     order: SortOrder,
     target: SortTarget,
 ) -> Result<(), AllocError>
-    ensures ok { OnOk result (map kv_view kvs.new.items ≡ sorted order target (map kv_view kvs.old.items)) }
+    ensures ok { OnOk result
+        (map kv_view kvs.new.items ≡ sorted order target (map kv_view kvs.old.items)) }
     ensures err { OnErr result (kvs.new.items ≡ kvs.old.items) }
 {
     kvs.sort_by(|a, b| compare(order, target, a, b))

@@ -1,4 +1,5 @@
-//! At which revision a Range reads, and where it may not (the etcd documentation's RangeRequest: revision).
+//! At which revision a Range reads, and where it may not (the etcd documentation's RangeRequest:
+//! revision).
 ghost use Rattle.std.specs.Prelude.{◌≡◌};
 ghost use Rattle.kv_model.specs.History.{end_of};
 ghost use Rattle.kv_model.specs.Ranges.{revision_refusal, read_place};
@@ -17,8 +18,9 @@ pub fn end_of(revision: u64) -> Rev
     }
 }
 
-/// Why a read at the revision asked for is refused, if it is: one below the last compaction is compacted, and one above the
-/// present revision is in the future. 0 and below asks for the present. Takes no memory.
+/// Why a read at the revision asked for is refused, if it is: one below the last compaction is
+/// compacted, and one above the present revision is in the future. 0 and below asks for the
+/// present. Takes no memory.
 pub fn revision_refusal(compacted: u64, present: u64, query: &RangeQuery) -> Option<Refusal>
     ensures { result ≡ revision_refusal compacted present query.now.revision }
 {

@@ -1,5 +1,7 @@
-//! What a Range shows of the live keys that a walk finds (the etcd documentation's RangeRequest and RangeResponse).
-ghost use Rattle.std.specs.Prelude.{◌≡◌, ◌-◌, ◌^◌, ◌<◌, ◌≤◌, List, [], ◌∷◌, ◌++◌, map, true, not, ◌&&◌, nat_lt, OnOk, IfOk};
+//! What a Range shows of the live keys that a walk finds (the etcd documentation's RangeRequest and
+//! RangeResponse).
+ghost use Rattle.std.specs.Prelude.{◌≡◌, ◌-◌, ◌^◌, ◌<◌, ◌≤◌, List, [], ◌∷◌, ◌++◌, map, true};
+ghost use Rattle.std.specs.Prelude.{not, ◌&&◌, nat_lt, OnOk, IfOk};
 ghost use Rattle.kv_model.specs.declared.call.RangeQuery.{RangeQuery};
 ghost use Rattle.kv_model.specs.History.{KeyValue};
 ghost use Rattle.kv_model.specs.Ranges.{first_few, stripped, reply_from};
@@ -38,7 +40,8 @@ fn most_needed(query: &RangeQuery) -> Option<u64>
 
 /// Brings what was found into the order asked for. `AllocError` comes where a sort finds no memory.
 fn arrange(kvs: &mut Vec<KvRef<'_>>, query: &RangeQuery) -> Result<(), AllocError>
-    ensures { OnOk result (map kv_view kvs.new.items ≡ arranged query.now (map kv_view kvs.old.items)) }
+    ensures { OnOk result
+        (map kv_view kvs.new.items ≡ arranged query.now (map kv_view kvs.old.items)) }
 {
     if keeps_order(query.order, query.target) {
         Ok(())
@@ -97,7 +100,8 @@ impl<'a> Found<'a> {
     pub fn add(&mut self, query: &RangeQuery, kv: KvRef<'a>) -> Result<(), AllocError>
         requires counted { self.old.count < 2 ^ 64 - 1 }
         requires passed { self.old.hits ≤ self.old.count }
-        ensures { (seen : List KeyValue) → IsFound query.now self.old seen → OnOk result (IsFound query.now self.new (seen ++ kv_view kv.entry ∷ [])) }
+        ensures { (seen : List KeyValue) → IsFound query.now self.old seen
+            → OnOk result (IsFound query.now self.new (seen ++ kv_view kv.entry ∷ [])) }
     {
         self.count += 1;
         if passes(query, &kv) {
@@ -113,9 +117,11 @@ impl<'a> Found<'a> {
         Ok(())
     }
 
-    /// The answer, at the revision of the store that was read. A sort takes memory, and `AllocError` comes where there is none.
+    /// The answer, at the revision of the store that was read. A sort takes memory, and
+    /// `AllocError` comes where there is none.
     pub fn finish(self, query: &RangeQuery, revision: u64) -> Result<RangeReply<'a>, AllocError>
-        ensures { (seen : List KeyValue) → AreByKey seen → IsFound query.now self.entry seen → IfOk result (λ r. reply_view r ≡ reply_from query.now revision seen) }
+        ensures { (seen : List KeyValue) → AreByKey seen → IsFound query.now self.entry seen
+            → IfOk result (λ r. reply_view r ≡ reply_from query.now revision seen) }
     {
         let Found {
             mut kvs,

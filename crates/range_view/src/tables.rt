@@ -1,9 +1,12 @@
-//! What a store keeps: the versions, the index of their keys, and the numbers that stand beside them (etcd: data model).
+//! What a store keeps: the versions, the index of their keys, and the numbers that stand beside
+//! them (etcd: data model).
 ghost use Rattle.std.specs.Prelude.{◌≡◌, ◌<◌, ◌≤◌, ◌-◌, ◌==◌, ◌&&◌, nat_lt, true, OnOk, OnErr};
 ghost use Rattle.kv_model.specs.History.{end_of};
 ghost use Rattle.store_laws.specs.Stands.{first_main_of};
 ghost use Rattle.version_table.specs.Rising.{retracted};
-ghost use Rattle.range_view.specs.Stored.{IsStored, appended, blank, blank_at, compacted_at, goes_on, is_next, retracted_to, seen_at, trim_of, trimmed_once};
+ghost use Rattle.range_view.specs.Stored.{IsStored, appended, blank, blank_at, compacted_at};
+ghost use Rattle.range_view.specs.Stored.{goes_on, is_next, retracted_to, seen_at};
+ghost use Rattle.range_view.specs.Stored.{trim_of, trimmed_once};
 ghost use Rattle.trim_core.specs.Steps.{told_of};
 
 use crate::growth::{add_all, take_back};
@@ -16,8 +19,8 @@ use std::marker::Model;
 use trim_core::{Trim, Trimmer};
 use version_table::VersionTable;
 
-/// The versions that are kept with the index of their keys, the revision of the last compaction, the present one, and how far
-/// trimming has come.
+/// The versions that are kept with the index of their keys, the revision of the last compaction,
+/// the present one, and how far trimming has come.
 #[derive(Debug, Drop)]
 pub struct Tables {
     table: VersionTable,
@@ -32,9 +35,19 @@ impl Model for Tables {
 
     ghost Value = { Stored };
 
-    ghost view = { λ t. record { versions = t.table; compacted = t.compacted; revision = t.revision; place = t.trimmer } };
+    ghost view = { λ t. record {
+      versions = t.table;
+      compacted = t.compacted;
+      revision = t.revision;
+      place = t.trimmer;
+    } };
 
-    ghost invariant = { λ t. AreTables t.index (record { versions = t.table; compacted = t.compacted; revision = t.revision; place = t.trimmer }) };
+    ghost invariant = { λ t. AreTables t.index (record {
+      versions = t.table;
+      compacted = t.compacted;
+      revision = t.revision;
+      place = t.trimmer;
+    }) };
 }
 
 /// Whether each version is of the revision of the one before, and numbered behind it.
@@ -76,7 +89,8 @@ impl Tables {
         Tables::at(alloc, 1)
     }
 
-    /// What a store keeps that has come to a revision, from 1 on, and has no version left. Takes no memory.
+    /// What a store keeps that has come to a revision, from 1 on, and has no version left. Takes no
+    /// memory.
     pub fn at(alloc: Global, revision: u64) -> Self
         requires { 1 ≤ revision }
         ensures { result ≡ blank_at revision }
@@ -133,9 +147,15 @@ impl Tables {
         )
     }
 
-    /// What is kept, seen at a place by a transaction that began at a revision: no Range of it reads a later revision.
+    /// What is kept, seen at a place by a transaction that began at a revision: no Range of it
+    /// reads a later revision.
     pub fn view_before(&self, revision: u64, place: Rev) -> View<'_>
-        ensures { result ≡ record { versions = self.now.versions; compacted = self.now.compacted; revision = revision; place = place } }
+        ensures { result ≡ record {
+          versions = self.now.versions;
+          compacted = self.now.compacted;
+          revision = revision;
+          place = place;
+        } }
     {
         View::new(&self.table, &self.index, self.compacted, revision, place)
     }
@@ -147,8 +167,8 @@ impl Tables {
         self.view_at(end_of(self.revision))
     }
 
-    /// Whether `append` takes these versions: they are all of the revision after the present one, and rise. Takes no memory,
-    /// and time linear in their number.
+    /// Whether `append` takes these versions: they are all of the revision after the present one,
+    /// and rise. Takes no memory, and time linear in their number.
     pub fn takes(&self, versions: &[Version]) -> bool
         ensures { result ≡ is_next self.now.revision versions.now }
     {
@@ -162,10 +182,11 @@ impl Tables {
         }
     }
 
-    /// Adds the versions of the revision after the present one, which becomes the present one. No versions change nothing.
+    /// Adds the versions of the revision after the present one, which becomes the present one. No
+    /// versions change nothing.
     ///
-    /// The error is want of memory, and what is kept is then as it was. The time is logarithmic in the number of keys for each
-    /// of the versions, but for the growth of a list.
+    /// The error is want of memory, and what is kept is then as it was. The time is logarithmic in
+    /// the number of keys for each of the versions, but for the growth of a list.
     pub fn append(&mut self, versions: Vec<Version>) -> Result<(), AllocError>
         requires { is_next self.old.revision versions.items ≡ true }
         ensures ok { OnOk result (self.new ≡ appended self.old versions.items) }
@@ -193,10 +214,12 @@ impl Tables {
         }
     }
 
-    /// Takes a revision back where it is the present one, with all its versions; the one before becomes the present one. Any other
-    /// revision, and the first, changes nothing. Takes no memory. So what was appended last goes again.
+    /// Takes a revision back where it is the present one, with all its versions; the one before
+    /// becomes the present one. Any other revision, and the first, changes nothing. Takes no
+    /// memory. So what was appended last goes again.
     ///
-    /// The time is logarithmic in the number of versions and, for each of those that go, in that of the keys.
+    /// The time is logarithmic in the number of versions and, for each of those that go, in that of
+    /// the keys.
     pub fn retract(&mut self, main: u64)
         ensures { self.new ≡ retracted_to main self.old }
     {
@@ -208,13 +231,17 @@ impl Tables {
     /// Takes the present revision back, which is not the first.
     fn retract_present(&mut self)
         requires { 1 < self.old.revision }
-        ensures { self.new ≡ record self.old { versions = retracted self.old.revision self.old.versions; revision = self.old.revision - 1 } }
+        ensures { self.new ≡ record self.old {
+          versions = retracted self.old.revision self.old.versions;
+          revision = self.old.revision - 1;
+        } }
     {
         take_back(&mut self.table, &mut self.index, self.revision);
         self.revision -= 1;
     }
 
-    /// Notes an accepted compaction: trimming begins again at the oldest version. Takes no memory, and constant time.
+    /// Notes an accepted compaction: trimming begins again at the oldest version. Takes no memory,
+    /// and constant time.
     pub fn compact(&mut self, revision: u64)
         ensures { self.new ≡ compacted_at revision self.old }
     {
@@ -222,12 +249,13 @@ impl Tables {
         self.trimmer.restart();
     }
 
-    /// Makes one trimming step: the next version at or below the last compaction is visited, the oldest first, and taken
-    /// out where a later version of its key is at or below the compaction, or where it is a tombstone below it. Where
-    /// none is left to visit, nothing changes, and the answer is `Done` with the number of versions that are kept.
+    /// Makes one trimming step: the next version at or below the last compaction is visited, the
+    /// oldest first, and taken out where a later version of its key is at or below the compaction,
+    /// or where it is a tombstone below it. Where none is left to visit, nothing changes, and the
+    /// answer is `Done` with the number of versions that are kept.
     ///
-    /// Takes no memory. The time is logarithmic in the number of versions and of keys, but for the versions behind the one
-    /// that goes, which move one place.
+    /// Takes no memory. The time is logarithmic in the number of versions and of keys, but for the
+    /// versions behind the one that goes, which move one place.
     pub fn trim_step(&mut self) -> Trim
         ensures told { told_of result ≡ (trim_of self.old).told }
         ensures kept { self.new ≡ trimmed_once self.old }

@@ -22,7 +22,8 @@ use std::alloc::{AllocError, Global};
 use std::marker::Model;
 use version_table::VersionTable;
 
-/// What is kept, seen at a place in the history: of each key its last version that is not after the place.
+/// What is kept, seen at a place in the history: of each key its last version that is not after the
+/// place.
 #[derive(Debug, Drop)]
 pub struct View<'a> {
     table: &'a VersionTable,
@@ -37,7 +38,12 @@ impl<'a> Model for View<'a> {
 
     ghost Value = { Viewed };
 
-    ghost view = { λ v. record { versions = v.table.now; compacted = v.compacted; revision = v.revision; place = v.place } };
+    ghost view = { λ v. record {
+      versions = v.table.now;
+      compacted = v.compacted;
+      revision = v.revision;
+      place = v.place;
+    } };
 
     ghost invariant = { λ v. AreTied v.index.now v.table.now };
 }
@@ -65,8 +71,8 @@ fn shown(version: &Version) -> Option<KvRef<'_>>
 }
 
 impl<'a> View<'a> {
-    /// A view of a table and the index of its versions, with the revision of the last compaction, the present one, and the place
-    /// that is seen.
+    /// A view of a table and the index of its versions, with the revision of the last compaction,
+    /// the present one, and the place that is seen.
     pub fn new(
         table: &'a VersionTable,
         index: &'a KeyIndex,
@@ -75,7 +81,12 @@ impl<'a> View<'a> {
         place: Rev,
     ) -> Self
         requires { AreTied index.now table.now }
-        ensures { result ≡ record { versions = table.now; compacted = compacted; revision = revision; place = place } }
+        ensures { result ≡ record {
+          versions = table.now;
+          compacted = compacted;
+          revision = revision;
+          place = place;
+        } }
     {
         View {
             table,
@@ -100,9 +111,11 @@ impl<'a> View<'a> {
         self.revision
     }
 
-    /// What a key holds at the view's place, lent from the table: nothing where it was never put or is deleted. Takes no memory.
+    /// What a key holds at the view's place, lent from the table: nothing where it was never put or
+    /// is deleted. Takes no memory.
     ///
-    /// The time is logarithmic in the number of keys, in that of the key's revisions and in that of the versions.
+    /// The time is logarithmic in the number of keys, in that of the key's revisions and in that of
+    /// the versions.
     pub fn get(&self, key: &Bytes) -> Option<KvRef<'a>>
         ensures { option_map kv_view result ≡ value_at self.now.versions self.now.place key.now }
     {
@@ -119,13 +132,15 @@ impl<'a> View<'a> {
         }
     }
 
-    /// The key-values of the live keys of a range at the view's place, in the order of the keys, lent from the table.
+    /// The key-values of the live keys of a range at the view's place, in the order of the keys,
+    /// lent from the table.
     ///
-    /// `AllocError` comes where the list of the keys or that of what they hold found no memory. The keys of the range are walked,
-    /// live or not, each in time logarithmic in the versions; no other key is. One key is looked up as by `get`, and no list of
-    /// keys is made.
+    /// `AllocError` comes where the list of the keys or that of what they hold found no memory. The
+    /// keys of the range are walked, live or not, each in time logarithmic in the versions; no
+    /// other key is. One key is looked up as by `get`, and no list of keys is made.
     pub fn live(&self, alloc: Global, range: &KeyRange) -> Result<Vec<KvRef<'a>>, AllocError>
-        ensures { IfOk result (λ kvs. map kv_view kvs.items ≡ live self.now.versions self.now.place range.now) }
+        ensures { IfOk result (λ kvs. map kv_view kvs.items
+            ≡ live self.now.versions self.now.place range.now) }
     {
         if range.end.is_empty() {
             self.live_one(alloc, &range.key)
@@ -136,7 +151,8 @@ impl<'a> View<'a> {
 
     /// The key-value of a key at the view's place, where it is live.
     fn live_one(&self, alloc: Global, key: &Bytes) -> Result<Vec<KvRef<'a>>, AllocError>
-        ensures { IfOk result (λ kvs. map kv_view kvs.items ≡ live self.now.versions self.now.place (one_key key.now)) }
+        ensures { IfOk result (λ kvs. map kv_view kvs.items
+            ≡ live self.now.versions self.now.place (one_key key.now)) }
     {
         let mut kvs = Vec::new(alloc);
         match self.get(key) {
@@ -148,27 +164,31 @@ impl<'a> View<'a> {
 
     /// The key-values of the live keys of a range at the view's place, by a walk over its keys.
     fn live_all(&self, alloc: Global, range: &KeyRange) -> Result<Vec<KvRef<'a>>, AllocError>
-        ensures { IfOk result (λ kvs. map kv_view kvs.items ≡ live self.now.versions self.now.place range.now) }
+        ensures { IfOk result (λ kvs. map kv_view kvs.items
+            ≡ live self.now.versions self.now.place range.now) }
     {
         let keys = self.index.keys_in(range)?;
         held_by(alloc, self.table, &keys, self.place)
     }
 
-    /// The answer to a Range, read at the end of the revision asked for, or at the view's place where none is. It lends keys and
-    /// values from the table, and shows the view's revision. That the key of the range is not empty is decided above.
+    /// The answer to a Range, read at the end of the revision asked for, or at the view's place
+    /// where none is. It lends keys and values from the table, and shows the view's revision. That
+    /// the key of the range is not empty is decided above.
     ///
-    /// Refused as `Compacted` where the revision asked for is above 0 and below that of the last compaction, and as `Future` where
-    /// it is above the view's; both come before any memory is asked for. `Memory` comes where a list of what is found, or a sort,
-    /// found none.
+    /// Refused as `Compacted` where the revision asked for is above 0 and below that of the last
+    /// compaction, and as `Future` where it is above the view's; both come before any memory is
+    /// asked for. `Memory` comes where a list of what is found, or a sort, found none.
     ///
-    /// The keys of the range are walked, live or not, each in time logarithmic in the versions; no other key is. One key is looked
-    /// up as by `get`, and no list of keys is made. With a limit,
-    /// and no other order than that of the keys, no more is collected than the limit asks for; the walk goes on all the same,
-    /// since `count` counts every live key of the range. Any other order is sorted, in n log n comparisons of the n that pass
-    /// the filters. No value is copied.
+    /// The keys of the range are walked, live or not, each in time logarithmic in the versions; no
+    /// other key is. One key is looked up as by `get`, and no list of keys is made. With a limit,
+    /// and no other order than that of the keys, no more is collected than the limit asks for; the
+    /// walk goes on all the same, since `count` counts every live key of the range. Any other order
+    /// is sorted, in n log n comparisons of the n that pass the filters. No value is copied.
     pub fn range(&self, alloc: Global, query: &RangeQuery) -> Result<RangeReply<'a>, Refusal>
-        ensures reply { IfOk result (λ r. reply_view r ≡ range_reply self.now.versions self.now.compacted self.now.revision self.now.place query.now) }
-        ensures refused { MatchOption (revision_refusal self.now.compacted self.now.revision query.now.revision)
+        ensures reply { IfOk result (λ r. reply_view r ≡ range_reply self.now.versions
+            self.now.compacted self.now.revision self.now.place query.now) }
+        ensures refused { MatchOption
+            (revision_refusal self.now.compacted self.now.revision query.now.revision)
             (IfErr result (λ e. e ≡ Refusal.Memory)) (λ e. result ≡ Err e) }
     {
         if let Some(refusal) = revision_refusal(self.compacted, self.revision, query) {
@@ -182,7 +202,8 @@ impl<'a> View<'a> {
 
     /// The answer to a Range at the revision asked for, which is not looked at.
     fn answer(&self, alloc: Global, query: &RangeQuery) -> Result<RangeReply<'a>, AllocError>
-        ensures { IfOk result (λ r. reply_view r ≡ range_reply self.now.versions self.now.compacted self.now.revision self.now.place query.now) }
+        ensures { IfOk result (λ r. reply_view r ≡ range_reply self.now.versions
+            self.now.compacted self.now.revision self.now.place query.now) }
     {
         let place = read_place(query, self.place);
         let found = self.walk(alloc, query, place)?;
@@ -191,7 +212,8 @@ impl<'a> View<'a> {
 
     /// What the live keys of a range at a place are.
     fn walk(&self, alloc: Global, query: &RangeQuery, place: Rev) -> Result<Found<'a>, AllocError>
-        ensures { IfOk result (λ found. IsFound query.now found (live self.now.versions place query.now.range)) }
+        ensures { IfOk result (λ found. IsFound query.now found
+            (live self.now.versions place query.now.range)) }
     {
         if query.range.end.is_empty() {
             self.walk_one(alloc, query, place)
@@ -207,7 +229,8 @@ impl<'a> View<'a> {
         query: &RangeQuery,
         place: Rev,
     ) -> Result<Found<'a>, AllocError>
-        ensures { IfOk result (λ found. IsFound query.now found (live self.now.versions place (one_key query.now.range.key))) }
+        ensures { IfOk result (λ found. IsFound query.now found
+            (live self.now.versions place (one_key query.now.range.key))) }
     {
         let mut found = Found::new(alloc);
         match self.read(&query.range.key, place) {
@@ -224,7 +247,8 @@ impl<'a> View<'a> {
         query: &RangeQuery,
         place: Rev,
     ) -> Result<Found<'a>, AllocError>
-        ensures { IfOk result (λ found. IsFound query.now found (live self.now.versions place query.now.range)) }
+        ensures { IfOk result (λ found. IsFound query.now found
+            (live self.now.versions place query.now.range)) }
     {
         let keys = self.index.keys_in(&query.range)?;
         collect(alloc, self.table, &keys, query, place)
@@ -260,7 +284,8 @@ fn collect<'a>(
     query: &RangeQuery,
     place: Rev,
 ) -> Result<Found<'a>, AllocError>
-    ensures { IfOk result (λ found. IsFound query.now found (filter_map (read_entry table.now place) (map entry_of keys.now))) }
+    ensures { IfOk result (λ found. IsFound query.now found
+        (filter_map (read_entry table.now place) (map entry_of keys.now))) }
 {
     let mut found = Found::new(alloc);
     for key in keys {
@@ -279,7 +304,8 @@ fn held_by<'a>(
     keys: &[Indexed<'a>],
     place: Rev,
 ) -> Result<Vec<KvRef<'a>>, AllocError>
-    ensures { IfOk result (λ kvs. map kv_view kvs.items ≡ filter_map (read_entry table.now place) (map entry_of keys.now)) }
+    ensures { IfOk result (λ kvs. map kv_view kvs.items
+        ≡ filter_map (read_entry table.now place) (map entry_of keys.now)) }
 {
     let mut kvs = Vec::new(alloc);
     for key in keys {

@@ -22,7 +22,8 @@ use Rattle.store_laws.proofs.KeyLaws.{live-same}
 use Rattle.store_laws.proofs.GrowthLaws.{dress-extend_all}
 use Rattle.store_laws.proofs.Compacting.{same_ranges}
 use Rattle.store_laws.proofs.PlaceLaws.{AreBehind, each-map, each-append, each-part, each-dressed, mains-by, now-above, rev_le-after}
-use Rattle.store_laws.proofs.PlaceLaws.{rev_lt-mains, value_at-by, value_at-behind, value_at-grows, value_now-grows}
+use Rattle.store_laws.proofs.RevOrder.{rev_lt-mains}
+use Rattle.store_laws.proofs.PlaceLaws.{value_at-by, value_at-behind, value_at-grows, value_now-grows}
 use Rattle.store_laws.proofs.GoodLaws.{dressed-before, good-value_at, good-value_now}
 
 -- ---- what changes add

@@ -19,7 +19,8 @@ use Rattle.store_laws.specs.TrimmingLaws.{TrimmingStartsOver, TrimmingGoesOn, Go
 use Rattle.store_laws.proofs.Compacting.{same_ranges}
 use Rattle.store_laws.proofs.PlaceLaws.{each-map, each-part, each-append, last_that-none, rev_le-after, value_at-by}
 use Rattle.store_laws.proofs.GoodLaws.{dressed-before, good-value_at, good-value_now}
-use Rattle.store_laws.proofs.TrimLaws.{ranked, below-cases, AllSit, sit-part, replaces, replaces-not}
+use Rattle.store_laws.proofs.RevOrder.{ranked, below-cases}
+use Rattle.store_laws.proofs.TrimLaws.{AllSit, sit-part, replaces, replaces-not}
 use Rattle.store_laws.proofs.StepLaws.{part-self, same_event}
 use Rattle.store_laws.proofs.LeastLaws.{told_versions, versions_told}
 use Rattle.store_laws.proofs.PlaceSteps.{is_ahead, ahead-above}

@@ -18,7 +18,8 @@ use Rattle.kv_model.specs.Ranges.{insert_key, keys, live, value_within, keys_of}
 use Rattle.kv_model.specs.Txns.{deletes_of}
 use Rattle.store_laws.proofs.HistoryLaws.{same_key-eq}
 use Rattle.store_laws.proofs.KeyLaws.{cmp-refl, AllAbove, IsAscending, ascending-filter, ascending-keys}
-use Rattle.store_laws.proofs.PlaceLaws.{rev_lt-subs}
+use Rattle.store_laws.proofs.PlaceLaws.{each-filter}
+use Rattle.store_laws.proofs.RevOrder.{rev_lt-subs}
 
 -- ---- the key that a value is shown under
 
@@ -98,25 +99,18 @@ pub given-keys : (vs : List Version) → AllByRecursion (λ v. v.key ≢ []) vs 
 given-keys [] h = tt
 given-keys (v ∷ vs) h = given-insert v.key (keys vs) h.0 (given-keys vs h.1)
 
-pub each-filter : {X : Type 0} (P : X → Type 0) (t : X → Bool) (xs : List X) → AllByRecursion P xs → AllByRecursion P (filter t xs)
-each-filter P t [] h = tt
-each-filter P t (x ∷ xs) h = by (t x) (each-filter P t xs h.1)
-  where
-    by : (b : Bool) → AllByRecursion P (filter t xs) → AllByRecursion P (cond b (x ∷ filter t xs) (filter t xs))
-    by true rest = (h.0, rest)
-    by false rest = rest
-
 -- and are not empty where no version's key is
 pub live-given : (vs : List Version) (p : Rev) (r : KeyRange) → AllByRecursion (λ v. v.key ≢ []) vs → AreGiven (keys_of (live vs p r))
 live-given vs p r h = subst AreGiven (sym (live-keys vs p r)) (each-filter (λ k. k ≢ []) (λ k. is_some (value_within vs p r k)) (keys vs)
     (given-keys vs h))
 
 -- the same of some of the live keys
-above-some : (t : KeyValue → Bool) (k : List ℕ) (kvs : List KeyValue) → AllAbove k (keys_of kvs) → AllAbove k (keys_of (filter t kvs))
-above-some t k [] h = tt
-above-some t k (kv ∷ kvs) h = by (t kv) (above-some t k kvs h.1)
+each-some : (P : List ℕ → Type 0) (t : KeyValue → Bool) (kvs : List KeyValue) → AllByRecursion P (keys_of kvs)
+    → AllByRecursion P (keys_of (filter t kvs))
+each-some P t [] h = tt
+each-some P t (kv ∷ kvs) h = by (t kv) (each-some P t kvs h.1)
   where
-    by : (b : Bool) → AllAbove k (keys_of (filter t kvs)) → AllAbove k (keys_of (cond b (kv ∷ filter t kvs) (filter t kvs)))
+    by : (b : Bool) → AllByRecursion P (keys_of (filter t kvs)) → AllByRecursion P (keys_of (cond b (kv ∷ filter t kvs) (filter t kvs)))
     by true rest = (h.0, rest)
     by false rest = rest
 
@@ -125,16 +119,11 @@ ascending-some t [] h = tt
 ascending-some t (kv ∷ kvs) h = by (t kv) (ascending-some t kvs h.1)
   where
     by : (b : Bool) → IsAscending (keys_of (filter t kvs)) → IsAscending (keys_of (cond b (kv ∷ filter t kvs) (filter t kvs)))
-    by true rest = (above-some t kv.key kvs h.0, rest)
+    by true rest = (each-some (λ k. key_cmp kv.key k ≡ Less) t kvs h.0, rest)
     by false rest = rest
 
 pub given-some : (t : KeyValue → Bool) (kvs : List KeyValue) → AreGiven (keys_of kvs) → AreGiven (keys_of (filter t kvs))
-given-some t [] h = tt
-given-some t (kv ∷ kvs) h = by (t kv) (given-some t kvs h.1)
-  where
-    by : (b : Bool) → AreGiven (keys_of (filter t kvs)) → AreGiven (keys_of (cond b (kv ∷ filter t kvs) (filter t kvs)))
-    by true rest = (h.0, rest)
-    by false rest = rest
+given-some = each-some (λ k. k ≢ [])
 
 -- ---- their deletes
 

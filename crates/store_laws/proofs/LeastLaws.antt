@@ -20,7 +20,9 @@ use Rattle.store_laws.proofs.Compacting.{latest-out}
 use Rattle.store_laws.proofs.HistoryLaws.{same_key-eq}
 use Rattle.store_laws.proofs.PlaceLaws.{rev_le-end}
 use Rattle.store_laws.proofs.GoodLaws.{good-value_at}
-use Rattle.store_laws.proofs.TrimLaws.{same-refl, ranked, rev_lt-self, Precedes, AreRising, rising-dress, rising-part, rising-mid, Sits}
+use Rattle.store_laws.proofs.KeyLaws.{same-refl}
+use Rattle.store_laws.proofs.RevOrder.{ranked, rev_lt-self}
+use Rattle.store_laws.proofs.TrimLaws.{Precedes, AreRising, rising-dress, rising-part, rising-mid, Sits}
 use Rattle.store_laws.proofs.TrimLaws.{sit-part, superseded-mid, low, last_seen}
 use Rattle.store_laws.proofs.StepLaws.{settles}
 

@@ -20,8 +20,9 @@ use Rattle.store_laws.specs.TrimmingLaws.{IsLeastOfItself, PassingIsLeast}
 use Rattle.store_laws.proofs.PartLaws.{part_length}
 use Rattle.store_laws.proofs.PlaceLaws.{each-map}
 use Rattle.store_laws.proofs.GoodLaws.{or-none, or-none-first}
-use Rattle.store_laws.proofs.TrimLaws.{same-refl, AreRising, Precedes}
-use Rattle.store_laws.proofs.PlaceSteps.{rev_lt-trans}
+use Rattle.store_laws.proofs.TrimLaws.{AreRising, Precedes}
+use Rattle.store_laws.proofs.KeyLaws.{same-refl}
+use Rattle.store_laws.proofs.RevOrder.{rev_lt-trans}
 use Rattle.store_laws.proofs.StepLaws.{part-self}
 use Rattle.store_laws.proofs.LeastLaws.{each-in, in-filter, stand, once-rising, put-in, told-in, last-shown}
 use Rattle.store_laws.proofs.CertificateLaws.{is_twin, same-value}

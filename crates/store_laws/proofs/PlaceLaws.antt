@@ -1,19 +1,20 @@
 -- What a place in the history sees of versions: those behind it count for nothing, and behind all of them it sees the last.
 use Rattle.std.proofs.Common.{◌≡◌, ◌≤◌, ◌<◌, ℕ, ◌-◌, ◌^◌, List, [], ◌∷◌, ◌++◌, Bool, true, false, ◌&&◌, cond, Option, None, Some}
-use Rattle.std.proofs.Common.{option_and_then, refl, sym, ◌∙◌, ap, arith}
+use Rattle.std.proofs.Common.{option_and_then, filter, refl, sym, ◌∙◌, ap, arith}
 use Rattle.std.specs.Option.{option_or}
 use Rattle.std.specs.List.{AllByRecursion}
 use Rattle.std.specs.declared.cmp.Ordering.{Ordering}
 use Rattle.std.specs.declared.cmp.Ordering.TheVariants.{Less, Equal, Greater}
-use Rattle.std.specs.Ordering.{nat_cmp, ordering_then, is_lt, is_le, MatchOrdering}
+use Rattle.std.specs.Ordering.{nat_cmp, ordering_then, is_le, MatchOrdering}
 use Rattle.std.specs.Cmp.{ranks}
 use Rattle.kv_model.specs.declared.version.Rev.{Rev}
 use Rattle.kv_model.specs.declared.version.Version.{Version}
 use Rattle.kv_model.specs.Lists.{IsPart, nothing, keep, leave, last_that}
 use Rattle.kv_model.specs.Keys.{same_key}
 use Rattle.kv_model.specs.History.{Mutation, IsChange, IsBefore, IsHistory, now, now_after, dress, dress_after, latest, value_at, value_now}
-use Rattle.kv_model.specs.History.{key_value, rev_le, rev_lt, end_of}
+use Rattle.kv_model.specs.History.{key_value, rev_le, end_of}
 use Rattle.store_laws.proofs.HistoryLaws.{last_that-append}
+use Rattle.store_laws.proofs.RevOrder.{rev_lt-main}
 
 -- ---- what holds of each element
 
@@ -29,6 +30,14 @@ each-part P (leave p) h = each-part P p h.1
 pub each-append : {X : Type 0} (P : X → Type 0) (xs ys : List X) → AllByRecursion P xs → AllByRecursion P ys → AllByRecursion P (xs ++ ys)
 each-append P [] ys g h = h
 each-append P (x ∷ xs) ys g h = (g.0, each-append P xs ys g.1 h)
+
+pub each-filter : {X : Type 0} (P : X → Type 0) (t : X → Bool) (xs : List X) → AllByRecursion P xs → AllByRecursion P (filter t xs)
+each-filter P t [] h = tt
+each-filter P t (x ∷ xs) h = by (t x) (each-filter P t xs h.1)
+  where
+    by : (b : Bool) → AllByRecursion P (filter t xs) → AllByRecursion P (cond b (x ∷ filter t xs) (filter t xs))
+    by true rest = (h.0, rest)
+    by false rest = rest
 
 -- ---- the last that passes a test
 
@@ -138,35 +147,6 @@ rev_le-before p q h = by (nat_cmp p.main q.main) (ranks p.main q.main) (nat_cmp 
     by Less a t = refl
     by Equal a t = absurd (omega arith)
     by Greater a t = absurd (omega arith)
-
-pub rev_lt-main : (p q : Rev) → rev_lt p q ≡ true → p.main ≤ q.main
-rev_lt-main p q h = by (nat_cmp p.main q.main) (ranks p.main q.main) (nat_cmp p.sub q.sub) h
-  where
-    by : (o : Ordering) → MatchOrdering o (p.main < q.main) (p.main ≡ q.main) (q.main < p.main) → (t : Ordering) → is_lt (ordering_then o t)
-        ≡ true → p.main ≤ q.main
-    by Less a t e = omega arith
-    by Equal a t e = omega arith
-    by Greater a t e = cc
-
-pub rev_lt-mains : (p q : Rev) → p.main < q.main → rev_lt p q ≡ true
-rev_lt-mains p q h = by (nat_cmp p.main q.main) (ranks p.main q.main) (nat_cmp p.sub q.sub)
-  where
-    by : (o : Ordering) → MatchOrdering o (p.main < q.main) (p.main ≡ q.main) (q.main < p.main) → (t : Ordering) → is_lt (ordering_then o t)
-        ≡ true
-    by Less a t = refl
-    by Equal a t = absurd (omega arith)
-    by Greater a t = absurd (omega arith)
-
-pub rev_lt-subs : (p q : Rev) → p.main ≡ q.main → p.sub < q.sub → rev_lt p q ≡ true
-rev_lt-subs p q e h = by (nat_cmp p.main q.main) (ranks p.main q.main) (nat_cmp p.sub q.sub) (ranks p.sub q.sub)
-  where
-    by : (o : Ordering) → MatchOrdering o (p.main < q.main) (p.main ≡ q.main) (q.main < p.main)
-        → (t : Ordering) → MatchOrdering t (p.sub < q.sub) (p.sub ≡ q.sub) (q.sub < p.sub) → is_lt (ordering_then o t) ≡ true
-    by Less a t b = refl
-    by Equal a Less b = refl
-    by Equal a Equal b = absurd (omega arith)
-    by Equal a Greater b = absurd (omega arith)
-    by Greater a t b = absurd (omega arith)
 
 -- ---- the changes of a history and their versions
 

@@ -1,36 +1,19 @@
 -- A trimming step from a place on, over versions that rise.
 use Rattle.std.proofs.Common.{◌≡◌, ◌≤◌, ◌<◌, ◌⊎◌, ℕ, ◌+◌, ◌-◌, ◌^◌, List, [], ◌∷◌, ◌++◌, find, filter, Bool, true, false, not, ◌&&◌, cond}
 use Rattle.std.proofs.Common.{None, Some, refl, sym, ◌∙◌, ap, inl, inr, arith}
-use Rattle.std.specs.Prelude.{nat_le, ◌==◌}
-use Rattle.std.proofs.lemmas.Bool.{lt-leb, lt-ltb, le-ltb, eqb-true, eq-eqb}
-use Rattle.std.proofs.lemmas.List.Elements.{filter-append}
+use Rattle.std.specs.Prelude.{nat_le}
+use Rattle.std.proofs.lemmas.Bool.{lt-leb, lt-ltb, le-ltb}
 use Rattle.std.specs.List.{AllByRecursion}
 use Rattle.kv_model.specs.declared.version.Rev.{Rev}
 use Rattle.kv_model.specs.declared.version.Version.{Version}
 use Rattle.kv_model.specs.History.{rev_lt}
-use Rattle.kv_model.specs.Trimming.{is_at, without_rev, place_after}
-use Rattle.store_laws.proofs.PlaceLaws.{each-map, rev_lt-mains, rev_lt-subs}
-use Rattle.store_laws.proofs.TrimLaws.{below-cases, ranked, Precedes, AreRising, rising-mid}
+use Rattle.kv_model.specs.Trimming.{without_rev, place_after}
+use Rattle.store_laws.proofs.PlaceLaws.{each-map}
+use Rattle.store_laws.proofs.RevOrder.{ranked, rev_lt-mains, rev_lt-subs, below-cases}
+use Rattle.store_laws.proofs.Rising.{others-middle}
+use Rattle.store_laws.proofs.TrimLaws.{Precedes, AreRising, rising-mid}
 
 -- ---- places
-
-joined : (p q r : Rev) → (p.main < q.main) ⊎ ((p.main ≡ q.main) × (p.sub < q.sub)) → (q.main < r.main)
-    ⊎ ((q.main ≡ r.main) × (q.sub < r.sub)) → rev_lt p r ≡ true
-joined p q r (inl a) (inl b) = rev_lt-mains p r (omega arith)
-joined p q r (inl a) (inr b) = rev_lt-mains p r (omega arith)
-joined p q r (inr a) (inl b) = rev_lt-mains p r (omega arith)
-joined p q r (inr a) (inr b) = rev_lt-subs p r (omega arith) (omega arith)
-
-pub rev_lt-trans : (p q r : Rev) → rev_lt p q ≡ true → rev_lt q r ≡ true → rev_lt p r ≡ true
-rev_lt-trans p q r h g = joined p q r (below-cases p q h) (below-cases q r g)
-
--- what is behind a place that is not before another is not before it
-pub not-before : (p q r : Rev) → rev_lt p r ≡ false → rev_lt p q ≡ true → rev_lt q r ≡ false
-not-before p q r h g = by (rev_lt q r) refl
-  where
-    by : (b : Bool) → rev_lt q r ≡ b → b ≡ false
-    by true e = let f : true ≡ false = sym (rev_lt-trans p q r g e) ∙ h in cc
-    by false e = refl
 
 -- the place behind another
 pub after-self : (p : Rev) → p.main < 2 ^ 63 → p.sub < 2 ^ 64 → rev_lt p (place_after p) ≡ true
@@ -142,32 +125,10 @@ ahead-same p q c (v ∷ vs) g h = λ i. cond (not ((g.0 ∙ sym h.0) i) && nat_l
 
 -- ---- taking one out
 
-other_place : (p q : Rev) → (p.main ≡ q.main → p.sub ≡ q.sub → ⊥) → ((p.main == q.main) && (p.sub == q.sub)) ≡ false
-other_place p q h = by (p.main == q.main) refl (p.sub == q.sub) refl
-  where
-    by : (a : Bool) → (p.main == q.main) ≡ a → (b : Bool) → (p.sub == q.sub) ≡ b → (a && b) ≡ false
-    by true d true e = absurd (h (eqb-true p.main q.main d) (eqb-true p.sub q.sub e))
-    by true d false e = refl
-    by false d b e = refl
-
-kept-all : {X : Type 0} (p : X → Bool) (xs : List X) → AllByRecursion (λ x. p x ≡ true) xs → filter p xs ≡ xs
-kept-all p [] h = refl
-kept-all p (x ∷ xs) h = ap (λ b. cond b (x ∷ filter p xs) (filter p xs)) h.0 ∙ ap (λ ys. x ∷ ys) (kept-all p xs h.1)
-
-not-at : (p q : Rev) → (p.main < q.main) ⊎ ((p.main ≡ q.main) × (p.sub < q.sub)) → (((p.main == q.main) && (p.sub == q.sub)) ≡ false)
-    × (((q.main == p.main) && (q.sub == p.sub)) ≡ false)
-not-at p q (inl a) = (other_place p q (λ d e. omega arith), other_place q p (λ d e. omega arith))
-not-at p q (inr a) = (other_place p q (λ d e. omega arith), other_place q p (λ d e. omega arith))
-
-pub without-mid : (xs : List Version) (v : Version) (ys : List Version) → AreRising (xs ++ v ∷ ys) → without_rev (Some v.rev) (xs ++ v ∷ ys)
-    ≡ xs ++ ys
+pub without-mid : (xs : List Version) (v : Version) (ys : List Version) → AreRising (xs ++ v ∷ ys)
+    → without_rev (Some v.rev) (xs ++ v ∷ ys) ≡ xs ++ ys
 without-mid xs v ys h =
-    let test : Version → Bool = λ u. not (is_at v.rev u) in
     let mid = rising-mid xs v ys h in
-    filter-append test xs (v ∷ ys)
-    ∙ ap (λ b. filter test xs ++ cond (not b) (v ∷ filter test ys) (filter test ys)) (λ i. eq-eqb v.rev.main v.rev.main refl i
-    && eq-eqb v.rev.sub v.rev.sub refl i)
-    ∙ ap (λ us. us ++ filter test ys) (kept-all test xs (each-map (λ u. Precedes u v) (λ u. test u
-    ≡ true) (λ u a. ap not (not-at u.rev v.rev (below-cases u.rev v.rev a.0)).0) xs mid.0))
-    ∙ ap (λ us. xs ++ us) (kept-all test ys (each-map (Precedes v) (λ u. test u
-    ≡ true) (λ u a. ap not (not-at v.rev u.rev (below-cases v.rev u.rev a.0)).1) ys mid.1))
+    others-middle (λ u. u.rev) xs v ys
+    (each-map (λ u. Precedes u v) (λ u. rev_lt u.rev v.rev ≡ true) (λ u a. a.0) xs mid.0)
+    (each-map (Precedes v) (λ u. rev_lt v.rev u.rev ≡ true) (λ u a. a.0) ys mid.1)

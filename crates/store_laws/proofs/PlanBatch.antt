@@ -13,9 +13,10 @@ use Rattle.kv_model.specs.Ranges.{keys, keys_of, live_now, value_now_within}
 use Rattle.kv_model.specs.Txns.{Path, Touch, collides, put_change, deletes_of}
 use Rattle.store_laws.specs.Plans.{path_touches, is_deleted, still_live, planned}
 use Rattle.store_laws.proofs.KeyLaws.{same-refl}
-use Rattle.store_laws.proofs.PlaceLaws.{each-map, each-append, rev_lt-subs}
+use Rattle.store_laws.proofs.PlaceLaws.{each-map, each-append, each-filter}
+use Rattle.store_laws.proofs.RevOrder.{rev_lt-subs}
 use Rattle.store_laws.proofs.GoodLaws.{each-both}
-use Rattle.store_laws.proofs.DeleteLaws.{AreGiven, given-keys, each-filter, deletes-batch}
+use Rattle.store_laws.proofs.DeleteLaws.{AreGiven, given-keys, deletes-batch}
 use Rattle.store_laws.proofs.TouchLaws.{touch_of, AreClear, clear-one, live_now-keys, still_live-in, still_live-not, still_live-ascends}
 use Rattle.store_laws.proofs.PlanLaws.{NoClash, inner-clear, clear-front, clear-head, put-clear, delete-clear}
 

@@ -20,12 +20,12 @@ use Rattle.kv_model.specs.Kept.{Keeping, IsInLeast, IsTrimmed, IsCertificate, Tr
 use Rattle.store_laws.specs.TrimmingLaws.{keeping, trim_told, IsOwn, StepsWell, TrimmedStepsWell, DoneIsTrimmed}
 use Rattle.store_laws.proofs.PartLaws.{in_whole}
 use Rattle.store_laws.proofs.HistoryLaws.{AllByRecursion-split}
-use Rattle.store_laws.proofs.PlaceLaws.{each-map, each-append, rev_lt-main}
+use Rattle.store_laws.proofs.PlaceLaws.{each-map, each-append}
+use Rattle.store_laws.proofs.RevOrder.{rev_lt-main, rev_lt-self, rev_lt-trans, not-before}
 use Rattle.store_laws.proofs.TrimLaws.{Precedes, AreRising, rising-dress, rising-part, rising-mid, Sits, AllSit, sit-part, AreLeft}
-use Rattle.store_laws.proofs.TrimLaws.{rev_lt-self}
 use Rattle.store_laws.proofs.StepLaws.{settles, fewer, step-good}
 use Rattle.store_laws.proofs.LeastLaws.{each-in, IsLeft, stays-in, settled-least, least-settled}
-use Rattle.store_laws.proofs.PlaceSteps.{rev_lt-trans, not-before, after-self, after-next, First, first-from, none-from, is_ahead}
+use Rattle.store_laws.proofs.PlaceSteps.{after-self, after-next, First, first-from, none-from, is_ahead}
 use Rattle.store_laws.proofs.PlaceSteps.{ahead-none, ahead-above, ahead-same, without-mid}
 use Rattle.store_laws.proofs.CertificateLaws.{settled-certified}
 

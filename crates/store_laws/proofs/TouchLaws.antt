@@ -15,8 +15,8 @@ use Rattle.store_laws.proofs.HistoryLaws.{last_that-append, same_key-eq}
 use Rattle.store_laws.proofs.KeyLaws.{has_key, IsAscending, same_keys, ascending-filter, ascending-keys, has_key-filter, now_within-some}
 use Rattle.store_laws.proofs.KeyLaws.{value_now-has_key}
 use Rattle.store_laws.proofs.SmallLaws.{same_key-comm}
-use Rattle.store_laws.proofs.PlaceLaws.{each-map}
-use Rattle.store_laws.proofs.DeleteLaws.{mapped-keys, each-filter, last_that-passes, shown-key}
+use Rattle.store_laws.proofs.PlaceLaws.{each-map, each-filter}
+use Rattle.store_laws.proofs.DeleteLaws.{mapped-keys, last_that-passes, shown-key}
 
 -- ---- what a change touches
 

@@ -8,9 +8,8 @@ use Rattle.std.specs.Option.{option_or}
 use Rattle.std.specs.List.{AllByRecursion, list_any}
 use Rattle.std.specs.declared.cmp.Ordering.{Ordering}
 use Rattle.std.specs.declared.cmp.Ordering.TheVariants.{Less, Equal, Greater}
-use Rattle.std.specs.Ordering.{nat_cmp, ordering_then, is_lt, MatchOrdering}
+use Rattle.std.specs.Ordering.{nat_cmp, MatchOrdering}
 use Rattle.std.specs.Cmp.{ranks}
-use Rattle.std.specs.Cmp.Lexicographic.{bytes_decides}
 use Rattle.kv_model.specs.declared.version.Rev.{Rev}
 use Rattle.kv_model.specs.declared.version.Version.{Version}
 use Rattle.kv_model.specs.declared.version.Body.{Body}
@@ -22,60 +21,15 @@ use Rattle.kv_model.specs.Trimming.{is_superseded, is_tombstone, is_trimmed}
 use Rattle.store_laws.proofs.HistoryLaws.{same_key-eq, AllByRecursion-split}
 use Rattle.store_laws.proofs.Compacting.{superseded-out, tombstone-out}
 use Rattle.store_laws.proofs.PlaceLaws.{each-map, each-part, each-dressed, each-change, mains-by, last_that-none, rev_le-end, rev_le-after}
-use Rattle.store_laws.proofs.PlaceLaws.{rev_lt-main}
+use Rattle.store_laws.proofs.KeyLaws.{same-refl}
+use Rattle.store_laws.proofs.RevOrder.{ranked, rev_lt-main, rev_lt-turn, rev_lt-self}
 
 -- ---- small steps
-
-pub same-refl : (k : List ℕ) → same_key k k ≡ true
-same-refl k = (bytes_decides k k).1 refl
 
 pub both-true : (a b : Bool) → (a && b) ≡ true → (a ≡ true) × (b ≡ true)
 both-true true true e = (refl, refl)
 both-true true false e = cc
 both-true false b e = cc
-
--- a number is at most another, or above it
-pub ranked : (a b : ℕ) → (a ≤ b) ⊎ (b < a)
-ranked a b = by (nat_cmp a b) (ranks a b)
-  where
-    by : (o : Ordering) → MatchOrdering o (a < b) (a ≡ b) (b < a) → (a ≤ b) ⊎ (b < a)
-    by Less h = inl (omega arith)
-    by Equal h = inl (omega arith)
-    by Greater h = inr h
-
--- one place is below another by its main, or within one main
-pub below-cases : (p q : Rev) → rev_lt p q ≡ true → (p.main < q.main) ⊎ ((p.main ≡ q.main) × (p.sub < q.sub))
-below-cases p q h = by (nat_cmp p.main q.main) (ranks p.main q.main) (nat_cmp p.sub q.sub) (ranks p.sub q.sub) h
-  where
-    by : (o : Ordering) → MatchOrdering o (p.main < q.main) (p.main ≡ q.main) (q.main < p.main)
-        → (t : Ordering) → MatchOrdering t (p.sub < q.sub) (p.sub ≡ q.sub) (q.sub < p.sub) → is_lt (ordering_then o t) ≡ true
-        → (p.main < q.main) ⊎ ((p.main ≡ q.main) × (p.sub < q.sub))
-    by Less a t b e = inl a
-    by Equal a Less b e = inr (a, b)
-    by Equal a Equal b e = cc
-    by Equal a Greater b e = cc
-    by Greater a t b e = cc
-
-turned : (p q : Rev) → (p.main < q.main) ⊎ ((p.main ≡ q.main) × (p.sub < q.sub)) → (q.main < p.main) ⊎ ((q.main ≡ p.main) × (q.sub < p.sub))
-    → ⊥
-turned p q (inl a) (inl b) = omega arith
-turned p q (inl a) (inr b) = omega arith
-turned p q (inr a) (inl b) = omega arith
-turned p q (inr a) (inr b) = omega arith
-
-pub rev_lt-turn : (p q : Rev) → rev_lt p q ≡ true → rev_lt q p ≡ false
-rev_lt-turn p q h = by (rev_lt q p) refl
-  where
-    by : (b : Bool) → rev_lt q p ≡ b → b ≡ false
-    by true e = absurd (turned p q (below-cases p q h) (below-cases q p e))
-    by false e = refl
-
-pub rev_lt-self : (p : Rev) → rev_lt p p ≡ false
-rev_lt-self p = by (rev_lt p p) refl
-  where
-    by : (b : Bool) → rev_lt p p ≡ b → b ≡ false
-    by true e = absurd (turned p p (below-cases p p e) (below-cases p p e))
-    by false e = refl
 
 -- ---- versions of a history: they rise, and no key stands twice at one main revision
 

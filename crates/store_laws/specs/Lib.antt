@@ -7,3 +7,4 @@ pub mod Laws
 pub mod Growth
 pub mod PlanLaws
 pub mod ByRule
+pub mod Rising

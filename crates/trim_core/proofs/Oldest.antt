@@ -9,17 +9,17 @@ use Rattle.kv_model.specs.declared.version.Version.{Version}
 use Rattle.kv_model.specs.Keys.{same_key}
 use Rattle.kv_model.specs.History.{rev_lt}
 use Rattle.kv_model.specs.Trimming.{is_superseded, is_tombstone, is_trimmed}
-use Rattle.store_laws.proofs.HistoryLaws.{AllByRecursion-split}
+use Rattle.store_laws.proofs.HistoryLaws.{AllByRecursion-split, same_key-eq}
+use Rattle.store_laws.proofs.KeyLaws.{same-refl}
 use Rattle.store_laws.proofs.PlaceSteps.{First, first-from}
+use Rattle.store_laws.proofs.RevOrder.{rev_lt-main, is_rev-self}
+use Rattle.store_laws.proofs.Rising.{rising-parts}
 use Rattle.version_table.specs.Rising.{IsRising}
-use Rattle.version_table.proofs.RevOrder.{main_le}
-use Rattle.key_index.specs.Marks.{is_oldest}
-use Rattle.key_index.specs.Agrees.{mark_of, marks_of}
-use Rattle.key_index.proofs.RevOrder.{rev-alike}
-use Rattle.key_index.proofs.Keys.{same-refl, same-eq}
-use Rattle.key_index.proofs.Agrees.{marks_of-append, marks_of-cons}
+use Rattle.key_index.specs.KeyRevisions.{is_oldest}
+use Rattle.key_index.specs.Agrees.{revisions_of}
+use Rattle.key_index.proofs.Agrees.{revisions_of-append, revisions_of-cons}
 use Rattle.trim_core.specs.Steps.{if_by, next_version, VisitedIsOldest}
-use Rattle.trim_core.proofs.Stepping.{first-of, parts}
+use Rattle.trim_core.proofs.Stepping.{first-of}
 
 low : (vs : List Version) (p : Rev) (c : ℕ) (v : Version) → next_version vs p c ≡ Some v → nat_le v.rev.main c ≡ true
 low vs p c v e = by (find (λ u. not (rev_lt u.rev p)) vs) e
@@ -49,20 +49,21 @@ replaced : (xs : List Version) (v : Version) (ys : List Version) (c : ℕ) (u : 
     → is_superseded (xs ++ v ∷ ys) c u ≡ true
 unfolding is_superseded
 replaced xs v ys c u s l n =
-    let same : same_key v.key u.key ≡ true = ap (λ k. same_key v.key k) (same-eq u.key v.key s) ∙ same-refl v.key in
+    let same : same_key v.key u.key ≡ true = ap (λ k. same_key v.key k) (same_key-eq u.key v.key s) ∙ same-refl v.key in
     any-middle (λ w. same_key w.key u.key && rev_lt u.rev w.rev && nat_le w.rev.main c) xs v ys (λ i. same i && l i && n i)
 
 module _ (vs : List Version) (p : Rev) (c : ℕ) (v : Version) (n : nat_le v.rev.main c ≡ true)
     (goes : (u : Version) → same_key u.key v.key ≡ true → rev_lt u.rev v.rev ≡ true → is_superseded vs c u ≡ true) where
   none-earlier : (us : List Version) → AllByRecursion (λ u. rev_lt u.rev p ≡ true) us
       → AllByRecursion (λ u. (rev_lt u.rev p && (nat_le u.rev.main c && is_trimmed vs c u)) ≡ false) us
-      → AllByRecursion (λ u. rev_lt u.rev v.rev ≡ true) us → marks_of v.key us ≡ []
+      → AllByRecursion (λ u. rev_lt u.rev v.rev ≡ true) us → revisions_of v.key us ≡ []
   none-earlier [] b t l = refl
-  none-earlier (u ∷ us) b t l = marks_of-cons v.key u us ∙ by (same_key u.key v.key) refl (none-earlier us b.1 t.1 l.1)
+  none-earlier (u ∷ us) b t l = revisions_of-cons v.key u us ∙ by (same_key u.key v.key) refl (none-earlier us b.1 t.1 l.1)
     where
-      by : (a : Bool) → same_key u.key v.key ≡ a → marks_of v.key us ≡ [] → cond a (mark_of u ∷ marks_of v.key us) (marks_of v.key us) ≡ []
+      by : (a : Bool) → same_key u.key v.key ≡ a → revisions_of v.key us ≡ []
+          → cond a (u.rev ∷ revisions_of v.key us) (revisions_of v.key us) ≡ []
       by true e rest =
-          let under : nat_le u.rev.main c ≡ true = lower-number u.rev.main v.rev.main c (main_le u.rev v.rev l.0) n in
+          let under : nat_le u.rev.main c ≡ true = lower-number u.rev.main v.rev.main c (rev_lt-main u.rev v.rev l.0) n in
           let out : is_superseded vs c u ≡ true = goes u e l.0 in
           let x : true ≡ false = (λ i. sym b.0 i && (sym under i && (sym out i || (is_tombstone u.body && nat_lt u.rev.main c)))) ∙ t.0 in
           cc
@@ -71,15 +72,16 @@ module _ (vs : List Version) (p : Rev) (c : ℕ) (v : Version) (n : nat_le v.rev
 pub visited-oldest : VisitedIsOldest
 visited-oldest i vs p c v r a t e =
     let f : First p v vs = first-from p v vs (first-of vs p c v e) in
-    let m = parts f.before v f.after (subst IsRising f.is r) in
+    let m = rising-parts (λ u. u.rev) f.before v f.after (subst IsRising f.is r) in
     let n = low vs p c v e in
     let goes : (u : Version) → same_key u.key v.key ≡ true → rev_lt u.rev v.rev ≡ true → is_superseded vs c u ≡ true =
     λ u s l. subst (λ us. is_superseded us c u ≡ true) (sym f.is) (replaced f.before v f.after c u s l n) in
     let left = AllByRecursion-split (λ u. (rev_lt u.rev p && (nat_le u.rev.main c && is_trimmed vs c u)) ≡ false) f.before (v ∷ f.after)
     (subst (λ us. AllByRecursion (λ u. (rev_lt u.rev p && (nat_le u.rev.main c && is_trimmed vs c u)) ≡ false) us) f.is t) in
-    let none : marks_of v.key f.before ≡ [] = none-earlier vs p c v n goes f.before f.all_before left.0 m.0 in
+    let none : revisions_of v.key f.before ≡ [] = none-earlier vs p c v n goes f.before f.all_before left.0 m.0 in
     ap (is_oldest v.rev) (
-    a.each v.key ∙ ap (marks_of v.key) f.is ∙ marks_of-append v.key f.before (v ∷ f.after)
-    ∙ ap (λ ms. ms ++ marks_of v.key (v ∷ f.after)) none
-    ∙ marks_of-cons v.key v f.after ∙ ap (λ b. cond b (mark_of v ∷ marks_of v.key f.after) (marks_of v.key f.after)) (same-refl v.key))
-    ∙ rev-alike v.rev
+    a.each v.key ∙ ap (revisions_of v.key) f.is ∙ revisions_of-append v.key f.before (v ∷ f.after)
+    ∙ ap (λ qs. qs ++ revisions_of v.key (v ∷ f.after)) none
+    ∙ revisions_of-cons v.key v f.after
+    ∙ ap (λ b. cond b (v.rev ∷ revisions_of v.key f.after) (revisions_of v.key f.after)) (same-refl v.key))
+    ∙ is_rev-self v.rev

@@ -3,7 +3,7 @@ use Rattle.std.proofs.Common.{◌≡◌, ℕ, List, [], ◌∷◌, ◌++◌, len
 use Rattle.std.proofs.Common.{filter, find, Option, None, Some, option_map, refl, sym, ◌∙◌, ap, subst, arith}
 use Rattle.std.specs.Prelude.{nat_le, ◌≤◌}
 use Rattle.std.proofs.lemmas.Bool.Decides.{nat_tests}
-use Rattle.std.specs.List.{AllByRecursion, list_any}
+use Rattle.std.specs.List.{list_any}
 use Rattle.kv_model.specs.declared.version.Rev.{Rev}
 use Rattle.kv_model.specs.declared.version.Version.{Version}
 use Rattle.kv_model.specs.Keys.{same_key}
@@ -12,22 +12,21 @@ use Rattle.kv_model.specs.Told.{Trimmed}
 use Rattle.kv_model.specs.Trimming.{TrimStep, is_at, without_rev, is_superseded, is_trimmed}
 use Rattle.kv_model.specs.Trimming.{place_after, visited, finished, trimmed, trimmed_next}
 use Rattle.store_laws.proofs.PlaceSteps.{First, first-from}
+use Rattle.store_laws.proofs.RevOrder.{rev_lt-main, is_rev-self, is_rev-before}
+use Rattle.store_laws.proofs.Rising.{IsAbove, rising-parts}
 use Rattle.version_table.specs.Rising.{IsRising}
-use Rattle.version_table.proofs.RevOrder.{is_at-before, main_le}
-use Rattle.version_table.proofs.Rising.{IsAbove}
 use Rattle.version_table.proofs.Changes.{without_rev-middle}
-use Rattle.key_index.specs.declared.revisions.Mark.{Mark}
-use Rattle.key_index.specs.Marks.{after_place, rev_of}
-use Rattle.key_index.specs.Index.{Index, marks, without_mark}
-use Rattle.key_index.specs.Agrees.{Agrees, mark_of, marks_of}
-use Rattle.key_index.proofs.RevOrder.{rev-alike}
-use Rattle.key_index.proofs.Agrees.{marks_of-cons, remove-agrees}
+use Rattle.key_index.specs.KeyRevisions.{after_place}
+use Rattle.key_index.specs.Index.{Index, revisions, without_revision}
+use Rattle.key_index.specs.Agrees.{Agrees, revisions_of}
+use Rattle.key_index.proofs.Agrees.{revisions_of-cons, remove-agrees}
 use Rattle.trim_core.specs.declared.trimmer.Trim.TheVariants.{Removed, Kept, Done}
 use Rattle.trim_core.specs.Steps.{if_by, next_version, step_of}
 
 -- ---- the version to visit
 
-above-find : (q : Rev) (t : Version → Bool) (vs : List Version) (v : Version) → IsAbove q vs → find t vs ≡ Some v → rev_lt q v.rev ≡ true
+above-find : (q : Rev) (t : Version → Bool) (vs : List Version) (v : Version) → IsAbove (λ (u : Version). u.rev) q vs → find t vs ≡ Some v
+    → rev_lt q v.rev ≡ true
 above-find q t [] v a e = cc
 above-find q t (u ∷ us) v a e = by (t u) e (λ f. above-find q t us v a.1 f)
   where
@@ -44,8 +43,8 @@ find-first t (u ∷ us) v r e = by (t u) e (λ f. find-first t us v r.1 f)
         → cond (is_at v.rev u) (Some u) (find (is_at v.rev) us) ≡ Some v
     by true f rest =
         let same : u ≡ v = cc in
-        ap (λ b. cond b (Some u) (find (is_at v.rev) us)) (ap (is_at v.rev) same ∙ rev-alike v.rev) ∙ ap Some same
-    by false f rest = ap (λ b. cond b (Some u) (find (is_at v.rev) us)) (is_at-before v.rev u (above-find u.rev t us v r.0 f)) ∙ rest f
+        ap (λ b. cond b (Some u) (find (is_at v.rev) us)) (ap (is_at v.rev) same ∙ is_rev-self v.rev) ∙ ap Some same
+    by false f rest = ap (λ b. cond b (Some u) (find (is_at v.rev) us)) (is_rev-before v.rev u.rev (above-find u.rev t us v r.0 f)) ∙ rest f
 
 pub found : (vs : List Version) (p : Rev) (c : ℕ) (q : Rev) → IsRising vs
     → Some q ≡ option_map (λ (v : Version). v.rev) (find (λ v. not (rev_lt v.rev p)) vs) → nat_le q.main c ≡ true
@@ -148,64 +147,52 @@ module _ (k : List ℕ) (p : Rev) (c : ℕ) where
   abbrev later : Version → Bool
   later u = same_key u.key k && rev_lt p u.rev && nat_le u.rev.main c
 
-  none-later : (q : Rev) (vs : List Version) → IsAbove q vs → nat_le q.main c ≡ false → list_any later vs ≡ false
+  none-later : (q : Rev) (vs : List Version) → IsAbove (λ (u : Version). u.rev) q vs → nat_le q.main c ≡ false → list_any later vs ≡ false
   none-later q [] a h = refl
   none-later q (u ∷ us) a h =
-      let high : nat_le u.rev.main c ≡ false = above-number q.main u.rev.main c (main_le q u.rev a.0) h in
+      let high : nat_le u.rev.main c ≡ false = above-number q.main u.rev.main c (rev_lt-main q u.rev a.0) h in
       ap (λ b. (same_key u.key k && rev_lt p u.rev && b) || list_any later us) high
       ∙ ap (λ b. b || list_any later us) (none-of (same_key u.key k) (rev_lt p u.rev))
       ∙ none-later q us a.1 h
 
-  superseded : (vs : List Version) → IsRising vs → list_any later vs ≡ is_by c (after_place p (marks_of k vs))
+  superseded : (vs : List Version) → IsRising vs → list_any later vs ≡ is_by c (after_place p (revisions_of k vs))
   superseded [] r = refl
   superseded (v ∷ vs) r =
       by (same_key v.key k) (rev_lt p v.rev) refl (nat_le v.rev.main c) refl (superseded vs r.1)
-      ∙ sym (ap (λ ms. is_by c (after_place p ms)) (marks_of-cons k v vs))
+      ∙ sym (ap (λ qs. is_by c (after_place p qs)) (revisions_of-cons k v vs))
     where
-      behind : Option Mark
-      behind = find (λ m. rev_lt p m.rev) (marks_of k vs)
-
       here : (d : Bool) → nat_le v.rev.main c ≡ d → (d || list_any later vs) ≡ nat_le v.rev.main c
       here true f = sym f
       here false f = none-later v.rev vs r.0 f ∙ sym f
 
       by : (a b : Bool) → rev_lt p v.rev ≡ b → (d : Bool) → nat_le v.rev.main c ≡ d
-          → list_any later vs ≡ is_by c (after_place p (marks_of k vs))
-          → ((a && b && d) || list_any later vs) ≡ is_by c (after_place p (cond a (mark_of v ∷ marks_of k vs) (marks_of k vs)))
+          → list_any later vs ≡ is_by c (after_place p (revisions_of k vs))
+          → ((a && b && d) || list_any later vs) ≡ is_by c (after_place p (cond a (v.rev ∷ revisions_of k vs) (revisions_of k vs)))
       by true true e d f rest =
-          here d f ∙ sym (ap (λ b. is_by c (option_map rev_of (cond b (Some (mark_of v)) (find (λ m. rev_lt p m.rev) (marks_of k vs))))) e)
+          here d f ∙ sym (ap (λ b. is_by c (cond b (Some v.rev) (after_place p (revisions_of k vs)))) e)
       by true false e d f rest =
-          rest ∙ sym (ap (λ b. is_by c (option_map rev_of (cond b (Some (mark_of v)) (find (λ m. rev_lt p m.rev) (marks_of k vs))))) e)
+          rest ∙ sym (ap (λ b. is_by c (cond b (Some v.rev) (after_place p (revisions_of k vs)))) e)
       by false b e d f rest = rest
 
 pub superseded-some : (i : Index) (vs : List Version) (v : Version) (c : ℕ) (q : Rev) → IsRising vs → Agrees i vs
-    → Some q ≡ after_place v.rev (marks v.key i) → nat_le q.main c ≡ is_superseded vs c v
+    → Some q ≡ after_place v.rev (revisions v.key i) → nat_le q.main c ≡ is_superseded vs c v
 unfolding is_superseded
 superseded-some i vs v c q r a e = ap (is_by c) (e ∙ ap (after_place v.rev) (a.each v.key)) ∙ sym (superseded v.key v.rev c vs r)
 
 pub superseded-none : (i : Index) (vs : List Version) (v : Version) (c : ℕ) → IsRising vs → Agrees i vs
-    → None ≡ after_place v.rev (marks v.key i) → false ≡ is_superseded vs c v
+    → None ≡ after_place v.rev (revisions v.key i) → false ≡ is_superseded vs c v
 unfolding is_superseded
 superseded-none i vs v c r a e = ap (is_by c) (e ∙ ap (after_place v.rev) (a.each v.key)) ∙ sym (superseded v.key v.rev c vs r)
 
 -- ---- the index of what is left
 
-pub parts : (xs : List Version) (v : Version) (ys : List Version) → IsRising (xs ++ v ∷ ys)
-    → AllByRecursion (λ u. rev_lt u.rev v.rev ≡ true) xs × IsAbove v.rev ys
-parts [] v ys r = (tt, r.0)
-parts (x ∷ xs) v ys r = let m = parts xs v ys r.1 in ((at x.rev xs r.0, m.0), m.1)
-  where
-    at : (q : Rev) (zs : List Version) → IsAbove q (zs ++ v ∷ ys) → rev_lt q v.rev ≡ true
-    at q [] a = a.0
-    at q (z ∷ zs) a = at q zs a.1
-
 pub out-agrees : (i : Index) (vs : List Version) (p : Rev) (c : ℕ) (v : Version) → Agrees i vs → IsRising vs → next_version vs p c ≡ Some v
-    → Agrees (without_mark v.key v.rev i) (without_rev (Some v.rev) vs)
+    → Agrees (without_revision v.key v.rev i) (without_rev (Some v.rev) vs)
 out-agrees i vs p c v a r e =
     let f : First p v vs = first-from p v vs (first-of vs p c v e) in
     let rising : IsRising (f.before ++ v ∷ f.after) = subst IsRising f.is r in
-    let m = parts f.before v f.after rising in
-    let left : Agrees (without_mark v.key v.rev i) (f.before ++ f.after) =
+    let m = rising-parts (λ u. u.rev) f.before v f.after rising in
+    let left : Agrees (without_revision v.key v.rev i) (f.before ++ f.after) =
     remove-agrees i f.before v f.after (subst (Agrees i) f.is a) m.0 m.1 in
-    subst (λ (us : List Version). Agrees (without_mark v.key v.rev i) (without_rev (Some v.rev) us)) (sym f.is)
-    (subst (Agrees (without_mark v.key v.rev i)) (sym (without_rev-middle f.before v f.after rising)) left)
+    subst (λ (us : List Version). Agrees (without_revision v.key v.rev i) (without_rev (Some v.rev) us)) (sym f.is)
+    (subst (Agrees (without_revision v.key v.rev i)) (sym (without_rev-middle f.before v f.after rising)) left)

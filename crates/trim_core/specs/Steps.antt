@@ -7,8 +7,8 @@ use Rattle.kv_model.specs.History.{rev_lt}
 use Rattle.kv_model.specs.Told.{Trimmed}
 use Rattle.kv_model.specs.Trimming.{TrimStep, IsTrimmedTo}
 use Rattle.version_table.specs.Rising.{IsRising}
-use Rattle.key_index.specs.Marks.{is_oldest}
-use Rattle.key_index.specs.Index.{Index, marks}
+use Rattle.key_index.specs.KeyRevisions.{is_oldest}
+use Rattle.key_index.specs.Index.{Index, revisions}
 use Rattle.key_index.specs.Agrees.{Agrees}
 use Rattle.trim_core.specs.declared.trimmer.Trim.{Trim}
 use Rattle.trim_core.specs.declared.trimmer.Trim.TheVariants.{Removed, Kept, Done}
@@ -35,7 +35,7 @@ next_version vs p c = if_by c (find (λ v. not (rev_lt v.rev p)) vs)
 abbrev pub VisitedIsOldest : Type 0
 VisitedIsOldest = (i : Index) (vs : List Version) (p : Rev) (c : ℕ) (v : Version) → IsRising vs → Agrees i vs
     → IsTrimmedTo vs p c → next_version vs p c ≡ Some v
-    → is_oldest v.rev (marks v.key i) ≡ true
+    → is_oldest v.rev (revisions v.key i) ≡ true
 
 -- where versions are dropped, as those of a revision that is taken back, still nothing that goes is behind the place
 abbrev pub FewerStayTrimmed : Type 0

@@ -16,7 +16,7 @@
 //! 4 put b                         Done 1           no version from 4.1 on is at or below 4
 //! ```
 //!
-//! The tests stand in the crate `public_calls`, in `src/trims.rt`.
+//! The tests stand in the crate `store_tests`, in `src/trims.rt`.
 #![tactic(auto)]
 
 pub mod laws;

@@ -1,7 +1,6 @@
 -- What the changes of a rising list undo, and that a version is found by its revision.
 use Rattle.std.proofs.Common.{◌≡◌, ℕ, List, [], ◌∷◌, ◌++◌, Bool, true, false, not, ◌&&◌}
 use Rattle.std.proofs.Common.{◌==◌, cond, Option, None, Some, filter, refl, ◌∙◌, ap, subst}
-use Rattle.std.proofs.lemmas.Bool.Decides.{Decides-eqb}
 use Rattle.std.proofs.lemmas.List.{append-nil}
 use Rattle.std.specs.Option.{option_or}
 use Rattle.std.specs.List.{AllByRecursion, find}
@@ -10,17 +9,14 @@ use Rattle.kv_model.specs.declared.version.Version.{Version}
 use Rattle.kv_model.specs.Keys.{same_key}
 use Rattle.kv_model.specs.History.{rev_lt, rev_le, latest}
 use Rattle.kv_model.specs.Kept.{is_at, without_rev}
-use Rattle.version_table.specs.Rising.{IsRising, last, is_of, is_newest, retracted}
-use Rattle.version_table.proofs.RevOrder.{is_at-before}
-use Rattle.version_table.proofs.Rising.{IsAbove, all-above}
+use Rattle.store_laws.specs.Rising.{is_of}
+use Rattle.store_laws.proofs.PlaceLaws.{each-map}
+use Rattle.store_laws.proofs.RevOrder.{is_rev-self, is_rev-before}
+use Rattle.store_laws.proofs.Rising.{kept-all, others-middle, rising-parts}
+use Rattle.version_table.specs.Rising.{IsRising, newest, rev_of, is_newest, retracted}
+use Rattle.version_table.proofs.Rising.{IsAbove}
 
 -- ---- a version is found by its revision
-
-same-number : (n : ℕ) → (n == n) ≡ true
-same-number n = (Decides-eqb n n).1 refl
-
-is_at-itself : (v : Version) → is_at v.rev v ≡ true
-is_at-itself v = ap (λ b. b && v.rev.sub == v.rev.sub) (same-number v.rev.main) ∙ same-number v.rev.sub
 
 above-latest : (q p : Rev) (k : List ℕ) (vs : List Version) (v : Version) → IsAbove q vs → latest vs p k ≡ Some v → rev_lt q v.rev ≡ true
 above-latest q p k [] v a e = cc
@@ -43,36 +39,25 @@ find-latest (w ∷ ws) r p k v e = by (latest ws p k) refl (same_key w.key k && 
         → cond (is_at v.rev w) (Some w) (find (is_at v.rev) ws) ≡ Some v
     by (Some u) f b g more =
         let rest : latest ws p k ≡ Some v = f ∙ g in
-        ap (λ b. cond b (Some w) (find (is_at v.rev) ws)) (is_at-before v.rev w (above-latest w.rev p k ws v r.0 rest)) ∙ more rest
+        ap (λ b. cond b (Some w) (find (is_at v.rev) ws)) (is_rev-before v.rev w.rev (above-latest w.rev p k ws v r.0 rest)) ∙ more rest
     by None f true g more =
         let same : w ≡ v = cc in
-        ap (λ b. cond b (Some w) (find (is_at v.rev) ws)) (ap (λ u. is_at v.rev u) same ∙ is_at-itself v) ∙ ap Some same
+        ap (λ b. cond b (Some w) (find (is_at v.rev) ws)) (ap (λ u. is_at v.rev u) same ∙ is_rev-self v.rev) ∙ ap Some same
     by None f false g more = cc
 
 -- ---- a version taken out by its revision
 
 pub without_rev-middle : (xs : List Version) (v : Version) (ys : List Version) → IsRising (xs ++ v ∷ ys)
     → without_rev (Some v.rev) (xs ++ v ∷ ys) ≡ xs ++ ys
-without_rev-middle [] v ys r =
-    ap (λ b. cond (not b) (v ∷ filter (λ w. not (is_at v.rev w)) ys) (filter (λ w. not (is_at v.rev w)) ys)) (is_at-itself v)
-    ∙ all-above v.rev ys r.0
-without_rev-middle (x ∷ xs) v ys r =
-    ap (λ b. cond (not b) (x ∷ filter (λ w. not (is_at v.rev w)) (xs ++ v ∷ ys)) (filter (λ w. not (is_at v.rev w)) (xs ++ v ∷ ys)))
-    (is_at-before v.rev x (middle x.rev xs r.0))
-    ∙ ap (λ ws. x ∷ ws) (without_rev-middle xs v ys r.1)
-  where
-    middle : (q : Rev) (zs : List Version) → IsAbove q (zs ++ v ∷ ys) → rev_lt q v.rev ≡ true
-    middle q [] a = a.0
-    middle q (z ∷ zs) a = middle q zs a.1
+without_rev-middle xs v ys r = let parts = rising-parts rev_of xs v ys r in others-middle rev_of xs v ys parts.0 parts.1
 
 -- ---- a main revision taken back
 
 kept-others : (main : ℕ) (vs : List Version) → AllByRecursion (λ v. (v.rev.main == main) ≡ false) vs
     → filter (λ v. not (v.rev.main == main)) vs ≡ vs
-kept-others main [] h = refl
-kept-others main (v ∷ vs) h =
-    ap (λ b. cond (not b) (v ∷ filter (λ w. not (w.rev.main == main)) vs) (filter (λ w. not (w.rev.main == main)) vs)) h.0
-    ∙ ap (λ ws. v ∷ ws) (kept-others main vs h.1)
+kept-others main vs h =
+    kept-all (λ v. not (v.rev.main == main)) vs
+    (each-map (λ (v : Version). (v.rev.main == main) ≡ false) (λ v. not (v.rev.main == main) ≡ true) (λ v e. ap not e) vs h)
 
 kept-append : (main : ℕ) (vs us : List Version) → AllByRecursion (λ v. (v.rev.main == main) ≡ false) vs
     → AllByRecursion (λ u. (u.rev.main == main) ≡ true) us
@@ -89,14 +74,15 @@ kept-append main (v ∷ vs) us h g =
 newest-of : (main : ℕ) (vs : List Version) (u : Version) (us : List Version) → AllByRecursion (λ w. (w.rev.main == main) ≡ true) (u ∷ us)
     → is_newest main (vs ++ u ∷ us) ≡ true
 newest-of main [] u [] g = g.0
-newest-of main [] u (w ∷ us) g = by (last us) (newest-of main [] w us g.1)
+newest-of main [] u (w ∷ us) g = by (newest us) (newest-of main [] w us g.1)
   where
-    by : (o : Option Version) → is_of main (option_or o (Some w)) ≡ true → is_of main (option_or (option_or o (Some w)) (Some u)) ≡ true
+    by : (o : Option Version) → is_of rev_of main (option_or o (Some w)) ≡ true
+        → is_of rev_of main (option_or (option_or o (Some w)) (Some u)) ≡ true
     by None e = e
     by (Some x) e = e
-newest-of main (v ∷ vs) u us g = by (last (vs ++ u ∷ us)) (newest-of main vs u us g)
+newest-of main (v ∷ vs) u us g = by (newest (vs ++ u ∷ us)) (newest-of main vs u us g)
   where
-    by : (o : Option Version) → is_of main o ≡ true → is_of main (option_or o (Some v)) ≡ true
+    by : (o : Option Version) → is_of rev_of main o ≡ true → is_of rev_of main (option_or o (Some v)) ≡ true
     by None e = cc
     by (Some x) e = e
 

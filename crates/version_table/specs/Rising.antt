@@ -1,41 +1,35 @@
 -- Versions in the order of their revisions, and the ways to change such a list.
-use Rattle.std.specs.Prelude.{◌≡◌, ℕ, ◌-◌, List, [], ◌∷◌, Bool, true, false, not, zero}
-use Rattle.std.specs.Prelude.{suc, ◌==◌, Option, None, Some, filter, if◌then◌else◌, ⊤}
-use Rattle.std.specs.List.{AllByRecursion, remove}
+use Rattle.std.specs.Prelude.{ℕ, ◌-◌, List, Bool, not, zero, ◌==◌, Option, None, Some, filter, if◌then◌else◌}
+use Rattle.std.specs.List.{remove}
 use Rattle.kv_model.specs.declared.version.Rev.{Rev}
 use Rattle.kv_model.specs.declared.version.Version.{Version}
-use Rattle.kv_model.specs.Lists.{last_that}
 use Rattle.kv_model.specs.History.{rev_lt}
+use Rattle.store_laws.specs.Rising as rising
+pub use Rattle.store_laws.specs.Rising.{newest}
+
+abbrev pub rev_of : Version → Rev
+rev_of v = v.rev
 
 -- the place stands behind every version
 abbrev pub IsBehind : Rev → List Version → Type 0
-IsBehind p vs = AllByRecursion (λ v. rev_lt v.rev p ≡ true) vs
+IsBehind p vs = rising.IsBehind rev_of p vs
 
 -- each version stands before those after it
 abbrev pub IsRising : List Version → Type 0
-IsRising [] = ⊤
-IsRising (v ∷ vs) = AllByRecursion (λ w. rev_lt v.rev w.rev ≡ true) vs × IsRising vs
+IsRising vs = rising.IsRising rev_of vs
 
 -- how many versions stand before a place, in a rising list
 abbrev pub count_before : Rev → List Version → ℕ
-count_before p [] = zero
-count_before p (v ∷ vs) = if rev_lt v.rev p then suc (count_before p vs) else zero
+count_before p vs = rising.count_while (λ v. rev_lt v.rev p) vs
 
 -- where a revision stands behind the first version, if each main revision between has one version
 abbrev pub guess : Rev → Option Version → ℕ
 guess p None = zero
 guess p (Some v) = p.main - v.rev.main
 
-abbrev pub last : List Version → Option Version
-last vs = last_that (λ _. true) vs
-
-abbrev pub is_of : ℕ → Option Version → Bool
-is_of main None = false
-is_of main (Some v) = v.rev.main == main
-
 -- the last version is of this main revision
 abbrev pub is_newest : ℕ → List Version → Bool
-is_newest main vs = is_of main (last vs)
+is_newest main vs = rising.is_of rev_of main (newest vs)
 
 -- the versions without those of a main revision where it is the newest, and else all
 abbrev pub retracted : ℕ → List Version → List Version

@@ -18,7 +18,7 @@
 //! retract 2                  2.0 3.1, since 2 is not
 //! ```
 //!
-//! The tests stand in the crate `public_calls`, in `src/table.rt`.
+//! The tests stand in the crate `store_tests`, in `src/table.rt`.
 #![tactic(auto)]
 
 pub mod table;

@@ -5,8 +5,8 @@ ghost use Rattle.std.specs.Prelude.{option_copied, OnOk, OnErr, IsTrue, Some, No
 ghost use Rattle.std.specs.List.{find, slice_get};
 ghost use Rattle.kv_model.specs.History.{rev_lt};
 ghost use Rattle.kv_model.specs.Kept.{is_at, without_rev};
-ghost use Rattle.version_table.specs.Rising.{IsBehind, IsRising, guess, is_of};
-ghost use Rattle.version_table.specs.Rising.{last, count_before, retracted, without_index};
+ghost use Rattle.version_table.specs.Rising.{IsBehind, IsRising, guess, is_newest};
+ghost use Rattle.version_table.specs.Rising.{newest, count_before, retracted, without_index};
 
 use kv_model::version::{Rev, Version};
 use std::alloc::{AllocError, Global};
@@ -146,14 +146,14 @@ fn is_before(left: Rev, right: Rev) -> bool
 
 /// The last version.
 fn newest(versions: &[Version]) -> Option<&Version>
-    ensures { option_copied result ≡ last versions.now }
+    ensures { option_copied result ≡ newest versions.now }
 {
     versions.last()
 }
 
 /// Whether the last version is of a main revision.
 fn is_newest(versions: &[Version], main: u64) -> bool
-    ensures { result ≡ is_of main (last versions.now) }
+    ensures { result ≡ is_newest main versions.now }
 {
     match newest(versions) {
         Some(newest) => newest.rev.main == main,

@@ -1,22 +1,16 @@
 -- A key that is not there changes nothing, and one without revisions goes.
-use Rattle.std.proofs.Common.{◌≡◌, List, [], None, unwrap_or, sym, ◌∙◌, ap}
-use Rattle.key_index.specs.Marks.{undone}
-use Rattle.std.specs.Map.{remove_entry}
-use Rattle.key_index.specs.declared.revisions.Mark.{Mark}
-use Rattle.key_index.specs.Index.{found, marks, with_marks}
-use Rattle.key_index.proofs.Entries.{has, absent-with_marks, absent-undone, bare-with_marks}
+use Rattle.std.proofs.Common.{refl, sym, ◌∙◌}
+use Rattle.key_index.specs.KeyRevisions.{undone}
+use Rattle.key_index.proofs.Entries.{absent-changed, bare-changed}
 use Rattle.key_index.proofs.changes.undo.Goals as goal
 
 pub returns-in_default : goal.returns-in_default
 returns-in_default c =
-    let none : found c.args.key.now c.args.keys.now.entries ≡ None = sym c.in_default.ensures.value in
     rw c.get_mut.follows.holds-at-none
-    (absent-with_marks c.args.key.now (undone c.args.main (marks c.args.key.now c.args.keys.now.entries)) c.args.keys.now.entries none (absent-undone c.args.main c.args.key.now c.args.keys.now.entries none))
+    (absent-changed (undone c.args.main) refl c.args.key.now c.args.keys.now.entries (sym c.in_default.ensures.value))
 
 pub returns-then-is_empty : goal.returns-then-is_empty
 returns-then-is_empty c =
-    let here : c.in-Some.revisions.now ≡ marks c.args.key.now c.args.keys.now.entries = ap (λ o. unwrap_or o []) c.in-Some.ensures.value in
-    c.remove.ensures.entries
-    ∙ ap (remove_entry (has c.args.key.now)) (c.get_mut.follows.holds c.undo.new.self).0
-    ∙ bare-with_marks c.args.key.now c.undo.new.self c.args.keys.now.entries (sym c.is_empty.ensures ∙ c.if-is_empty.true)
-    ∙ ap (λ ms. with_marks c.args.key.now ms c.args.keys.now.entries) (c.undo.ensures ∙ ap (λ (ms : List Mark). undone c.args.main ms) here)
+    bare-changed (undone c.args.main) refl c.args.key.now c.args.keys.now.entries c.in-Some.revisions.now c.undo.new.self _ _
+    c.in-Some.ensures.value c.undo.ensures (sym c.is_empty.ensures ∙ c.if-is_empty.true)
+    (c.get_mut.follows.holds c.undo.new.self).0 c.remove.ensures.entries

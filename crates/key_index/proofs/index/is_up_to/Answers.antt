@@ -3,7 +3,7 @@ use Rattle.std.proofs.Common.{rules, tests, ◌∙◌}
 use Rattle.std.proofs.lemmas.Iterator.Consumers.{YieldsList-from_rest}
 use Rattle.std.proofs.lemmas.Iterator.Search.{all_from_yields_List}
 use Rattle.std.proofs.lemmas.List.Folds.{list_all-map}
-use Rattle.key_index.specs.Marks.{ends_up_to}
+use Rattle.key_index.specs.KeyRevisions.{ends_up_to}
 use Rattle.key_index.proofs.index.is_up_to.Goals as goal
 
 pub returns : goal.returns

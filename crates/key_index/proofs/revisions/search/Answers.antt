@@ -1,6 +1,6 @@
 -- Of the revisions that are not after the place the last one is the one before their number.
 use Rattle.std.proofs.Common.{sym, ◌∙◌}
-use Rattle.key_index.proofs.Marks.{at_place-some, at_place-none}
+use Rattle.key_index.proofs.KeyRevisions.{at_place-some, at_place-none}
 use Rattle.key_index.proofs.revisions.search.Goals as goal
 
 pub returns-in-Some : goal.returns-in-Some

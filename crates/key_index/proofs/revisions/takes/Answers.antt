@@ -1,13 +1,13 @@
 -- What is above the last one is above all.
-use Rattle.std.proofs.Common.{◌≡◌, Some, refl, sym, ◌∙◌, subst}
-use Rattle.key_index.specs.Marks.{IsBehind, newest}
-use Rattle.key_index.proofs.Marks.{behind-newest, newest-behind, no_newest}
+use Rattle.std.proofs.Common.{refl, sym, ◌∙◌}
+use Rattle.store_laws.proofs.Rising.{behind-newest, newest-behind, behind-none}
 use Rattle.key_index.proofs.revisions.takes.Goals as goal
 
 pub returns-in-Some : goal.returns-in-Some
-returns-in-Some c =
-    let last : newest c.args.marks.now.items ≡ Some c.in-Some.newest = sym c.in-Some.ensures in
-    (λ h. behind-newest _ _ _ c.requires last (sym c.is_before.ensures ∙ h), λ b. c.is_before.ensures ∙ newest-behind _ _ _ last b)
+returns-in-Some c = (
+  λ h. behind-newest (λ q. q) _ _ _ c.requires (sym c.in-Some.ensures) (sym c.is_before.ensures ∙ h),
+  λ b. c.is_before.ensures ∙ newest-behind (λ q. q) _ _ _ (sym c.in-Some.ensures) b,
+)
 
 pub returns-in-None : goal.returns-in-None
-returns-in-None c = (λ _. subst (IsBehind c.args.rev) (sym (no_newest c.args.marks.now.items (sym c.in-None.ensures))) tt, λ _. refl)
+returns-in-None c = (λ _. behind-none (λ q. q) _ _ (sym c.in-None.ensures), λ _. refl)

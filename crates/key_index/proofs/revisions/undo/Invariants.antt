@@ -1,9 +1,9 @@
 use Rattle.std.proofs.Common.{◌≡◌, length}
-use Rattle.key_index.specs.Marks.{undone}
+use Rattle.key_index.specs.KeyRevisions.{undone}
 use Rattle.key_index.proofs.revisions.undo.Given as goal
 
-abbrev pub invariant-loop-marks : goal.invariant-loop-marks
-invariant-loop-marks l = undone l.main l.marks.items ≡ undone l.main l.fn.marks.items
+abbrev pub invariant-loop-revisions : goal.invariant-loop-revisions
+invariant-loop-revisions l = undone l.main l.revisions.items ≡ undone l.main l.fn.revisions.items
 
-abbrev pub decreases-loop-marks : goal.decreases-loop-marks
-decreases-loop-marks l = length l.marks.items
+abbrev pub decreases-loop-revisions : goal.decreases-loop-revisions
+decreases-loop-revisions l = length l.revisions.items

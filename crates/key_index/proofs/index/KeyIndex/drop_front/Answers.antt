@@ -1,15 +1,9 @@
 -- It stays an index, and bound.
 use Rattle.std.proofs.Common.{drop}
-use Rattle.key_index.specs.Index.{marks}
-use Rattle.key_index.proofs.Entries.{index-with_marks}
-use Rattle.key_index.proofs.Bounds.{bound-marks, bound-with_marks, up_to-front}
+use Rattle.key_index.proofs.Bounds.{bound-changed, up_to-front}
 use Rattle.key_index.proofs.index.KeyIndex.drop_front.Goals as goal
 
 pub invariant_of-self : goal.invariant_of-self
 invariant_of-self c =
-    let k = c.args.key.now in
     let n = c.self.inside.newest in
-    let i = c.self.inside.keys.entries in
-    let bound = c.self.invariant.1 in
-    rw c.drop_front.ensures
-    (index-with_marks k (drop 1 (marks k i)) i c.self.invariant.0, bound-with_marks n k (drop 1 (marks k i)) (up_to-front n _ (bound-marks n k i bound)) i bound)
+    rw c.drop_front.ensures (bound-changed (drop 1) n (up_to-front n) c.args.key.now _ c.self.invariant)

@@ -1,15 +1,9 @@
 -- It stays an index, and bound.
-use Rattle.key_index.specs.Marks.{undone}
-use Rattle.key_index.specs.Index.{marks}
-use Rattle.key_index.proofs.Entries.{index-with_marks}
-use Rattle.key_index.proofs.Bounds.{bound-marks, bound-with_marks, up_to-undone}
+use Rattle.key_index.specs.KeyRevisions.{undone}
+use Rattle.key_index.proofs.Bounds.{bound-changed, up_to-undone}
 use Rattle.key_index.proofs.index.KeyIndex.undo.Goals as goal
 
 pub invariant_of-self : goal.invariant_of-self
 invariant_of-self c =
-    let k = c.args.key.now in
     let n = c.self.inside.newest in
-    let i = c.self.inside.keys.entries in
-    let bound = c.self.invariant.1 in
-    rw c.undo.ensures
-    (index-with_marks k (undone c.args.main (marks k i)) i c.self.invariant.0, bound-with_marks n k (undone c.args.main (marks k i)) (up_to-undone n c.args.main _ (bound-marks n k i bound)) i bound)
+    rw c.undo.ensures (bound-changed (undone c.args.main) n (up_to-undone n c.args.main) c.args.key.now _ c.self.invariant)

@@ -1,6 +1,9 @@
 -- What is left still rises.
-use Rattle.key_index.proofs.Marks.{rising-without}
+use Rattle.std.proofs.Common.{not}
+use Rattle.store_laws.proofs.Rising.{rising-filter}
+use Rattle.key_index.specs.KeyRevisions.{is_rev}
 use Rattle.key_index.proofs.revisions.Revisions.drop_at.Goals as goal
 
 pub invariant_of-self-in-Many : goal.invariant_of-self-in-Many
-invariant_of-self-in-Many c = rw c.drop_at.ensures (rising-without c.args.rev _ (rw c.in-Many.is at c.self.invariant))
+invariant_of-self-in-Many c =
+    rw c.drop_at.ensures (rising-filter (λ q. q) (λ q. not (is_rev c.args.rev q)) _ (rw c.in-Many.is at c.self.invariant))

@@ -1,5 +1,5 @@
 -- What is left still rises.
-use Rattle.key_index.proofs.Marks.{rising-undone}
+use Rattle.key_index.proofs.KeyRevisions.{rising-undone}
 use Rattle.key_index.proofs.revisions.Revisions.undo.Goals as goal
 
 pub invariant_of-self-in-Many : goal.invariant_of-self-in-Many
