@@ -17,6 +17,13 @@ use kv_model::version::KeyRange;
 use serde_json::Value;
 use std::alloc::Global;
 
+const RELATIONS: [(&str, Relation); 4] = [
+    ("EQUAL", Relation::IsEqual),
+    ("GREATER", Relation::IsGreater),
+    ("LESS", Relation::IsLess),
+    ("NOT_EQUAL", Relation::IsNotEqual),
+];
+
 /// What a compare looks at.
 #[derive(Clone, Copy)]
 enum Target {
@@ -26,13 +33,6 @@ enum Target {
     Value,
     Lease,
 }
-
-const RELATIONS: [(&str, Relation); 4] = [
-    ("EQUAL", Relation::IsEqual),
-    ("GREATER", Relation::IsGreater),
-    ("LESS", Relation::IsLess),
-    ("NOT_EQUAL", Relation::IsNotEqual),
-];
 
 const TARGETS: [(&str, Target); 5] = [
     ("VERSION", Target::Version),

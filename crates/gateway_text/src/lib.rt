@@ -16,7 +16,7 @@
 //! Within, a body is a list of JSON tokens ([`json_text`]): each `write_..` function appends those
 //! of one value, and the text of the tokens is the body.
 //!
-//! The tests stand in the crate `gateway_calls`, in `src/texts.rt`.
+//! The tests stand in the crate `gateway_tests`, in `src/texts.rt`.
 #![tactic(auto)]
 
 mod answers;
