@@ -31,11 +31,11 @@ use Rattle.store_laws.proofs.RuleLaws.{steps-well}
 
 -- what is kept is good, and nothing before the place is left to take out
 pub record IsGoing (ms : List Mutation) (c : ℕ) (vs : List Version) (p : Rev) : Type 0 where
-  history : IsHistory ms
-  floor : c ≤ now ms
-  fits : c < 2 ^ 63
-  good : IsGood vs ms c
-  up_to : IsTrimmedTo vs p c
+  pub history : IsHistory ms
+  pub floor : c ≤ now ms
+  pub fits : c < 2 ^ 63
+  pub good : IsGood vs ms c
+  pub up_to : IsTrimmedTo vs p c
 
 -- what is kept after a move
 abbrev next : List Mutation → ℕ → List Mutation → ℕ → List Version → Rev → Keeping
@@ -204,7 +204,7 @@ module _ (ids : Ids) where
   follows_on (WireEvent.expire ∷ es) w s = (refl, follows_on es _ _)
 
 -- at the opening nothing is kept
-pub opens : Going opening not_begun
+opens : Going opening not_begun
 unfolding dress
 opens = record {
   history = tt;

@@ -1,19 +1,22 @@
 -- Worked rows of trimming as runs. From a world on, whose changes and Compact are commands, steps by the rule tell what the
 -- rows of trimming say (`SampleTrims`), and keep what a run has to keep.
-use Rattle.std.proofs.Common.{◌≡◌, ◌⊎◌, inl, inr, ℕ, zero, suc, ◌+◌, ◌<◌, List, [], ◌∷◌, ◌++◌, true}
-use Rattle.std.proofs.Common.{None, Some, refl, sym, subst, arith}
+use Rattle.std.proofs.Common.{◌≡◌, ◌⊎◌, inl, inr, ℕ, zero, suc, ◌+◌, ◌<◌, ◌≤◌, List, [], ◌∷◌, ◌++◌, true}
+use Rattle.std.proofs.Common.{None, Some, refl, sym, ap, subst, arith}
 use Rattle.std.specs.Prelude.{nat_lt, nat_le, ◌^◌, pos, codes, ⊤}
 use Rattle.std.proofs.lemmas.Bool.{ltb-true, leb-true}
 use Rattle.std.proofs.lemmas.List.{append-nil}
+use Rattle.std.specs.List.{AllByRecursion}
 use Rattle.std.specs.Str.{is_utf8, chars}
 use Rattle.std.specs.Fmt.{digits}
 use Rattle.base64.specs.Rfc4648.{encode_symbols}
 use Rattle.base64.specs.Decode.{groups_error, groups_bytes, scan_steps}
 use Rattle.serde_json.proofs.OnLiterals.{serde_json_on_literals}
-use Rattle.kv_model.specs.History.{Mutation, Action, IsChange, put, delete}
+use Rattle.kv_model.specs.declared.version.Rev.{Rev}
+use Rattle.kv_model.specs.History.{Mutation, Action, IsBefore, IsChange, IsHistory, put, delete}
 use Rattle.kv_model.specs.Certificates.{Claim}
-use Rattle.kv_model.specs.World.{World, opening, revision}
+use Rattle.kv_model.specs.World.{World, opening, revision, versions}
 use Rattle.kv_model.specs.Told.{Event}
+use Rattle.kv_model.specs.Trimming.{oldest_place}
 use Rattle.kv_model.specs.Step.{step, world_after}
 use Rattle.kv_model.specs.Follows.{Outcome, FollowsFrom}
 use Rattle.kv_model.specs.Wire.{WireEvent, WireTold, WireOutcome, wire_step, is_free, takes_memory, MayLose}
@@ -26,7 +29,10 @@ use Rattle.kv_model.specs.SampleTrims.{range_need, watch_need}
 use Rattle.kv_model.specs.Texts.{ones, ok, wire_on_literals}
 use Rattle.store_laws.specs.TrimmingLaws.{keeping}
 use Rattle.store_laws.specs.ByRule.{Trimming, not_begun, moved_on, rule_keeps, by_rule, AddsBatch, Compacts, AreMoves}
-use Rattle.store_laws.proofs.RuleRuns.{Going, GoesOnTo, moves, opens, step_going, keeps_on, follows_on, rule-run}
+use Rattle.store_laws.proofs.PlaceLaws.{each-map, rev_lt-mains}
+use Rattle.store_laws.proofs.StepLaws.{part-self}
+use Rattle.store_laws.proofs.BetweenSteps.{starts_over}
+use Rattle.store_laws.proofs.RuleRuns.{Going, GoesOnTo, moves, step_going, keeps_on, follows_on, rule-run}
 
 -- ---- a run from a world on
 
@@ -86,7 +92,43 @@ step-moves : (w : World) (n : ℕ) → AreMoves ones w (steps n)
 step-moves w zero = tt
 step-moves w (suc n) = (refl, stays w, step-moves w n)
 
--- ---- to the world where a row begins
+-- ---- where a row begins
+
+-- one change after another, each of a key of one byte, from the revision after this one on
+abbrev changes_from : ℕ → List (ℕ × Action) → List Mutation
+changes_from r [] = []
+changes_from r (c ∷ cs) = record { rev = rev_at (r + 1); key = c.0 ∷ []; action = c.1 } ∷ changes_from (r + 1) cs
+
+history-from : (cs : List (ℕ × Action)) (r : ℕ) → 1 ≤ r → IsHistory (changes_from r cs)
+    × AllByRecursion (λ n. r < n.rev.main) (changes_from r cs)
+history-from [] r h = (tt, tt)
+history-from (c ∷ cs) r h =
+    let m : Mutation = record { rev = rev_at (r + 1); key = c.0 ∷ []; action = c.1 } in
+    let rest = history-from cs (r + 1) (omega arith) in
+    let change : IsChange m = record { behind = omega (arith, h); number = omega arith; has_key = λ e. cc } in
+    let before : (n : Mutation) → r + 1 < n.rev.main → IsBefore m n =
+    λ n later. (rev_lt-mains m.rev n.rev later, λ same. absurd (omega (arith, later, same))) in (
+      (change, each-map (λ n. r + 1 < n.rev.main) (IsBefore m) before (changes_from (r + 1) cs) rest.1, rest.0),
+      (
+        omega arith,
+        each-map (λ n. r + 1 < n.rev.main) (λ n. r < n.rev.main) (λ n later. omega (arith, later))
+            (changes_from (r + 1) cs) rest.1,
+      ),
+    )
+
+-- where trimming is after the last Compact: every version is kept, and the oldest is to be visited first
+abbrev pub begun : World → Trimming
+begun w = record { versions = versions w; place = oldest_place }
+
+goes-fresh : (w : World) (cs : List (ℕ × Action)) → w.mutations ≡ changes_from 1 cs → nat_le w.compacted (revision w) ≡ true
+    → nat_lt w.compacted (2 ^ 63) ≡ true → Going w (begun w)
+goes-fresh w cs is past fits = record {
+  history = subst IsHistory (sym is) (history-from cs 1 (omega arith)).0;
+  floor = leb-true w.compacted (revision w) past;
+  fits = ltb-true w.compacted (2 ^ 63) fits;
+  good = record { part = part-self (versions w); answers = λ q a. refl };
+  up_to = (starts_over (versions w) w.compacted).up_to;
+}
 
 -- where trimming is after these events, none of which is a step of it
 abbrev pub moved_by : World → Trimming → List Event → Trimming
@@ -129,34 +171,22 @@ done_with n claims = Outcome.said (WireTold.done n (Some claims))
 abbrev pub at_4 : World
 at_4 = world_after opening put_delete_compact
 
-abbrev pub begun_at_4 : Trimming
-begun_at_4 = moved_by opening not_begun put_delete_compact
-
-going_at_4 : Going at_4 begun_at_4
+going_at_4 : Going at_4 (begun at_4)
 unfolding model_on_literals
-going_at_4 = goes-through put_delete_compact opening not_begun opens (
-  adds-one _ _ 97 [] (put one (pos 0)) refl refl refl,
-  (
-    adds-one _ _ 97 [] delete refl refl refl,
-    (
-      adds-one _ _ 98 [] (put one (pos 0)) refl refl refl,
-      (compacts-to _ _ refl refl refl refl, tt),
-    ),
-  ),
-)
+going_at_4 = goes-fresh at_4 ((97, put one (pos 0)) ∷ (97, delete) ∷ (98, put one (pos 0)) ∷ []) refl refl refl
 
-pub both_go : RunsOn at_4 begun_at_4 (steps 5)
+pub both_go : RunsOn at_4 (begun at_4) (steps 5)
     (removed_at 2 ∷ removed_at 3 ∷ kept_at 4 ∷ done_with 1 (range_need 4 4 ∷ []) ∷ done_with 1 (range_need 4 4 ∷ []) ∷ [])
 unfolding model_on_literals trimming_on_literals
-both_go = runs-on at_4 begun_at_4 (steps 5) _ going_at_4 (step-moves at_4 5) refl
+both_go = runs-on at_4 (begun at_4) (steps 5) _ going_at_4 (step-moves at_4 5) refl
 
 -- another answer to the first of these steps is none of a run: the next version is named, it goes, and it is not done yet
 abbrev FirstKeeps : WireOutcome → Type 0
-FirstKeeps o = (l : Keeping) × Keeps ones at_4 (keeping begun_at_4.versions begun_at_4.place 4) WireEvent.trim o l
+FirstKeeps o = (l : Keeping) × Keeps ones at_4 (keeping (begun at_4).versions (begun at_4).place 4) WireEvent.trim o l
 
 pub not_another : FirstKeeps (removed_at 3) → ⊥
 unfolding model_on_literals trimming_on_literals
-not_another h = cc
+not_another h = let same : 3 ≡ 2 = ap (λ (p : Rev). p.main) h.1.0 in omega (arith, same)
 
 pub not_kept : FirstKeeps (kept_at 2) → ⊥
 unfolding model_on_literals trimming_on_literals
@@ -171,53 +201,29 @@ not_done h = h.1
 abbrev pub at_3 : World
 at_3 = world_after opening put_delete
 
-abbrev pub begun_at_3 : Trimming
-begun_at_3 = moved_by opening not_begun put_delete
-
-going_at_3 : Going at_3 begun_at_3
+going_at_3 : Going at_3 (begun at_3)
 unfolding model_on_literals
-going_at_3 = goes-through put_delete opening not_begun opens (
-  adds-one _ _ 97 [] (put one (pos 0)) refl refl refl,
-  (
-    adds-one _ _ 97 [] delete refl refl refl,
-    (compacts-to _ _ refl refl refl refl, tt),
-  ),
-)
+going_at_3 = goes-fresh at_3 ((97, put one (pos 0)) ∷ (97, delete) ∷ []) refl refl refl
 
-pub tombstone_stays : RunsOn at_3 begun_at_3 (steps 3) (removed_at 2 ∷ kept_at 3 ∷ done_with 1 (watch_need 3 3 ∷ []) ∷ [])
+pub tombstone_stays : RunsOn at_3 (begun at_3) (steps 3) (removed_at 2 ∷ kept_at 3 ∷ done_with 1 (watch_need 3 3 ∷ []) ∷ [])
 unfolding model_on_literals trimming_on_literals
-tombstone_stays = runs-on at_3 begun_at_3 (steps 3) _ going_at_3 (step-moves at_3 3) refl
+tombstone_stays = runs-on at_3 (begun at_3) (steps 3) _ going_at_3 (step-moves at_3 3) refl
 
 -- ---- a second Compact begins with the oldest version again
 
 abbrev pub at_first : World
 at_first = world_after opening first_changes
 
-abbrev pub begun_at_first : Trimming
-begun_at_first = moved_by opening not_begun first_changes
-
-going_at_first : Going at_first begun_at_first
+going_at_first : Going at_first (begun at_first)
 unfolding model_on_literals
-going_at_first = goes-through first_changes opening not_begun opens (
-  adds-one _ _ 97 [] (put one (pos 0)) refl refl refl,
-  (
-    adds-one _ _ 97 [] (put two (pos 0)) refl refl refl,
-    (
-      adds-one _ _ 98 [] (put one (pos 0)) refl refl refl,
-      (
-        adds-one _ _ 97 [] (put one (pos 0)) refl refl refl,
-        (compacts-to _ _ refl refl refl refl, tt),
-      ),
-    ),
-  ),
-)
+going_at_first = goes-fresh at_first ((97, put one (pos 0)) ∷ (97, put two (pos 0)) ∷ (98, put one (pos 0)) ∷ (97, put one (pos 0)) ∷ []) refl refl refl
 
-pub half_way : RunsOn at_first begun_at_first (steps 2) (removed_at 2 ∷ kept_at 3 ∷ [])
+pub half_way : RunsOn at_first (begun at_first) (steps 2) (removed_at 2 ∷ kept_at 3 ∷ [])
 unfolding model_on_literals trimming_on_literals
-half_way = runs-on at_first begun_at_first (steps 2) _ going_at_first (step-moves at_first 2) refl
+half_way = runs-on at_first (begun at_first) (steps 2) _ going_at_first (step-moves at_first 2) refl
 
 abbrev half_trimmed : Trimming
-half_trimmed = stepped 2 at_first begun_at_first
+half_trimmed = stepped 2 at_first (begun at_first)
 
 -- after those two steps, the later changes and the second Compact
 abbrev pub at_second : World
@@ -228,7 +234,7 @@ begun_at_second = moved_by at_first half_trimmed later_changes
 
 going_at_second : Going at_second begun_at_second
 unfolding model_on_literals
-going_at_second = goes-through later_changes at_first half_trimmed (goes-stepped 2 at_first begun_at_first going_at_first) (
+going_at_second = goes-through later_changes at_first half_trimmed (goes-stepped 2 at_first (begun at_first) going_at_first) (
   adds-one _ _ 98 [] delete refl refl refl,
   (
     adds-one _ _ 97 [] (put two (pos 0)) refl refl refl,
@@ -267,10 +273,10 @@ put_moves : AreMoves ones at_4 put_between
 unfolding model_on_literals wire_on_literals serde_json_on_literals is_utf8 chars digits encode_symbols groups_error groups_bytes scan_steps
 put_moves = (refl, stays at_4, (refl, adds-one _ _ 97 [] (put one (pos 0)) refl refl refl, step-moves _ 3))
 
-pub goes_on_between : RunsOn at_4 begun_at_4 put_between (removed_at 2 ∷ raised_to 5 (codes "5") ∷ removed_at 3 ∷ kept_at 4
+pub goes_on_between : RunsOn at_4 (begun at_4) put_between (removed_at 2 ∷ raised_to 5 (codes "5") ∷ removed_at 3 ∷ kept_at 4
     ∷ done_with 2 (range_need 4 4 ∷ range_need 5 5 ∷ []) ∷ [])
 unfolding model_on_literals trimming_on_literals wire_on_literals serde_json_on_literals is_utf8 chars digits encode_symbols groups_error groups_bytes scan_steps
-goes_on_between = runs-on at_4 begun_at_4 put_between _ going_at_4 put_moves refl
+goes_on_between = runs-on at_4 (begun at_4) put_between _ going_at_4 put_moves refl
 
 -- ---- a whole run: without a Compact nothing is visited, and each version has its need
 
