@@ -1,14 +1,14 @@
 //! `etcd_one`: a single-member, in-memory etcd, driven by a script.
 //!
-//! `etcd_one replay` reads a script on standard input and writes one reply for each line to standard
-//! output. It ends with status 0 after the last reply. Bad arguments, a failed read or write, and
-//! want of memory outside a request end it with status 2, one line on standard error, and nothing
-//! more on standard output.
+//! `etcd_one replay` reads a script on standard input and writes one reply for each line to
+//! standard output. It ends with status 0 after the last reply. Bad arguments, a failed read or
+//! write, and want of memory outside a request end it with status 2, one line on standard error,
+//! and nothing more on standard output.
 //!
 //! The one contract is that of [`replay`]: what it writes is what the model of the whole history
 //! answers to the script, line by line, and where a write fails a front of that. It cuts the script
-//! into the events of one run (`script`), hands them to `run_wire` of `json_gateway`, and writes the
-//! outcomes (`replies`). For example, on a fresh store, where `{..}` stands for a header:
+//! into the events of one run (`script`), hands them to `run_wire` of `json_gateway`, and writes
+//! the outcomes (`replies`). For example, on a fresh store, where `{..}` stands for a header:
 //!
 //! ```text
 //! AT 1000                                               at 1000

@@ -17,13 +17,6 @@ use kv_model::version::KeyRange;
 use serde_json::Value;
 use std::alloc::Global;
 
-const RELATIONS: [(&str, Relation); 4] = [
-    ("EQUAL", Relation::IsEqual),
-    ("GREATER", Relation::IsGreater),
-    ("LESS", Relation::IsLess),
-    ("NOT_EQUAL", Relation::IsNotEqual),
-];
-
 /// What a compare looks at.
 #[derive(Clone, Copy)]
 enum Target {
@@ -34,12 +27,11 @@ enum Target {
     Lease,
 }
 
-const TARGETS: [(&str, Target); 5] = [
-    ("VERSION", Target::Version),
-    ("CREATE", Target::Create),
-    ("MOD", Target::Mod),
-    ("VALUE", Target::Value),
-    ("LEASE", Target::Lease),
+const RELATIONS: [(&str, Relation); 4] = [
+    ("EQUAL", Relation::IsEqual),
+    ("GREATER", Relation::IsGreater),
+    ("LESS", Relation::IsLess),
+    ("NOT_EQUAL", Relation::IsNotEqual),
 ];
 
 /// Reads one compare: `result`, `target`, `key`, `range_end` and each operand, in the order of the
@@ -58,6 +50,15 @@ pub fn compare_request(alloc: Global, value: &Value) -> Result<Compare, Bad>
     compared(alloc, object, KeyRange { key, end }, relation, target)
 }
 
+const TARGETS: [(&str, Target); 5] = [
+    ("VERSION", Target::Version),
+    ("CREATE", Target::Create),
+    ("MOD", Target::Mod),
+    ("VALUE", Target::Value),
+    ("LEASE", Target::Lease),
+];
+
+/// What the compare looks at: the version, where it does not say.
 fn target_field(object: &Object<'_>) -> Result<Target, Bad>
     ensures { Gives target_of result
         (requests.field requests.Target.to_version (requests.enum_of requests.targets)

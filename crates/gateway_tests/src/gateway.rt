@@ -110,7 +110,8 @@ fn clock(run: &WireRun, place: usize) -> Option<u64> {
     }
 }
 
-/// The number of outcomes, the answer to the put, the two steps of expiry, and the clock between them.
+/// The number of outcomes, the answer to the put, the two steps of expiry, and the clock between
+/// them.
 type Ended = (
     usize,
     Option<Told>,
@@ -185,7 +186,8 @@ fn post_one(alloc: Global, core: &mut Core, path: &[u8], body: &[u8], expected: 
     found
 }
 
-/// The answers to a put that was read before, to a put without a key and to a range of a bad one, and the last revision.
+/// The answers to a put that was read before, to a put without a key and to a range of a bad one,
+/// and the last revision.
 fn three_requests(alloc: Global) -> (Option<Told>, [Told; 2], u64) {
     let mut core = Core::new(alloc);
     let put = performed(alloc, &mut core, PUT, PUT_REPLY);

@@ -32,9 +32,9 @@ use std::alloc::{AllocError, Global};
 /// Does one command on a core, and gives its outcome.
 ///
 /// The answer is written after the command is done: where no memory is found for it and the command
-/// changed the store, the outcome is `Lost`, and where it changed nothing, `Memory`. At `Memory` and
-/// at each refusal, whose status is not 200, the core is as it was, and neither a revision nor a
-/// watch is told; so it is where an accepted command changes nothing. A change adds one to the
+/// changed the store, the outcome is `Lost`, and where it changed nothing, `Memory`. At `Memory`
+/// and at each refusal, whose status is not 200, the core is as it was, and neither a revision nor
+/// a watch is told; so it is where an accepted command changes nothing. A change adds one to the
 /// core's stamp.
 pub fn perform(alloc: Global, core: &mut Core, command: &Command, ids: &Ids) -> Outcome
     ensures ends { (w : World) → StandsFor core.old.store w → Ends result core.old core.new w
@@ -61,8 +61,8 @@ pub fn perform(alloc: Global, core: &mut Core, command: &Command, ids: &Ids) -> 
     }
 }
 
-/// Does what a request asks on a core, and gives its outcome. A request that is not read is refused,
-/// and all that `perform` says of a refusal holds of it.
+/// Does what a request asks on a core, and gives its outcome. A request that is not read is
+/// refused, and all that `perform` says of a refusal holds of it.
 pub fn post(alloc: Global, core: &mut Core, path: &[u8], body: &[u8], ids: &Ids) -> Outcome
     ensures ends { (w : World) → StandsFor core.old.store w → Ends result core.old core.new w
         (reply_to ids.now w path.now body.now).0 (reply_to ids.now w path.now body.now).1
@@ -114,13 +114,15 @@ fn answer_text(
     ids: &Ids,
 ) -> Result<Vec<u8>, AllocError>
     requires { IsReadable receipt.now core.now }
-    ensures { IfOk result (λ v. v.items ≡ (answered ids.now (answer_of receipt.now core.now)).body) }
+    ensures { IfOk result (λ v.
+        v.items ≡ (answered ids.now (answer_of receipt.now core.now)).body) }
 {
     let answer = core.answer(receipt)?;
     text(alloc, &answer, ids)
 }
 
-/// The JSON text of an answer (the etcd documentation, "gRPC gateway"), written once into one buffer.
+/// The JSON text of an answer (the etcd documentation, "gRPC gateway"), written once into one
+/// buffer.
 ///
 /// `AllocError` comes where that buffer finds no memory.
 pub fn text(alloc: Global, answer: &Answer<'_>, ids: &Ids) -> Result<Vec<u8>, AllocError>

@@ -58,10 +58,10 @@ ghost use Rattle.json_gateway.specs.Steps.{Steps};
 /// Runs events on a fresh store. **Each outcome's bytes are those of the model of the whole
 /// history**, whatever the events are: `Follows` of the model says so.
 ///
-/// An event that found no memory counts as not made, and an answer may be lost only where its change
-/// stands; a moment finds its memory always. An outcome without an answer, and a refusal, tell
-/// neither a revision nor a watch. `AllocError` comes before the first event, where there is no room
-/// for the outcomes.
+/// An event that found no memory counts as not made, and an answer may be lost only where its
+/// change stands; a moment finds its memory always. An outcome without an answer, and a refusal,
+/// tell neither a revision nor a watch. `AllocError` comes before the first event, where there is
+/// no room for the outcomes.
 pub fn run_wire(alloc: Global, events: &[WireEvent<'_>], ids: &Ids) -> Result<WireRun, AllocError>
     ensures follows { IfOk result (λ run.
         Follows ids.now (map event_view events.now) (map outcome_view run.outcomes.items)) }
