@@ -1,5 +1,5 @@
--- The lines of a script, as the events among them and of each line whether it is one, and the replies by those. Nothing that
--- a reader must believe: `Replies` says what is written.
+-- The lines of a script, as the events among them and of each line whether it is one, and the replies by those.
+-- Nothing that a reader must believe: `Replies` says what is written.
 use Rattle.std.specs.Prelude.{◌≡◌, ℕ, List, [], ◌∷◌, ◌++◌, Bool, true, false, Option, None, Some, codes, map}
 use Rattle.json_gateway.specs.Runs.{event_view}
 use Rattle.kv_model.specs.Wire.{WireEvent, WireOutcome}

@@ -20,7 +20,8 @@ clock_line clock = codes "at " ++ decimal clock ++ 10 ∷ []
 
 abbrev pub expiry_line : Expiry → List ℕ
 expiry_line Expiry.nothing = codes "nothing\n"
-expiry_line (Expiry.expired id revision raised) = codes "expired " ++ signed_decimal id ++ codes " revision " ++ decimal revision ++ 10 ∷ []
+expiry_line (Expiry.expired id revision raised) = codes "expired " ++ signed_decimal id ++ codes " revision "
+    ++ decimal revision ++ 10 ∷ []
 expiry_line Expiry.spent = codes "revisions are spent\n"
 
 abbrev pub told_line : WireTold → List ℕ

@@ -1,5 +1,6 @@
 -- A script: its lines, and the event that each asks for.
-use Rattle.std.specs.Prelude.{ℕ, ◌^◌, List, map, Bool, ◌==◌, nat_lt, nat_eq, if◌then◌else◌, length, Option, None, Some, option_map, option_and_then, codes}
+use Rattle.std.specs.Prelude.{ℕ, ◌^◌, List, map, Bool, ◌==◌, nat_lt, nat_eq, if◌then◌else◌, length, Option, None, Some}
+use Rattle.std.specs.Prelude.{option_map, option_and_then, codes}
 use Rattle.std.specs.List.{position_or_len, before_first, after_first}
 use Rattle.std.specs.Cmp.Lexicographic.{pointwise}
 use Rattle.std.specs.Str.Lines.{lines}
@@ -19,7 +20,8 @@ is at b = b == at
 
 -- what stands after the first such byte, if there is one
 abbrev pub rest_after : ℕ → List ℕ → Option (List ℕ)
-rest_after at text = if nat_lt (position_or_len (is at) text) (length text) then Some (after_first (is at) text) else None
+rest_after at text = if nat_lt (position_or_len (is at) text) (length text) then Some (after_first (is at) text)
+    else None
 
 -- a request: the path up to the first space, and the body after it, which may be missing
 abbrev pub post_of : List ℕ → WireEvent
@@ -48,7 +50,8 @@ event_by word (Some rest) = event_with word rest
 
 -- the event that a line asks for; a line of no form, or too long, is none
 abbrev pub event_of : List ℕ → Option WireEvent
-event_of line = if nat_lt longest_line (length line) then None else event_by (before_first (is 32) line) (rest_after 32 line)
+event_of line = if nat_lt longest_line (length line) then None
+    else event_by (before_first (is 32) line) (rest_after 32 line)
 
 -- the event of each line, in order
 abbrev pub line_events : List ℕ → List (Option WireEvent)

@@ -15,14 +15,17 @@ pub enum Args {
     Replay,
 }
 
-/// Reads the words of a command line, the program's name first. The one command is `replay`, with nothing after it.
+/// Reads the words of a command line, the program's name first. The one command is `replay`, with
+/// nothing after it.
 ///
-/// Fails with `Fault::Arguments` for any other words, whether or not there is memory, and with `Fault::Memory` where these
-/// are the words and memory is wanting.
+/// Fails with `Fault::Arguments` for any other words, whether or not there is memory, and with
+/// `Fault::Memory` where these are the words and memory is wanting.
 pub fn arguments(alloc: Global, words: &[String]) -> Result<Args, Fault>
     ensures ok { IsOk result → IsReplay (map string_bytes words.now) }
-    ensures replay { IfErr result (λ fault. IsReplay (map string_bytes words.now) → fault ≡ Fault.Memory) }
-    ensures other { IfErr result (λ fault. (IsReplay (map string_bytes words.now) → ⊥) → fault ≡ Fault.Arguments) }
+    ensures replay { IfErr result (λ fault.
+        IsReplay (map string_bytes words.now) → fault ≡ Fault.Memory) }
+    ensures other { IfErr result (λ fault.
+        (IsReplay (map string_bytes words.now) → ⊥) → fault ≡ Fault.Arguments) }
 {
     // clap would pass over a last `--`.
     if words.len() != 2 {
@@ -37,7 +40,8 @@ pub fn arguments(alloc: Global, words: &[String]) -> Result<Args, Fault>
     }
 }
 
-/// Which fault it is that clap found no memory to read the words: other words than `replay` are bad with memory too.
+/// Which fault it is that clap found no memory to read the words: other words than `replay` are bad
+/// with memory too.
 fn without_memory(words: &[String]) -> Fault
     ensures replay { IsReplay (map string_bytes words.now) → result ≡ Fault.Memory }
     ensures other { (IsReplay (map string_bytes words.now) → ⊥) → result ≡ Fault.Arguments }
@@ -60,7 +64,8 @@ fn program<'a>(alloc: Global) -> Result<Command<'a>, AllocError>
 
 /// Which fault it is that clap took the words for an error.
 fn fault_of(error: &Error, words: &[String]) -> Fault
-    ensures replay { kind_of error.now ≡ ErrorKind.OutOfMemory → IsReplay (map string_bytes words.now) → result ≡ Fault.Memory }
+    ensures replay { kind_of error.now ≡ ErrorKind.OutOfMemory
+        → IsReplay (map string_bytes words.now) → result ≡ Fault.Memory }
     ensures other { (IsReplay (map string_bytes words.now) → ⊥) → result ≡ Fault.Arguments }
 {
     match error.kind() {

@@ -32,7 +32,8 @@ impl<R: Read> Counted<R> {
     /// Makes one read of the reader.
     pub fn read(&mut self, buf: &mut [u8]) -> io::Result<usize>
         ensures bound { ReadsAtMost result buf.new }
-        ensures bytes { ReadConsumes (R.remaining self.old.reader) (R.remaining self.new.reader) result buf.new }
+        ensures bytes { ReadConsumes (R.remaining self.old.reader) (R.remaining self.new.reader)
+            result buf.new }
         ensures counted { self.new.reads ≡ min (self.old.reads + 1) (2 ^ 64 - 1) }
     {
         self.reads = self.reads.saturating_add(1);

@@ -1,8 +1,27 @@
 //! `etcd_one`: a single-member, in-memory etcd, driven by a script.
 //!
-//! `etcd_one replay` reads a script on standard input and writes one reply for each line to standard output. It ends with
-//! status 0 after the last reply. Bad arguments, a failed read or write, and want of memory outside a request end it with
-//! status 2, one line on standard error, and nothing more on standard output.
+//! `etcd_one replay` reads a script on standard input and writes one reply for each line to
+//! standard output. It ends with status 0 after the last reply. Bad arguments, a failed read or
+//! write, and want of memory outside a request end it with status 2, one line on standard error,
+//! and nothing more on standard output.
+//!
+//! The one contract is that of [`replay`]: what it writes is what the model of the whole history
+//! answers to the script, line by line, and where a write fails a front of that. It cuts the script
+//! into the events of one run (`script`), hands them to `run_wire` of `json_gateway`, and writes
+//! the outcomes (`replies`). For example, on a fresh store, where `{..}` stands for a header:
+//!
+//! ```text
+//! AT 1000                                               at 1000
+//! POST /v3/kv/put {"key":"YQ==","value":"MQ=="}         200 {"header":{..}}
+//! POST /v3/lease/grant {"TTL":"1","ID":"7"}             200 {"ID":"7","TTL":"1","header":{..}}
+//! PUT a 1                                               bad line
+//! EXPIRE                                                nothing
+//! AT 2000                                               at 2000
+//! EXPIRE                                                expired 7 revision 2
+//! ```
+//!
+//! The tests stand in its own `src/tests/`; `tests/program` of the repository asks the program
+//! itself for its exit status and what it writes to standard error.
 #![tactic(auto)]
 
 mod command_line;

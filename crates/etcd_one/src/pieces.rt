@@ -8,7 +8,8 @@ use std::io::{ErrorKind, Write};
 
 /// Writes the pieces, one behind the other.
 pub fn write_pieces<W: Write>(w: &mut W, pieces: &[&[u8]]) -> io::Result<()>
-    ensures { Writes result (W.contents w.old) (W.contents w.new) (concat (map (λ piece. piece.now) pieces.now)) }
+    ensures { Writes result (W.contents w.old) (W.contents w.new)
+        (concat (map (λ piece. piece.now) pieces.now)) }
 {
     for piece in pieces {
         write_bytes(w, piece)?;
@@ -18,8 +19,9 @@ pub fn write_pieces<W: Write>(w: &mut W, pieces: &[&[u8]]) -> io::Result<()>
 
 /// Writes all bytes, by as many writes as that takes; one that a signal interrupts is made again.
 ///
-/// Fails where another write fails, or takes nothing, and makes no further one: a front of the bytes was written then.
-/// `write_all` does the same, but its contract does not say what a failure leaves.
+/// Fails where another write fails, or takes nothing, and makes no further one: a front of the
+/// bytes was written then. `write_all` does the same, but its contract does not say what a failure
+/// leaves.
 pub fn write_bytes<W: Write>(w: &mut W, bytes: &[u8]) -> io::Result<()>
     ensures { Writes result (W.contents w.old) (W.contents w.new) bytes.now }
 {

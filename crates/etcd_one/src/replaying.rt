@@ -1,5 +1,6 @@
 //! `replay`: the replies to a script.
-ghost use Rattle.std.specs.Prelude.{◌≡◌, ◌≢◌, ◌≤◌, ◌++◌, List, ℕ, false, true, nat_lt, max, take, length, map, IfOk, IfErr, OnOk, IfSome, MatchResult};
+ghost use Rattle.std.specs.Prelude.{◌≡◌, ◌≢◌, ◌≤◌, ◌++◌, List, ℕ, false, true, nat_lt, max, take};
+ghost use Rattle.std.specs.Prelude.{length, map, IfOk, IfErr, OnOk, IfSome, MatchResult};
 ghost use Rattle.std.specs.Io.KnownBytes.{Appends};
 ghost use Rattle.std.specs.IoError.{error_kind};
 ghost use Rattle.json_gateway.specs.Runs.{outcome_view};
@@ -28,24 +29,27 @@ const IDS: Ids = Ids {
     member: 1,
 };
 
-/// Answers a script on a fresh store: reads all of it, makes its events one run, and then writes a line for each line of the
-/// script, in order: `bad line`; a request's status, a space and its body; `at` and the clock in milliseconds; or of a step
-/// of expiry `expired`, the lease's ID, `revision` and the revision after it, `nothing`, `revisions are spent` or
-/// `out of memory`.
+/// Answers a script on a fresh store: reads all of it, makes its events one run, and then writes a
+/// line for each line of the script, in order: `bad line`; a request's status, a space and its
+/// body; `at` and the clock in milliseconds; or of a step of expiry `expired`, the lease's ID,
+/// `revision` and the revision after it, `nothing`, `revisions are spent` or `out of memory`.
 ///
-/// **What is written is what the model of the whole history answers to the script**, where it is known what the reader gives
-/// and the writer holds. Memory: the script and the bodies of all replies at once. Nothing is written before the last of
-/// them is made, and no memory is taken from then on. A reply goes to the writer in a few pieces, so it should have a buffer.
+/// **What is written is what the model of the whole history answers to the script**, where it is
+/// known what the reader gives and the writer holds. Memory: the script and the bodies of all
+/// replies at once. Nothing is written before the last of them is made, and no memory is taken from
+/// then on. A reply goes to the writer in a few pieces, so it should have a buffer.
 ///
-/// Fails with `Fault::Read` where a read fails, `Fault::Endless` where the script has not ended after 2^30 reads, and
-/// `Fault::Memory` where memory is wanting outside a request; then nothing is written. Fails with `Fault::Write` where a
-/// write fails or takes nothing; then a front of the replies was written, and nothing more is.
+/// Fails with `Fault::Read` where a read fails, `Fault::Endless` where the script has not ended
+/// after 2^30 reads, and `Fault::Memory` where memory is wanting outside a request; then nothing is
+/// written. Fails with `Fault::Write` where a write fails or takes nothing; then a front of the
+/// replies was written, and nothing more is.
 pub fn replay<R: Read, W: Write>(alloc: Global, r: &mut R, w: &mut W) -> Result<(), Fault>
     ensures ok { OnOk result (IfSome (R.remaining r.old) (λ script. (replies : List ℕ)
         × spec.IsAnswered script replies × Appends (W.contents w.old) (W.contents w.new) replies)) }
     ensures unwritten { IfErr result (λ fault. is_write fault ≡ false → w.new ≡ w.old) }
-    ensures cut { IfErr result (λ fault. is_write fault ≡ true → IfSome (R.remaining r.old) (λ script. (replies : List ℕ)
-        × spec.IsAnswered script replies × AppendsFront (W.contents w.old) (W.contents w.new) replies)) }
+    ensures cut { IfErr result (λ fault. is_write fault ≡ true
+        → IfSome (R.remaining r.old) (λ script. (replies : List ℕ) × spec.IsAnswered script replies
+        × AppendsFront (W.contents w.old) (W.contents w.new) replies)) }
 {
     let mut reader = Counted::new(r);
     let script = read_script(alloc, &mut reader)?;
@@ -55,11 +59,14 @@ pub fn replay<R: Read, W: Write>(alloc: Global, r: &mut R, w: &mut W) -> Result<
     }
 }
 
-/// Reads to the end, by at most 2^30 reads of the reader. A read that a signal interrupts counts as one.
+/// Reads to the end, by at most 2^30 reads of the reader. A read that a signal interrupts counts as
+/// one.
 fn read_script<R: Read>(alloc: Global, r: &mut Counted<R>) -> Result<Vec<u8>, Fault>
-    ensures ok { IfOk result (λ script. IfSome (R.remaining r.old.reader) (λ text. script.items ≡ text)) }
+    ensures ok { IfOk result (λ script.
+        IfSome (R.remaining r.old.reader) (λ text. script.items ≡ text)) }
     ensures err { IfErr result (λ fault. is_read fault ≡ true) }
-    ensures endless { IfErr result (λ fault. is_endless fault ≡ true → script.most_reads ≤ r.new.reads) }
+    ensures endless { IfErr result (λ fault.
+        is_endless fault ≡ true → script.most_reads ≤ r.new.reads) }
     ensures most { r.new.reads ≤ max r.old.reads script.most_reads }
 {
     let mut script = Vec::new(alloc);
@@ -78,8 +85,10 @@ fn read_script<R: Read>(alloc: Global, r: &mut Counted<R>) -> Result<Vec<u8>, Fa
 fn take_in(read: io::Result<usize>, buffer: &[u8], script: &mut Vec<u8>) -> Result<bool, Fault>
     requires { IfOk read (λ count. count ≤ length buffer.now) }
     ensures ok { IfOk result (λ is_more. MatchResult read
-        (λ count. (script.new.items ≡ script.old.items ++ take count buffer.now) × (is_more ≡ nat_lt 0 count))
-        (λ error. (error_kind error ≡ ErrorKind.Interrupted) × (script.new.items ≡ script.old.items) × (is_more ≡ true))) }
+        (λ count. (script.new.items ≡ script.old.items ++ take count buffer.now)
+        × (is_more ≡ nat_lt 0 count))
+        (λ error. (error_kind error ≡ ErrorKind.Interrupted)
+        × (script.new.items ≡ script.old.items) × (is_more ≡ true))) }
     ensures err { IfErr result (λ fault. MatchResult read (λ _. fault ≡ Fault.Memory)
         (λ error. (error_kind error ≢ ErrorKind.Interrupted) × (fault ≡ Fault.Read error))) }
 {
@@ -110,7 +119,8 @@ struct Run<'a> {
 /// Runs a script's events on a fresh store. Fails for want of memory outside a request.
 fn run_of(alloc: Global, text: &[u8]) -> Result<Run<'_>, AllocError>
     ensures lines { IfOk result (λ run. AreLines run.lines (script.line_events text.now)) }
-    ensures follows { IfOk result (λ run. Follows spec.ids (spec.events_among (script.line_events text.now)) (map outcome_view run.outcomes.items)) }
+    ensures follows { IfOk result (λ run. Follows spec.ids
+        (spec.events_among (script.line_events text.now)) (map outcome_view run.outcomes.items)) }
 {
     let lines = line_events(alloc, text)?;
     let WireRun { outcomes } = run_wire(alloc, lines.events.as_slice(), &IDS)?;

@@ -1,9 +1,10 @@
 //! The replies to a script's lines, written in their order.
-ghost use Rattle.std.specs.Prelude.{◌≡◌, ◌++◌, ◌∷◌, [], List, Option, Bool, ℕ, Err, true, drop, map, codes, decimal, IfOk, IfErr};
+ghost use Rattle.std.specs.Prelude.{◌≡◌, ◌++◌, ◌∷◌, [], List, Option, Bool, ℕ, Err, true, drop};
+ghost use Rattle.std.specs.Prelude.{codes, decimal, map, IfOk, IfErr};
 ghost use Rattle.std.specs.Fmt.{signed_decimal};
-ghost use Rattle.request_core.specs.Answers.{expiry_view};
-ghost use Rattle.json_gateway.specs.Outcomes.{shown};
-ghost use Rattle.json_gateway.specs.Runs.{command_view, event_view, expiry_outcome, outcome_view};
+ghost use Rattle.json_gateway.specs.Outcomes.{wire_response};
+ghost use Rattle.json_gateway.specs.Runs.{command_view, event_view, expired_view, expiry_outcome};
+ghost use Rattle.json_gateway.specs.Runs.{outcome_view};
 ghost use Rattle.etcd_one.specs.Lines.{line_by, replies_by};
 ghost use Rattle.etcd_one.specs.Replies as spec;
 ghost use Rattle.etcd_one.specs.Faults.{is_write};
@@ -17,14 +18,16 @@ use json_gateway::{Expiry, Outcome, Settled, Unexpired, WireEvent, WireOutcome};
 use std::io;
 use std::io::Write;
 
-/// Writes the replies to all lines, and hands them on. Where that fails, a front of them was written, and nothing more is.
+/// Writes the replies to all lines, and hands them on. Where that fails, a front of them was
+/// written, and nothing more is.
 pub fn write_out<W: Write>(
     w: &mut W,
     lines: &Lines<'_>,
     outcomes: &[WireOutcome],
 ) -> Result<(), Fault>
     ensures replies { Writes result (W.contents w.old) (W.contents w.new)
-        (replies_by lines.now.are_events.items (map event_view lines.now.events.items) (map outcome_view outcomes.now)) }
+        (replies_by lines.now.are_events.items (map event_view lines.now.events.items)
+        (map outcome_view outcomes.now)) }
     ensures err { IfErr result (λ fault. is_write fault ≡ true) }
 {
     if let Err(error) = write_replies(w, lines, outcomes) {
@@ -39,7 +42,8 @@ pub fn write_out<W: Write>(
 /// Writes a reply for each line: `bad line`, or that of the next event and its outcome.
 fn write_replies<W: Write>(w: &mut W, lines: &Lines<'_>, outcomes: &[WireOutcome]) -> io::Result<()>
     ensures { Writes result (W.contents w.old) (W.contents w.new)
-        (replies_by lines.now.are_events.items (map event_view lines.now.events.items) (map outcome_view outcomes.now)) }
+        (replies_by lines.now.are_events.items (map event_view lines.now.events.items)
+        (map outcome_view outcomes.now)) }
 {
     let mut place = 0;
     for is_event in &lines.are_events {
@@ -48,8 +52,8 @@ fn write_replies<W: Write>(w: &mut W, lines: &Lines<'_>, outcomes: &[WireOutcome
     Ok(())
 }
 
-/// Writes the reply for a line: `bad line`, or that of the event at a place and its outcome. Gives the place of the event that
-/// comes next.
+/// Writes the reply for a line: `bad line`, or that of the event at a place and its outcome. Gives
+/// the place of the event that comes next.
 fn write_line<W: Write>(
     w: &mut W,
     is_event: bool,
@@ -58,11 +62,15 @@ fn write_line<W: Write>(
     place: usize,
 ) -> io::Result<usize>
     ensures written { Writes result (W.contents w.old) (W.contents w.new)
-        (line_by is_event (map event_view (drop place events.now)) (map outcome_view (drop place outcomes.now))) }
+        (line_by is_event (map event_view (drop place events.now))
+        (map outcome_view (drop place outcomes.now))) }
     ensures next { IfOk result (λ next. (flags : List Bool)
-        → replies_by (is_event ∷ flags) (map event_view (drop place events.now)) (map outcome_view (drop place outcomes.now))
-        ≡ line_by is_event (map event_view (drop place events.now)) (map outcome_view (drop place outcomes.now))
-        ++ replies_by flags (map event_view (drop next events.now)) (map outcome_view (drop next outcomes.now))) }
+        → replies_by (is_event ∷ flags) (map event_view (drop place events.now))
+        (map outcome_view (drop place outcomes.now))
+        ≡ line_by is_event (map event_view (drop place events.now))
+        (map outcome_view (drop place outcomes.now))
+        ++ replies_by flags (map event_view (drop next events.now))
+        (map outcome_view (drop next outcomes.now))) }
 {
     if !is_event {
         write_bytes(w, b"bad line\n")?;
@@ -108,7 +116,8 @@ fn write_posted<W: Write>(w: &mut W, event: &WireEvent<'_>, posted: &Outcome) ->
 }
 
 fn write_settled<W: Write>(w: &mut W, settled: &Settled) -> io::Result<()>
-    ensures { Writes result (W.contents w.old) (W.contents w.new) (spec.response_line (shown settled.now)) }
+    ensures { Writes result (W.contents w.old) (W.contents w.new)
+        (spec.response_line (wire_response settled.now)) }
 {
     let (status, body) = settled.wire();
     write_response(w, status, body)
@@ -116,7 +125,8 @@ fn write_settled<W: Write>(w: &mut W, settled: &Settled) -> io::Result<()>
 
 /// Writes that an event found no memory.
 fn write_out_of_memory<W: Write>(w: &mut W, event: &WireEvent<'_>) -> io::Result<()>
-    ensures { Writes result (W.contents w.old) (W.contents w.new) (spec.memory_line (event_view event.now)) }
+    ensures { Writes result (W.contents w.old) (W.contents w.new)
+        (spec.memory_line (event_view event.now)) }
 {
     match event {
         WireEvent::Post { .. } => write_settled(w, &Settled::Memory),
@@ -132,7 +142,8 @@ fn write_clock<W: Write>(w: &mut W, clock: u64) -> io::Result<()>
 }
 
 fn write_expiry<W: Write>(w: &mut W, expiry: Expiry) -> io::Result<()>
-    ensures { Writes result (W.contents w.old) (W.contents w.new) (spec.expiry_line (expiry_view expiry)) }
+    ensures { Writes result (W.contents w.old) (W.contents w.new)
+        (spec.expiry_line (expired_view expiry)) }
 {
     match expiry {
         Expiry::Nothing => write_bytes(w, b"nothing\n"),
@@ -142,7 +153,8 @@ fn write_expiry<W: Write>(w: &mut W, expiry: Expiry) -> io::Result<()>
 
 fn write_expired<W: Write>(w: &mut W, id: i64, revision: u64) -> io::Result<()>
     ensures { Writes result (W.contents w.old) (W.contents w.new)
-        (codes "expired " ++ signed_decimal id ++ codes " revision " ++ decimal revision ++ 10 ∷ []) }
+        (codes "expired " ++ signed_decimal id ++ codes " revision " ++ decimal revision
+        ++ 10 ∷ []) }
 {
     let (mut lease, mut after) = (Buffer::new(), Buffer::new());
     let id = lease.format(id).as_bytes();

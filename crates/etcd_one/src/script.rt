@@ -1,8 +1,9 @@
 //! A script: its lines, and the events that they ask for.
 //!
-//! A line ends at a line feed; a carriage return before that is dropped, and a last line without a line feed counts. The
-//! words of a line are split at single spaces.
-ghost use Rattle.std.specs.Prelude.{◌≡◌, ◌<◌, ◌≤◌, ℕ, ◌∷◌, length, map, option_map, IfOk, MatchOption};
+//! A line ends at a line feed; a carriage return before that is dropped, and a last line without a
+//! line feed counts. The words of a line are split at single spaces.
+ghost use Rattle.std.specs.Prelude.{◌≡◌, ◌<◌, ◌≤◌, ℕ, ◌∷◌, length, map, option_map};
+ghost use Rattle.std.specs.Prelude.{IfOk, MatchOption};
 ghost use Rattle.std.specs.List.{position_or_len, before_first, after_first};
 ghost use Rattle.std.specs.Str.Lines.{lines, strip_carriage_return};
 ghost use Rattle.kv_model.specs.Wire.{moment as model_moment};
@@ -50,10 +51,12 @@ pub fn line_events(alloc: Global, text: &[u8]) -> Result<Lines<'_>, AllocError>
     Ok(Lines { events, are_events })
 }
 
-/// The event that a line asks for; `None` for a bad line, one above `LONGEST_LINE` bytes or of no form.
+/// The event that a line asks for; `None` for a bad line, one above `LONGEST_LINE` bytes or of no
+/// form.
 ///
-/// The forms are `POST path body`, `AT moment` and `EXPIRE`. The body is the rest of the line, its spaces too, and may be
-/// missing; the path may be empty. The moment is in milliseconds, decimal digits alone, of a number of 64 bits.
+/// The forms are `POST path body`, `AT moment` and `EXPIRE`. The body is the rest of the line, its
+/// spaces too, and may be missing; the path may be empty. The moment is in milliseconds, decimal
+/// digits alone, of a number of 64 bits.
 pub fn event_of(line: &[u8]) -> Option<WireEvent<'_>>
     ensures { option_map event_view result ≡ script.event_of line.now }
 {
@@ -159,7 +162,8 @@ fn without_return(line: &[u8]) -> &[u8]
 fn cut(text: &[u8], at: u8) -> (&[u8], Option<&[u8]>)
     ensures before { result.0.now ≡ before_first (script.is at) text.now }
     ensures after { MatchOption result.1 (length text.now ≤ position_or_len (script.is at) text.now)
-        (λ rest. (position_or_len (script.is at) text.now < length text.now) × (rest.now ≡ after_first (script.is at) text.now)) }
+        (λ rest. (position_or_len (script.is at) text.now < length text.now)
+        × (rest.now ≡ after_first (script.is at) text.now)) }
 {
     let end = index_or_len(text, at);
     if end < text.len() {

@@ -34,14 +34,6 @@ const RELATIONS: [(&str, Relation); 4] = [
     ("NOT_EQUAL", Relation::IsNotEqual),
 ];
 
-const TARGETS: [(&str, Target); 5] = [
-    ("VERSION", Target::Version),
-    ("CREATE", Target::Create),
-    ("MOD", Target::Mod),
-    ("VALUE", Target::Value),
-    ("LEASE", Target::Lease),
-];
-
 /// Reads one compare: `result`, `target`, `key`, `range_end` and each operand, in the order of the
 /// etcd documentation's Compare. The operand that the target names counts, and the others are read
 /// and ignored. The first fault counts: `BadField` or `BadBase64`, and `BadField(Compare)` for a
@@ -58,6 +50,15 @@ pub fn compare_request(alloc: Global, value: &Value) -> Result<Compare, Bad>
     compared(alloc, object, KeyRange { key, end }, relation, target)
 }
 
+const TARGETS: [(&str, Target); 5] = [
+    ("VERSION", Target::Version),
+    ("CREATE", Target::Create),
+    ("MOD", Target::Mod),
+    ("VALUE", Target::Value),
+    ("LEASE", Target::Lease),
+];
+
+/// What the compare looks at: the version, where it does not say.
 fn target_field(object: &Object<'_>) -> Result<Target, Bad>
     ensures { Gives target_of result
         (requests.field requests.Target.to_version (requests.enum_of requests.targets)

@@ -39,7 +39,7 @@ const LOST: &[u8] =
 /// The status of an answer, whether its body is the one that is expected, and the new revision.
 type Told = (u16, bool, Option<u64>);
 
-fn answered(outcome: &Outcome, expected: &[u8]) -> Told {
+fn compared(outcome: &Outcome, expected: &[u8]) -> Told {
     let (status, body) = outcome.settled.wire();
     (status, body == expected, outcome.raised)
 }
@@ -47,7 +47,7 @@ fn answered(outcome: &Outcome, expected: &[u8]) -> Told {
 /// How a request was answered, where the outcome at this place is that of one.
 fn posted(run: &WireRun, place: usize, expected: &[u8]) -> Option<Told> {
     match run.outcomes.get(place) {
-        Some(WireOutcome::Posted(outcome)) => Some(answered(outcome, expected)),
+        Some(WireOutcome::Posted(outcome)) => Some(compared(outcome, expected)),
         _ => None,
     }
 }
@@ -110,7 +110,8 @@ fn clock(run: &WireRun, place: usize) -> Option<u64> {
     }
 }
 
-/// The number of outcomes, the answer to the put, the two steps of expiry, and the clock between them.
+/// The number of outcomes, the answer to the put, the two steps of expiry, and the clock between
+/// them.
 type Ended = (
     usize,
     Option<Told>,
@@ -168,7 +169,7 @@ fn performed(alloc: Global, core: &mut Core, body: &[u8], expected: &[u8]) -> Op
     let found = match &command {
         Ok(command) => {
             let outcome = perform(alloc, core, command, &ONES);
-            let found = answered(&outcome, expected);
+            let found = compared(&outcome, expected);
             drop(outcome);
             Some(found)
         }
@@ -180,12 +181,13 @@ fn performed(alloc: Global, core: &mut Core, body: &[u8], expected: &[u8]) -> Op
 
 fn post_one(alloc: Global, core: &mut Core, path: &[u8], body: &[u8], expected: &[u8]) -> Told {
     let outcome = post(alloc, core, path, body, &ONES);
-    let found = answered(&outcome, expected);
+    let found = compared(&outcome, expected);
     drop(outcome);
     found
 }
 
-/// The answers to a put that was read before, to a put without a key and to a range of a bad one, and the last revision.
+/// The answers to a put that was read before, to a put without a key and to a range of a bad one,
+/// and the last revision.
 fn three_requests(alloc: Global) -> (Option<Told>, [Told; 2], u64) {
     let mut core = Core::new(alloc);
     let put = performed(alloc, &mut core, PUT, PUT_REPLY);

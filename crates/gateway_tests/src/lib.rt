@@ -1,5 +1,6 @@
-//! The public calls from a request's bytes to an answer's bytes, with ample memory: what no clause can say of them. They stand in a crate
-//! above, for the tests of a crate have it proved once more. It has nothing but tests.
+//! The public calls from a request's bytes to an answer's bytes, with ample memory: what no clause
+//! can say of them. They stand in a crate above, for the tests of a crate have it proved once more.
+//! It has nothing but tests.
 #![tactic(auto)]
 
 #[cfg(test)]

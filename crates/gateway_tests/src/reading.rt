@@ -1,5 +1,6 @@
-//! What the tests compare of a request that was read. None has a clause, so that a test carries none of those of `read`; and each hands
-//! a command to `drop`, since a way out of a function that holds one carries the release of all its parts.
+//! What the tests compare of a request that was read. None has a clause, so that a test carries
+//! none of those of `read`; and each hands a command to `drop`, since a way out of a function that
+//! holds one carries the release of all its parts.
 use gateway_read::bad::Bad;
 use gateway_read::read;
 use kv_model::call::Command;

@@ -10,7 +10,7 @@ use Rattle.request_core.specs.declared.answer.Receipt.{Receipt}
 use Rattle.request_core.specs.State.{CoreState, stamp_after}
 use Rattle.request_core.specs.Answers.{answer_of, has_changed, is_beside}
 use Rattle.request_core.specs.Commands.{Accepts, Does}
-use Rattle.json_gateway.specs.Outcomes.{IsCounted, is_change}
+use Rattle.json_gateway.specs.Endings.{IsCounted, is_change}
 
 counted-by : (old new : CoreState) (b c : Bool) → b ≡ c → (b ≡ false → new ≡ old) → new.stamp ≡ stamp_after b old.stamp → IsCounted c old new
 counted-by old new b true e same one = one ∙ ap (λ d. stamp_after d old.stamp) e

@@ -14,8 +14,9 @@ use Rattle.json_gateway.specs.declared.outcome.Settled.{Settled}
 use Rattle.json_gateway.specs.declared.outcome.Settled.TheVariants as settled
 use Rattle.json_gateway.specs.declared.wire.WireEvent.{WireEvent}
 use Rattle.json_gateway.specs.declared.wire.WireOutcome.{WireOutcome}
-use Rattle.json_gateway.specs.Outcomes.{EndsAs}
-use Rattle.json_gateway.specs.Runs.{Steps, event_view, outcome_view, ending_view}
+use Rattle.json_gateway.specs.Endings.{EndsAs}
+use Rattle.json_gateway.specs.Runs.{event_view, outcome_view, ending_view}
+use Rattle.json_gateway.specs.Steps.{Steps}
 
 -- what a request came to is one step of a run
 pub ends_steps : (ids : Ids) (w : World) (path body : List ℕ) (s : Settled) (up watch : Option ℕ) (old new : CoreState) → StandsFor old.store w

@@ -1,2 +1,4 @@
 pub mod Outcomes
+pub mod Endings
 pub mod Runs
+pub mod Steps

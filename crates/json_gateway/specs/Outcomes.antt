@@ -1,19 +1,7 @@
--- What outcomes say, in the definitions' terms.
-use Rattle.std.specs.Prelude.{◌≡◌, ℕ, ◌+◌, ◌%◌, ◌^◌, ◌==◌, ◌||◌, nat_lt, Bool, true, false, Option, None, Result, Ok, Err, ⊤}
-use Rattle.kv_model.specs.declared.refusal.Refusal.{Refusal}
+-- How a request ended: what is written for it, and whether it was accepted.
+use Rattle.std.specs.Prelude.{◌≡◌, ◌==◌, Bool, true, false, None}
 use Rattle.kv_model.specs.declared.refusal.Refusal.TheVariants as refusal
-use Rattle.kv_model.specs.Answers.{Response, Fault, refused, fault_of, lost_fault, fault_of_bad}
-use Rattle.kv_model.specs.Requests as requests
-use Rattle.kv_model.specs.Calls.{Call}
-use Rattle.kv_model.specs.World.{World, revision}
-use Rattle.store_laws.specs.Stands.{StandsFor}
-use Rattle.kv_model.specs.Step.{Made, made_in}
-use Rattle.kv_model.specs.Wire.{Loss, raised, number_made, changes_beside}
-use Rattle.gateway_read.specs.declared.bad.Bad.{Bad}
-use Rattle.gateway_read.specs.declared.bad.Bad.TheVariants.{NotJson, BadField, BadBase64, NoPath, TooLong, Memory}
-use Rattle.gateway_read.specs.Fields.{snake_of}
-use Rattle.request_core.specs.State.{CoreState}
-use Rattle.request_core.specs.Answers.{is_memory}
+use Rattle.kv_model.specs.Answers.{Response, refused, fault_of, lost_fault}
 use Rattle.json_gateway.specs.declared.outcome.Reply.{Reply}
 use Rattle.json_gateway.specs.declared.outcome.Settled.{Settled}
 use Rattle.json_gateway.specs.declared.outcome.Settled.TheVariants as settled
@@ -23,10 +11,10 @@ abbrev pub response_of : Reply → Response
 response_of r = record { status = r.status; body = r.body.items }
 
 -- what is written for a request that ended so
-abbrev pub shown : Settled → Response
-shown (settled.Reply r) = response_of r
-shown settled.Memory = refused (fault_of refusal.Memory)
-shown (settled.Lost revision) = refused lost_fault
+abbrev pub wire_response : Settled → Response
+wire_response (settled.Reply r) = response_of r
+wire_response settled.Memory = refused (fault_of refusal.Memory)
+wire_response (settled.Lost revision) = refused lost_fault
 
 -- The command was accepted: it was answered with status 200, or its answer was lost. Else nothing was done.
 abbrev pub is_accepted : Settled → Bool
@@ -37,61 +25,3 @@ is_accepted (settled.Lost revision) = true
 -- where nothing was done, no revision rose and no watch was made
 abbrev pub IsBare : Outcome → Type 0
 IsBare o = is_accepted o.settled ≡ false → (o.raised ≡ None) × (o.watch ≡ None)
-
--- an accepted command changes the world, in its history or beside it
-abbrev pub is_change : World → Call → Made → Bool
-is_change w call (Ok made) = nat_lt (revision w) (revision made.1) || changes_beside w call
-is_change w call (Err e) = false
-
-abbrev pub is_change_by : World → Result Call requests.Bad → Bool
-is_change_by w (Ok call) = is_change w call (made_in w call)
-is_change_by w (Err e) = false
-
--- a change is one changing call, and where nothing has changed the core is as it was
-abbrev pub IsCounted : Bool → CoreState → CoreState → Type 0
-IsCounted true old new = new.stamp ≡ (old.stamp + 1) % 2 ^ 64
-IsCounted false old new = new ≡ old
-
--- An accepted command ends with this answer, or, where no memory was found for it, by whether it changed the store, which
--- is at this revision since.
-abbrev pub Settles : Settled → Response → Bool → ℕ → Type 0
-Settles (settled.Reply r) answer changed now = response_of r ≡ answer
-Settles settled.Memory answer changed now = changed ≡ false
-Settles (settled.Lost revision) answer changed now = (changed ≡ true) × (revision ≡ now)
-
--- a refused command ends with the refusal's text, or without memory
-abbrev pub Declines : Settled → Refusal → Type 0
-Declines (settled.Reply r) e = (is_memory e ≡ false) × (response_of r ≡ refused (fault_of e))
-Declines settled.Memory e = ⊤
-Declines (settled.Lost revision) e = ⊥
-
--- what a request that is not read is told
-abbrev pub fault_of_reading : Bad → Fault
-fault_of_reading NotJson = fault_of_bad requests.not_json
-fault_of_reading (BadField f) = fault_of_bad (requests.bad_field (snake_of f))
-fault_of_reading (BadBase64 f) = fault_of_bad (requests.bad_base64 (snake_of f))
-fault_of_reading NoPath = fault_of_bad requests.no_path
-fault_of_reading TooLong = fault_of_bad requests.too_long
-fault_of_reading Memory = fault_of refusal.Memory
-
-abbrev pub is_want : Bad → Bool
-is_want Memory = true
-is_want _ = false
-
--- a request that is not read ends with its fault's text, or without memory
-abbrev pub Dismisses : Settled → Bad → Type 0
-Dismisses (settled.Reply r) e = (is_want e ≡ false) × (response_of r ≡ refused (fault_of_reading e))
-Dismisses settled.Memory e = ⊤
-Dismisses (settled.Lost revision) e = ⊥
-
--- What a command or a request came to on a core that stood for a world: it is told this, and that is the world after it.
--- Its answer may be lost as MayBeLost allows; without memory nothing changed.
-abbrev pub EndsAs : Settled → Option ℕ → Option ℕ → CoreState → CoreState → World → Response → World → (Loss → Type 0) → Type 0
-EndsAs (settled.Reply r) up watch old new w told after MayBeLost =
-    (response_of r ≡ told) × (up ≡ raised w after) × (watch ≡ number_made w after) × StandsFor new.store after
-EndsAs settled.Memory up watch old new w told after MayBeLost = new ≡ old
-EndsAs (settled.Lost revision) up watch old new w told after MayBeLost =
-    MayBeLost (record { revision = revision; raised = up; watch = watch }) × StandsFor new.store after
-
-abbrev pub Ends : Outcome → CoreState → CoreState → World → Response → World → (Loss → Type 0) → Type 0
-Ends o = EndsAs o.settled o.raised o.watch

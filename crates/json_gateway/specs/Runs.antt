@@ -1,15 +1,11 @@
 -- What events and outcomes of a run say, in the definitions' terms.
 use Rattle.std.specs.Prelude.{ℕ, Option, Result, Ok, Err, ⊤}
-use Rattle.kv_model.specs.declared.ids.Ids.{Ids}
 use Rattle.kv_model.specs.Told as told
-use Rattle.kv_model.specs.World.{World}
-use Rattle.store_laws.specs.Stands.{StandsFor}
 use Rattle.kv_model.specs.Follows as follows
 use Rattle.kv_model.specs.Wire as model
-use Rattle.kv_model.specs.Wire.{WireTold, wire_step, is_free, takes_memory, MayLose}
-use Rattle.request_core.specs.State.{CoreState}
-use Rattle.request_core.specs.Answers.{expiry_view}
+use Rattle.kv_model.specs.Wire.{WireTold}
 use Rattle.request_core.specs.declared.answer.Expiry.{Expiry}
+use Rattle.request_core.specs.declared.answer.Expiry.TheVariants as expiry
 use Rattle.json_gateway.specs.declared.outcome.Settled.{Settled}
 use Rattle.json_gateway.specs.declared.outcome.Settled.TheVariants as settled
 use Rattle.json_gateway.specs.declared.outcome.Outcome.{Outcome}
@@ -30,7 +26,11 @@ event_view event.Expire = model.WireEvent.expire
 abbrev pub ending_view : Settled → Option ℕ → Option ℕ → model.WireOutcome
 ending_view (settled.Reply r) up watch = follows.Outcome.said (WireTold.reply (response_of r) up watch)
 ending_view settled.Memory up watch = follows.Outcome.memory
-ending_view (settled.Lost revision) up watch = follows.Outcome.lost (record { revision = revision; raised = up; watch = watch })
+ending_view (settled.Lost revision) up watch = follows.Outcome.lost (record {
+  revision = revision;
+  raised = up;
+  watch = watch;
+})
 
 abbrev pub command_view : Outcome → model.WireOutcome
 command_view o = ending_view o.settled o.raised o.watch
@@ -41,8 +41,12 @@ unexpired_view unexpired.Memory = follows.Outcome.memory
 unexpired_view unexpired.RevisionsSpent = follows.Outcome.said (WireTold.expiry told.Expiry.spent)
 
 -- what a step of expiry did
+abbrev pub expired_view : Expiry → told.Expiry
+expired_view expiry.Nothing = told.Expiry.nothing
+expired_view (expiry.Expired id revision raised) = told.Expiry.expired id revision raised
+
 abbrev pub expiry_outcome : Result Expiry Unexpired → model.WireOutcome
-expiry_outcome (Ok e) = follows.Outcome.said (WireTold.expiry (expiry_view e))
+expiry_outcome (Ok e) = follows.Outcome.said (WireTold.expiry (expired_view e))
 expiry_outcome (Err e) = unexpired_view e
 
 abbrev pub outcome_view : WireOutcome → model.WireOutcome
@@ -54,8 +58,3 @@ outcome_view (outcome.Expiry made) = expiry_outcome made
 abbrev pub IsBareIn : WireOutcome → Type 0
 IsBareIn (outcome.Posted o) = IsBare o
 IsBareIn _ = ⊤
-
--- the outcome is the model's for this event, and the core then stands for the world after it
-pub record Steps (ids : Ids) (w : World) (e : model.WireEvent) (o : model.WireOutcome) (new : CoreState) : Type 0 where
-  pub answers : follows.Answers (wire_step ids) is_free takes_memory MayLose w e o
-  pub stands : StandsFor new.store (follows.after_outcome (wire_step ids) w e o)

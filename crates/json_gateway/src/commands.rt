@@ -1,6 +1,6 @@
 //! One command or one request on a core, from bytes to bytes.
 ghost use Rattle.std.specs.Prelude.{◌≡◌, true, false, None, map, IfOk};
-ghost use Rattle.kv_model.specs.Answers.{Response, answered, response_to};
+ghost use Rattle.kv_model.specs.Answers.{Response, answered, fault_of, response_to};
 ghost use Rattle.kv_model.specs.Calls.{call_of};
 ghost use Rattle.kv_model.specs.Requests.{request_of};
 ghost use Rattle.store_laws.specs.Stands.{StandsFor};
@@ -8,8 +8,11 @@ ghost use Rattle.kv_model.specs.Step.{made_in, perform as perform_in};
 ghost use Rattle.kv_model.specs.Wire.{IsChange, IsChangeBy, reply_to};
 ghost use Rattle.kv_model.specs.World.{World};
 ghost use Rattle.gateway_text.specs.Views.{wording_view};
-ghost use Rattle.request_core.specs.Answers.{IsReadable, answer_of, answer_view, has_changed, time_left_view};
-ghost use Rattle.json_gateway.specs.Outcomes.{Declines, Dismisses, Ends, IsBare, IsCounted, Settles, fault_of_reading, is_accepted, is_change, is_change_by};
+ghost use Rattle.request_core.specs.Answers.{IsReadable, answer_of, answer_view, has_changed};
+ghost use Rattle.request_core.specs.Answers.{is_memory, time_left_view};
+ghost use Rattle.json_gateway.specs.Endings.{Ends, IsCounted, Refuses, Settles};
+ghost use Rattle.json_gateway.specs.Endings.{fault_of_reading, is_change, is_change_by, is_want};
+ghost use Rattle.json_gateway.specs.Outcomes.{IsBare, is_accepted};
 
 use crate::outcome::{Outcome, Reply, Settled};
 use gateway_read::bad::Bad;
@@ -28,18 +31,21 @@ use std::alloc::{AllocError, Global};
 
 /// Does one command on a core, and gives its outcome.
 ///
-/// The answer is written after the command is done: where no memory is found for it and the command changed the
-/// store, the outcome is `Lost`, and where it changed nothing, `Memory`. At `Memory` and at each refusal, whose status is not 200,
-/// the core is as it was, and neither a revision nor a watch is told; so it is where an accepted command changes nothing. A change
-/// adds one to the core's stamp.
+/// The answer is written after the command is done: where no memory is found for it and the command
+/// changed the store, the outcome is `Lost`, and where it changed nothing, `Memory`. At `Memory`
+/// and at each refusal, whose status is not 200, the core is as it was, and neither a revision nor
+/// a watch is told; so it is where an accepted command changes nothing. A change adds one to the
+/// core's stamp.
 pub fn perform(alloc: Global, core: &mut Core, command: &Command, ids: &Ids) -> Outcome
     ensures ends { (w : World) → StandsFor core.old.store w → Ends result core.old core.new w
-        (response_to ids.now (perform_in w (call_of command.now)).0) (perform_in w (call_of command.now)).1
+        (response_to ids.now (perform_in w (call_of command.now)).0)
+        (perform_in w (call_of command.now)).1
         (λ l. IsChange w (call_of command.now) l (made_in w (call_of command.now))) }
     ensures unchanged { is_accepted result.settled ≡ false → core.new ≡ core.old }
     ensures bare { IsBare result }
     ensures counted { (w : World) → StandsFor core.old.store w → is_accepted result.settled ≡ true
-        → IsCounted (is_change w (call_of command.now) (made_in w (call_of command.now))) core.old core.new }
+        → IsCounted (is_change w (call_of command.now) (made_in w (call_of command.now)))
+        core.old core.new }
 {
     match core.apply(command) {
         Ok(receipt) => Outcome {
@@ -55,8 +61,8 @@ pub fn perform(alloc: Global, core: &mut Core, command: &Command, ids: &Ids) -> 
     }
 }
 
-/// Does what a request asks on a core, and gives its outcome. A request that is not read is refused, and all that `perform` says of
-/// a refusal holds of it.
+/// Does what a request asks on a core, and gives its outcome. A request that is not read is
+/// refused, and all that `perform` says of a refusal holds of it.
 pub fn post(alloc: Global, core: &mut Core, path: &[u8], body: &[u8], ids: &Ids) -> Outcome
     ensures ends { (w : World) → StandsFor core.old.store w → Ends result core.old core.new w
         (reply_to ids.now w path.now body.now).0 (reply_to ids.now w path.now body.now).1
@@ -79,7 +85,8 @@ pub fn post(alloc: Global, core: &mut Core, path: &[u8], body: &[u8], ids: &Ids)
 /// How an accepted command ends.
 fn settled(alloc: Global, core: &Core, receipt: &Receipt<'_>, ids: &Ids) -> Settled
     requires { IsReadable receipt.now core.now }
-    ensures { Settles result (answered ids.now (answer_of receipt.now core.now)) (has_changed receipt.now) receipt.now.revision }
+    ensures { Settles result (answered ids.now (answer_of receipt.now core.now))
+        (has_changed receipt.now) receipt.now.revision }
 {
     match answer_text(alloc, core, receipt, ids) {
         Ok(body) => Settled::Reply(Reply { status: 200, body }),
@@ -89,7 +96,8 @@ fn settled(alloc: Global, core: &Core, receipt: &Receipt<'_>, ids: &Ids) -> Sett
 
 /// How an accepted command ends whose answer found no memory.
 fn unanswered(receipt: &Receipt<'_>) -> Settled
-    ensures { (answer : Response) → Settles result answer (has_changed receipt.now) receipt.now.revision }
+    ensures { (answer : Response)
+        → Settles result answer (has_changed receipt.now) receipt.now.revision }
 {
     if receipt.has_changed() {
         Settled::Lost(receipt.revision)
@@ -106,13 +114,15 @@ fn answer_text(
     ids: &Ids,
 ) -> Result<Vec<u8>, AllocError>
     requires { IsReadable receipt.now core.now }
-    ensures { IfOk result (λ v. v.items ≡ (answered ids.now (answer_of receipt.now core.now)).body) }
+    ensures { IfOk result (λ v.
+        v.items ≡ (answered ids.now (answer_of receipt.now core.now)).body) }
 {
     let answer = core.answer(receipt)?;
     text(alloc, &answer, ids)
 }
 
-/// The JSON text of an answer (the etcd documentation, "gRPC gateway"), written once into one buffer.
+/// The JSON text of an answer (the etcd documentation, "gRPC gateway"), written once into one
+/// buffer.
 ///
 /// `AllocError` comes where that buffer finds no memory.
 pub fn text(alloc: Global, answer: &Answer<'_>, ids: &Ids) -> Result<Vec<u8>, AllocError>
@@ -159,7 +169,10 @@ fn left_text(
     ids: &Ids,
 ) -> Result<Vec<u8>, AllocError>
     ensures { IfOk result (λ v. v.items ≡ (answered ids.now
-        (record { reply = time_left_view id left (map (λ k. k.now) keys.now); revision = revision })).body) }
+        (record {
+          reply = time_left_view id left (map (λ k. k.now) keys.now);
+          revision = revision;
+        })).body) }
 {
     match left {
         Some(left) => time_left_text(
@@ -177,30 +190,29 @@ fn left_text(
 
 /// How a refused command ends.
 fn declined(alloc: Global, refusal: Refusal) -> Settled
-    ensures { Declines result refusal }
+    ensures { Refuses result (is_memory refusal) (fault_of refusal) }
 {
     if refusal == Refusal::Memory {
         return Settled::Memory;
     }
-    let wording = refusal_wording(refusal);
-    match refusal_text(alloc, &wording) {
-        Ok(body) => Settled::Reply(Reply {
-            status: wording.status,
-            body,
-        }),
-        Err(_) => Settled::Memory,
-    }
+    refused(alloc, &refusal_wording(refusal))
 }
 
 /// How a request that is not read ends.
 fn dismissed(alloc: Global, bad: Bad) -> Settled
-    ensures { Dismisses result bad }
+    ensures { Refuses result (is_want bad) (fault_of_reading bad) }
 {
     if bad == Bad::Memory {
         return Settled::Memory;
     }
-    let wording = bad_wording(bad);
-    match refusal_text(alloc, &wording) {
+    refused(alloc, &bad_wording(bad))
+}
+
+/// How a request ends that is refused in these words, where its text may find no memory.
+fn refused(alloc: Global, wording: &Wording<'_>) -> Settled
+    ensures { Refuses result false (wording_view wording.now) }
+{
+    match refusal_text(alloc, wording) {
         Ok(body) => Settled::Reply(Reply {
             status: wording.status,
             body,

@@ -1,4 +1,26 @@
-// Requests as bytes, answers as bytes: the JSON gateway over a core.
+//! Requests as bytes, answers as bytes: the JSON gateway over a core.
+//!
+//! The one contract is that of [`run_wire`]: for every list of events, each outcome is what the
+//! model of the whole history tells, byte for byte, but where memory was wanting. [`perform`] and
+//! [`post`] say it of one command and of one request, for each world that the core stands for, and
+//! `etcd_one` calls [`run_wire`] with the events of a script. For example, on a fresh store, as
+//! member 1 of cluster 1, where `{..}` is
+//! `{"cluster_id":"1","member_id":"1","raft_term":"1","revision":"2"}`:
+//!
+//! ```text
+//! Moment 1000                                      Clock 1000
+//! Post /v3/kv/put {"key":"YQ==","value":"MQ=="}    200 {"header":{..}}, raised to revision 2
+//! Post /v3/kv/put {"value":"MQ=="}                 400, the key is missing; nothing is raised
+//! Post /v3/kv/range {"key":"YQ=="}                 200 {"count":"1","header":{..},"kvs":[{..
+//! Expire                                           Nothing, since no lease is due
+//! ```
+//!
+//! A request goes from [`read`] of `gateway_read` over `Core::apply` and `Core::answer` of
+//! `request_core` to [`text`], which calls the function of `gateway_text` for each kind of answer.
+//! How it ended is [`Settled`]: answered, be it by a refusal; without memory, and then nothing has
+//! changed; or lost, where the change stands and its answer found no memory.
+//!
+//! The tests stand in the crate `gateway_tests`, in `src/gateway.rt`.
 #![tactic(auto)]
 
 pub mod commands;

@@ -31,12 +31,12 @@ pub struct Outcome {
 
 impl Settled {
     ghost use Rattle.std.specs.Prelude.{◌≡◌};
-    ghost use Rattle.json_gateway.specs.Outcomes.{shown};
+    ghost use Rattle.json_gateway.specs.Outcomes.{wire_response};
 
     /// The HTTP status and the body. The two texts of status 500 are fixed. Takes no memory.
     pub fn wire(&self) -> (u16, &[u8])
-        ensures status { result.0 ≡ (shown self.now).status }
-        ensures body { result.1.now ≡ (shown self.now).body }
+        ensures status { result.0 ≡ (wire_response self.now).status }
+        ensures body { result.1.now ≡ (wire_response self.now).body }
     {
         match self {
             Settled::Reply(reply) => (reply.status, reply.body.as_slice()),

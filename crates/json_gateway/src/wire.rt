@@ -52,16 +52,19 @@ pub struct WireRun {
     pub outcomes: Vec<WireOutcome>,
 }
 
-ghost use Rattle.json_gateway.specs.Runs.{IsBareIn, Steps, event_view, outcome_view};
+ghost use Rattle.json_gateway.specs.Runs.{IsBareIn, event_view, outcome_view};
+ghost use Rattle.json_gateway.specs.Steps.{Steps};
 
-/// Runs events on a fresh store. **Each outcome's bytes are those of the model of the whole history**, whatever the
-/// events are: `Follows` of the model says so.
+/// Runs events on a fresh store. **Each outcome's bytes are those of the model of the whole
+/// history**, whatever the events are: `Follows` of the model says so.
 ///
-/// An event that found no memory counts as not made, and an answer may be lost only where its change stands; a moment finds
-/// its memory always. An outcome without an answer, and a refusal, tell neither a revision nor a watch. `AllocError` comes before
-/// the first event, where there is no room for the outcomes.
+/// An event that found no memory counts as not made, and an answer may be lost only where its
+/// change stands; a moment finds its memory always. An outcome without an answer, and a refusal,
+/// tell neither a revision nor a watch. `AllocError` comes before the first event, where there is
+/// no room for the outcomes.
 pub fn run_wire(alloc: Global, events: &[WireEvent<'_>], ids: &Ids) -> Result<WireRun, AllocError>
-    ensures follows { IfOk result (λ run. Follows ids.now (map event_view events.now) (map outcome_view run.outcomes.items)) }
+    ensures follows { IfOk result (λ run.
+        Follows ids.now (map event_view events.now) (map outcome_view run.outcomes.items)) }
     ensures bare { IfOk result (λ run. AllByRecursion IsBareIn run.outcomes.items) }
 {
     let mut outcomes = Vec::with_capacity(alloc, events.len())?;
@@ -76,7 +79,8 @@ pub fn run_wire(alloc: Global, events: &[WireEvent<'_>], ids: &Ids) -> Result<Wi
 /// One event on a core.
 fn step(alloc: Global, core: &mut Core, event: &WireEvent<'_>, ids: &Ids) -> WireOutcome
     ensures bare { IsBareIn result }
-    ensures steps { (w : World) → StandsFor core.old.store w → Steps ids.now w (event_view event.now) (outcome_view result) core.new }
+    ensures steps { (w : World) → StandsFor core.old.store w
+        → Steps ids.now w (event_view event.now) (outcome_view result) core.new }
 {
     match event {
         WireEvent::Moment(now) => WireOutcome::Clock(core.moment(*now)),
@@ -88,7 +92,8 @@ fn step(alloc: Global, core: &mut Core, event: &WireEvent<'_>, ids: &Ids) -> Wir
 /// A request on a core, as an event of a run.
 fn step_post(alloc: Global, core: &mut Core, path: &[u8], body: &[u8], ids: &Ids) -> WireOutcome
     ensures bare { IsBareIn result }
-    ensures steps { (w : World) → StandsFor core.old.store w → Steps ids.now w (model_post path.now body.now) (outcome_view result) core.new }
+    ensures steps { (w : World) → StandsFor core.old.store w
+        → Steps ids.now w (model_post path.now body.now) (outcome_view result) core.new }
 {
     WireOutcome::Posted(post(alloc, core, path, body, ids))
 }
@@ -96,7 +101,8 @@ fn step_post(alloc: Global, core: &mut Core, path: &[u8], body: &[u8], ids: &Ids
 /// A step of expiry on a core, as an event of a run.
 fn step_expire(core: &mut Core) -> WireOutcome
     ensures bare { IsBareIn result }
-    ensures steps { (ids : Ids) (w : World) → StandsFor core.old.store w → Steps ids w model_expire (outcome_view result) core.new }
+    ensures steps { (ids : Ids) (w : World) → StandsFor core.old.store w
+        → Steps ids w model_expire (outcome_view result) core.new }
 {
     match core.expire() {
         Ok(expiry) => WireOutcome::Expiry(Ok(expiry)),

@@ -8,12 +8,15 @@
 //! For example, three leases are granted while the clock stands at 1,000:
 //!
 //! ```text
-//! grant  ttl 10, id 7     7, 10 s     deadline 11,000 grant  ttl 0, id 0      1, 1 s      deadline
-//! 2,000     the least free ID above 0; 1 s at least grant  ttl 1, id -3     -3, 1 s     deadline
-//! 2,000 moment 1,999            due: none moment 2,000            due: -3
-//! of equal deadlines the least ID comes first revoke -3               due: 1 keep_alive 1
-//!   1 s         deadline 3,000     from the clock on, though it was due moment 1,500
-//! 2,000                           the clock stays; due: none time_left 7             9 of 10 s
+//! grant ttl 10, id 7     lease 7, deadline 11,000
+//! grant ttl 0, id 0      lease 1, deadline 2,000, the least free ID above 0; 1 s at least
+//! grant ttl 1, id -3     lease -3, deadline 2,000
+//! moment 1,999           due: none
+//! moment 2,000           due: -3, of equal deadlines the least ID comes first
+//! revoke -3              due: 1
+//! keep_alive 1           deadline 3,000, from the clock on, though it was due
+//! moment 1,500           the clock stays; due: none
+//! time_left 7            9 of 10 s
 //! ```
 //!
 //! The tests stand in the crate `store_tests`, in `src/leases.rt`.

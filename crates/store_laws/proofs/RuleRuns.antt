@@ -9,34 +9,33 @@ use Rattle.std.specs.List.{AllByRecursion}
 use Rattle.kv_model.specs.declared.version.Rev.{Rev}
 use Rattle.kv_model.specs.declared.version.Version.{Version}
 use Rattle.kv_model.specs.declared.ids.Ids.{Ids}
-use Rattle.kv_model.specs.Lists.{IsPart, nothing}
+use Rattle.kv_model.specs.Lists.{nothing}
 use Rattle.kv_model.specs.History.{Mutation, IsHistory, IsBatch, now, dress}
-use Rattle.kv_model.specs.Txns.{extend_all, added_by}
-use Rattle.kv_model.specs.World.{World, IsSound, opening, revision}
+use Rattle.kv_model.specs.Txns.{added_by}
+use Rattle.kv_model.specs.World.{World, IsSound, opening}
 use Rattle.kv_model.specs.Questions.{IsGood}
-use Rattle.kv_model.specs.Trimming.{trimmed, oldest_place, IsTrimmedTo}
+use Rattle.kv_model.specs.Trimming.{TrimStep, trimmed, oldest_place, IsTrimmedTo}
 use Rattle.kv_model.specs.Certificates.{claims_of}
 use Rattle.kv_model.specs.Follows.{FollowsFrom}
 use Rattle.kv_model.specs.Wire.{WireEvent, wire_step, is_free, takes_memory, is_physical, MayLose}
 use Rattle.kv_model.specs.Kept.{Keeping, Changes, kept_after, dump_of}
-use Rattle.kv_model.specs.Headline.{IsRun, KeepsWell}
-use Rattle.store_laws.specs.TrimmingLaws.{keeping, GoesOn}
-use Rattle.store_laws.specs.ByRule.{Trimming, not_begun, moved_on, rule_keeps, by_rule, AddsBatch, Compacts, AreMoves, RuleMakesRun}
+use Rattle.kv_model.specs.Headline.{KeepsWell}
+use Rattle.store_laws.specs.TrimmingLaws.{keeping, GoesOn, StepsWell}
+use Rattle.store_laws.specs.ByRule.{Trimming, not_begun, moved_on, by_rule, AddsBatch, Compacts, AreMoves, RuleMakesRun}
 use Rattle.store_laws.proofs.PlaceLaws.{each-map}
 use Rattle.store_laws.proofs.BatchLaws.{dress-added, each-added, history-more, now-least, good-added, good-grows}
-use Rattle.store_laws.proofs.StepLaws.{part-self}
 use Rattle.store_laws.proofs.BetweenSteps.{starts_over, goes_on, stays_good}
 use Rattle.store_laws.proofs.RuleLaws.{steps-well}
 
 -- ---- from one history and compaction to the next
 
 -- what is kept is good, and nothing before the place is left to take out
-record IsGoing (ms : List Mutation) (c : ℕ) (vs : List Version) (p : Rev) : Type 0 where
-  history : IsHistory ms
-  floor : c ≤ now ms
-  fits : c < 2 ^ 63
-  good : IsGood vs ms c
-  up_to : IsTrimmedTo vs p c
+pub record IsGoing (ms : List Mutation) (c : ℕ) (vs : List Version) (p : Rev) : Type 0 where
+  pub history : IsHistory ms
+  pub floor : c ≤ now ms
+  pub fits : c < 2 ^ 63
+  pub good : IsGood vs ms c
+  pub up_to : IsTrimmedTo vs p c
 
 -- what is kept after a move
 abbrev next : List Mutation → ℕ → List Mutation → ℕ → List Version → Rev → Keeping
@@ -111,14 +110,15 @@ module _ (ms : List Mutation) (c : ℕ) (vs : List Version) (p : Rev) (g : IsGoi
 
 -- ---- from one world to the next
 
-record GoesOnTo (w u : World) (s : Trimming) : Type 0 where
-  going : IsGoing u.mutations u.compacted (moved_on w u s).versions (moved_on w u s).place
+pub record GoesOnTo (w u : World) (s : Trimming) : Type 0 where
+  pub going : IsGoing u.mutations u.compacted (moved_on w u s).versions (moved_on w u s).place
   keeps : keeping (moved_on w u s).versions (moved_on w u s).place u.compacted ≡ kept_after w u (keeping s.versions s.place w.compacted)
 
 goes_to : (w u : World) (s : Trimming) → GoesTo w.mutations w.compacted u.mutations u.compacted s.versions s.place → GoesOnTo w u s
 goes_to w u s g = record { going = g.going; keeps = g.keeps }
 
-moves : (w u : World) (s : Trimming) → IsGoing w.mutations w.compacted s.versions s.place → AddsBatch w u ⊎ Compacts w u → GoesOnTo w u s
+pub moves : (w u : World) (s : Trimming) → IsGoing w.mutations w.compacted s.versions s.place → AddsBatch w u ⊎ Compacts w u
+    → GoesOnTo w u s
 moves w u s g (inl a) = goes_to w u s
     (subst (λ d. GoesTo w.mutations w.compacted u.mutations d s.versions s.place) (sym a.compacted)
     (subst (λ ns. GoesTo w.mutations w.compacted ns w.compacted s.versions s.place) (sym a.mutations)
@@ -134,11 +134,22 @@ changes w u s physical e g = subst (λ b. Changes b w u (keeping s.versions s.pl
 
 -- ---- the run
 
-abbrev Going : World → Trimming → Type 0
+abbrev pub Going : World → Trimming → Type 0
 Going w s = IsGoing w.mutations w.compacted s.versions s.place
 
 sound : (w : World) (s : Trimming) → Going w s → IsSound w
 sound w s g = record { history = g.history; floor = g.floor }
+
+-- what a step by the rule keeps, with a certificate of its own
+step-on : (w : World) (s : Trimming) → Going w s
+    → StepsWell w s.versions s.place (Some (claims_of (dump_of w s.versions))) (trimmed s.versions s.place w.compacted)
+step-on w s g = steps-well w s.versions s.place (Some (claims_of (dump_of w s.versions))) (sound w s g) g.fits g.good g.up_to refl
+
+-- what it leaves goes on
+pub step_going : (w : World) (s : Trimming) (t : TrimStep) → trimmed s.versions s.place w.compacted ≡ t → Going w s
+    → Going w (record { versions = t.versions; place = t.place })
+step_going w s t e g = subst (λ (t : TrimStep). IsGoing w.mutations w.compacted t.versions t.place) e
+    (record { history = g.history; floor = g.floor; fits = g.fits; good = (step-on w s g).good; up_to = (step-on w s g).up_to })
 
 module _ (ids : Ids) where
   abbrev Keeps : World → Trimming → List WireEvent → Type 0
@@ -163,17 +174,15 @@ module _ (ids : Ids) where
         ),
       )
 
-  keeps_on : (es : List WireEvent) (w : World) (s : Trimming) → Going w s → AreMoves ids w es → Keeps w s es
+  pub keeps_on : (es : List WireEvent) (w : World) (s : Trimming) → Going w s → AreMoves ids w es → Keeps w s es
   keeps_on [] w s g m = g.good
   keeps_on (WireEvent.trim ∷ es) w s g m =
-      let t = trimmed s.versions s.place w.compacted in
-      let step = steps-well w s.versions s.place (Some (claims_of (dump_of w s.versions))) (sound w s g) g.fits g.good g.up_to refl in (
+      let t = trimmed s.versions s.place w.compacted in (
         g.good,
         (
           keeping t.versions t.place w.compacted,
-          step.trims,
-          keeps_on es w (record { versions = t.versions; place = t.place })
-              (record { history = g.history; floor = g.floor; fits = g.fits; good = step.good; up_to = step.up_to }) m.2,
+          (step-on w s g).trims,
+          keeps_on es w (record { versions = t.versions; place = t.place }) (step_going w s t refl g) m.2,
         ),
       )
   keeps_on (WireEvent.certify ∷ es) w s g m = (g.good, (keeping s.versions s.place w.compacted, (refl, refl), keeps_on es w s g m.2))
@@ -183,7 +192,7 @@ module _ (ids : Ids) where
   keeps_on (WireEvent.close n ∷ es) w s g m = on w (WireEvent.close n) s es g m.0 m.1 (λ h. keeps_on es _ _ h m.2)
   keeps_on (WireEvent.expire ∷ es) w s g m = on w WireEvent.expire s es g m.0 m.1 (λ h. keeps_on es _ _ h m.2)
 
-  follows_on : (es : List WireEvent) (w : World) (s : Trimming) → FollowsFrom (wire_step ids) is_free takes_memory MayLose w es
+  pub follows_on : (es : List WireEvent) (w : World) (s : Trimming) → FollowsFrom (wire_step ids) is_free takes_memory MayLose w es
       (by_rule ids w s es)
   follows_on [] w s = tt
   follows_on (WireEvent.trim ∷ es) w s = (tt, follows_on es _ _)

@@ -1,3 +1,2 @@
-pub mod RevOrder
 pub mod Rising
 pub mod Changes

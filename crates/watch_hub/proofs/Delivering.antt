@@ -13,7 +13,7 @@ use Rattle.store_laws.specs.Stands.{Store, Tracked, TracksNext, Tracks, StandsFo
 use Rattle.store_laws.proofs.StandsWatches.{good-undelivered}
 use Rattle.store_laws.proofs.TrimLaws.{Precedes, AreRising, rising-dress}
 use Rattle.store_laws.proofs.BetweenSteps.{all-values}
-use Rattle.version_table.proofs.RevOrder.{main_le}
+use Rattle.store_laws.proofs.RevOrder.{rev_lt-main}
 use Rattle.watch_hub.specs.Delivering.{message_from, delivery_kept, delivery_from}
 
 -- ---- the first match is the least
@@ -23,7 +23,7 @@ AreFrom m vs = AllByRecursion (λ v. m ≤ v.rev.main) vs
 
 mains-from : (v : Version) (vs : List Version) → AllByRecursion (Precedes v) vs → AreFrom v.rev.main vs
 mains-from v [] h = tt
-mains-from v (w ∷ vs) h = (main_le v.rev w.rev h.0.0, mains-from v vs h.1)
+mains-from v (w ∷ vs) h = (rev_lt-main v.rev w.rev h.0.0, mains-from v vs h.1)
 
 from-later : (m n : ℕ) (vs : List Version) → n ≤ m → AreFrom m vs → AreFrom n vs
 from-later m n [] l h = tt

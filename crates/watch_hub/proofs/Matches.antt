@@ -9,7 +9,7 @@ use Rattle.kv_model.specs.declared.version.Version.{Version}
 use Rattle.kv_model.specs.History.{rev_lt}
 use Rattle.store_laws.specs.Stands.{first_main_of}
 use Rattle.version_table.specs.Rising.{IsRising}
-use Rattle.version_table.proofs.RevOrder.{main_le}
+use Rattle.store_laws.proofs.RevOrder.{rev_lt-main}
 use Rattle.watch_hub.proofs.Halving.{AreOrdered, partitioned as halves}
 
 -- ---- the first that passes a test
@@ -28,7 +28,7 @@ first-found p (v ∷ vs) = by (p v) (first-found p vs)
 mains-above : (v : Version) (vs : List Version) → AllByRecursion (λ w. rev_lt v.rev w.rev ≡ true) vs
     → AllByRecursion (λ w. v.rev.main ≤ w.rev.main) vs
 mains-above v [] a = tt
-mains-above v (w ∷ vs) a = (main_le v.rev w.rev a.0, mains-above v vs a.1)
+mains-above v (w ∷ vs) a = (rev_lt-main v.rev w.rev a.0, mains-above v vs a.1)
 
 ordered : (vs : List Version) → IsRising vs → AreOrdered (λ v w. v.rev.main ≤ w.rev.main) vs
 ordered [] r = tt

@@ -11,7 +11,7 @@ use Rattle.kv_model.specs.Lists.{last_that}
 use Rattle.kv_model.specs.Watches.{count_up_to, last_revision, most_events}
 use Rattle.store_laws.specs.Stands.{first_main_of}
 use Rattle.version_table.specs.Rising.{IsRising}
-use Rattle.version_table.proofs.RevOrder.{main_le}
+use Rattle.store_laws.proofs.RevOrder.{rev_lt-main}
 use Rattle.watch_hub.specs.declared.tally.Tally.{Tally}
 use Rattle.watch_hub.specs.Messages.{first_tally, has_room, counted, cut_at, tallied, with_room}
 
@@ -372,7 +372,7 @@ module _ (u : Version) (us : List Version) (ascends : Ascends (u ∷ us)) where
 
 mains-from : (v : Version) (vs : List Version) → AllByRecursion (λ w. rev_lt v.rev w.rev ≡ true) vs → AreFrom v.rev.main vs
 mains-from v [] h = tt
-mains-from v (w ∷ vs) h = (main_le v.rev w.rev h.0, mains-from v vs h.1)
+mains-from v (w ∷ vs) h = (rev_lt-main v.rev w.rev h.0, mains-from v vs h.1)
 
 rising-ascends : (vs : List Version) → IsRising vs → Ascends vs
 rising-ascends [] h = tt

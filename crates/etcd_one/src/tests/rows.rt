@@ -20,7 +20,8 @@ const NO_PATH: &str =
 
 const BAD_LINE: &str = "bad line\n";
 
-/// A script and its replies: of each the pieces of its text, in order, and how often each stands there.
+/// A script and its replies: of each the pieces of its text, in order, and how often each stands
+/// there.
 pub(super) type Row = (
     &'static [(&'static str, usize)],
     &'static [(&'static str, usize)],

@@ -50,7 +50,8 @@ fn slow_reader(good: usize) -> Trickle<'static> {
     }
 }
 
-/// Takes at most three bytes a write. Once it has `good` bytes it fails, or takes nothing, and after that it would take all.
+/// Takes at most three bytes a write. Once it has `good` bytes it fails, or takes nothing, and
+/// after that it would take all.
 #[derive(Drop)]
 struct Choppy {
     got: Vec<u8>,
@@ -115,7 +116,8 @@ fn reads(rt: HostRuntime) {
     assert!(rt; is_read(rt.alloc()));
 }
 
-/// Whether a script ends where a write fails, or takes nothing, after these bytes, and nothing more is written.
+/// Whether a script ends where a write fails, or takes nothing, after these bytes, and nothing more
+/// is written.
 fn is_cut_short(alloc: Global, wanted: &[u8], fails: bool) -> bool {
     let mut script = SCRIPT;
     let mut out = small_writer(alloc, wanted.len(), fails, true);

@@ -1,7 +1,8 @@
 //! Transactions: scripts and their replies, byte for byte.
 use super::rows::{Row, first_wrong};
 
-/// What a Range sees within a transaction, what compares see of a key that is not there, and deletes that share a key.
+/// What a Range sees within a transaction, what compares see of a key that is not there, and
+/// deletes that share a key.
 const OPERATIONS_WITHIN: [Row; 3] = [
     (
         &[(
@@ -75,7 +76,8 @@ fn refused_transactions(rt: HostRuntime) {
     assert_eq!(rt; first_wrong(rt.alloc(), &REFUSED_TRANSACTIONS), None);
 }
 
-/// Nested compares see the state before, their branches are looked into, and eight levels are the most.
+/// Nested compares see the state before, their branches are looked into, and eight levels are the
+/// most.
 const NESTED_TRANSACTIONS: [Row; 2] = [
     (
         &[(

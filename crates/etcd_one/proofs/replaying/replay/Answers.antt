@@ -1,7 +1,7 @@
 -- What was written is what answers the script that was read, or a front of that.
 use Rattle.std.proofs.Common.{◌≡◌, true}
 use Rattle.etcd_one.specs.Faults.{is_write}
-use Rattle.etcd_one.proofs.Writing.{answered, answered_front}
+use Rattle.etcd_one.proofs.Writing.{whole_answers, front_answers}
 use Rattle.etcd_one.proofs.replaying.replay.Goals as goal
 
 pub returns-in-Ok-clause-ok : goal.returns-in-Ok-clause-ok
@@ -10,7 +10,7 @@ returns-in-Ok-clause-ok g c =
     let lines = rw c.as_slice.ensures.value at c.in-Ok.ensures.lines in
     let follows = rw c.as_slice.ensures.value at c.in-Ok.ensures.follows in
     let written = rw c.deref.ensures.value at c.write_out.ensures.replies in
-    answered c.write_out.result _ _ _ c.in_ok-script.script.items _ _ read lines follows written
+    whole_answers c.write_out.result _ _ _ c.in_ok-script.script.items _ _ read lines follows written
 
 pub returns-in-Ok-clause-cut : goal.returns-in-Ok-clause-cut
 returns-in-Ok-clause-cut g c =
@@ -18,4 +18,4 @@ returns-in-Ok-clause-cut g c =
     let lines = rw c.as_slice.ensures.value at c.in-Ok.ensures.lines in
     let follows = rw c.as_slice.ensures.value at c.in-Ok.ensures.follows in
     let written = rw c.deref.ensures.value at c.write_out.ensures.replies in
-    answered_front c.write_out.result (λ fault. is_write fault ≡ true) _ _ _ c.in_ok-script.script.items _ _ read lines follows written
+    front_answers c.write_out.result (λ fault. is_write fault ≡ true) _ _ _ c.in_ok-script.script.items _ _ read lines follows written

@@ -1,6 +1,7 @@
 use Rattle.std.proofs.Common.{sym, subst}
 use Rattle.json_gateway.specs.declared.wire.WireEvent.{WireEvent}
-use Rattle.json_gateway.specs.Runs.{Steps, event_view, outcome_view}
+use Rattle.json_gateway.specs.Runs.{event_view, outcome_view}
+use Rattle.json_gateway.specs.Steps.{Steps}
 use Rattle.json_gateway.proofs.wire.step.Goals as goal
 
 pub returns-in-Expire-clause-steps : goal.returns-in-Expire-clause-steps
