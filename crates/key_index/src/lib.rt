@@ -2,8 +2,8 @@
 //!
 //! Of a key the index has the revisions of its puts and of its tombstones, rising. The one contract
 //! is that of [`KeyIndex`]: its value is the list of its keys, ascending, each with its revisions,
-//! and each call is a function on such lists. `range_view` keeps an index beside a table of versions
-//! and asks it at which revision to read a key; `trim_core` takes revisions out of both.
+//! and each call is a function on such lists. `range_view` keeps an index beside a table of
+//! versions and asks it at which revision to read a key; `trim_core` takes revisions out of both.
 //!
 //! For example, `foo` is put at 2.0 and 3.0, deleted at 4.0, put again at 5.0 and deleted at 6.0,
 //! with a revision written as main.sub. A tombstone, (t), ends a generation of the key, and the put

@@ -1,13 +1,13 @@
 //! What a store keeps, and reads of it that lend.
 //!
 //! A store keeps the versions of its keys in a table that rises by revision, and an index from each
-//! key to its revisions. [`Tables`] holds both, with the revision of the last compaction, the present
-//! one and the place that trimming has come to. Its value is the plain record of these, without the
-//! index, and each call is a function on it: the versions of the next revision are added all or none,
-//! the present revision is taken back, a compaction is noted, a trimming step is made. A [`View`]
-//! borrows the tables at a place in the history. The one contract is its [`View::range`]: its reply
-//! is the model's (`range_reply` of `kv_model`) of the versions that are kept, for each option of a
-//! Range, and it lends keys and values and copies none.
+//! key to its revisions. [`Tables`] holds both, with the revision of the last compaction, the
+//! present one and the place that trimming has come to. Its value is the plain record of these,
+//! without the index, and each call is a function on it: the versions of the next revision are
+//! added all or none, the present revision is taken back, a compaction is noted, a trimming step is
+//! made. A [`View`] borrows the tables at a place in the history. The one contract is its
+//! [`View::range`]: its reply is the model's (`range_reply` of `kv_model`) of the versions that are
+//! kept, for each option of a Range, and it lends keys and values and copies none.
 //!
 //! For example, `a` was put at 2 and 4, `b` at 3, and nothing is compacted:
 //!
