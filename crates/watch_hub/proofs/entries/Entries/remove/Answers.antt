@@ -25,7 +25,8 @@ invariant_of-self c =
     = ap (index_of n) (sym c.deref.ensures.value) ∙ sym c.index_of.ensures.index ∙ c.in-Some.is in
     let key = key-found n places i place index ∙ ap (λ (p : Place). Some p.key) (sym c.remove-place.ensures.value) in
     subst (λ ps. AreAll c.try_remove.new.self ps) (sym c.remove-place.ensures.items) (record {
-      placed = (removed (slab-change slab c.try_remove.new.self place.key c.try_remove.ensures.updates.others) n i places placed index key).1;
+      placed = (removed (slab-change slab c.try_remove.new.self place.key c.try_remove.ensures.updates.others)
+          n i places placed index key).1;
       count =
           let bound : i < length places
           = subst (λ ps. i < length ps) c.deref.ensures.value (within c.index_of.result i _ c.in-Some.is c.index_of.ensures.bound) in
