@@ -10,19 +10,9 @@ use Rattle.kv_model.specs.Lists.{is_empty}
 use Rattle.kv_model.specs.Keys.{same_key}
 use Rattle.kv_model.specs.History.{rev_lt}
 use Rattle.kv_model.specs.Events.{before_is_kept}
-use Rattle.kv_model.specs.Needs.{Need, HasNeedBy}
+use Rattle.kv_model.specs.Dumps.{Dump, Claim, Need}
+use Rattle.kv_model.specs.Needs.{HasNeedBy}
 use Rattle.kv_model.specs.Trimming.{is_at, is_tombstone, is_superseded}
-
--- the versions that a store keeps; floor is the revision of its last compaction
-pub record Dump : Type 0 where
-  pub floor : ℕ
-  pub revision : ℕ
-  pub versions : List Version
-
--- the version at this revision has this need
-pub record Claim : Type 0 where
-  pub rev : Rev
-  pub need : Need
 
 -- ---- the certificate of a dump
 

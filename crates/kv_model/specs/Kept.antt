@@ -6,10 +6,11 @@ use Rattle.kv_model.specs.declared.ids.Ids.{Ids}
 use Rattle.kv_model.specs.Lists.{IsIn}
 use Rattle.kv_model.specs.World.{World, revision, versions}
 use Rattle.kv_model.specs.Questions.{IsLeast}
-use Rattle.kv_model.specs.Certificates.{Dump, Claim, claims_of, first_fault, AreNeedsOf}
+use Rattle.kv_model.specs.Certificates.{claims_of, first_fault, AreNeedsOf}
 use Rattle.kv_model.specs.Follows.{Outcome}
 use Rattle.kv_model.specs.Wire.{WireEvent, WireTold, WireOutcome, wire_step, is_physical}
 use Rattle.kv_model.specs.Changes.{added}
+use Rattle.kv_model.specs.Dumps.{Dump, Claim}
 pub use Rattle.kv_model.specs.Trimming.{is_at, without_rev}
 
 -- the versions that are kept, and those of them that trimming has still to visit, the next one first

@@ -15,6 +15,7 @@ pub mod Trimming
 pub mod Step
 pub mod OnLiterals
 pub mod Follows
+pub mod Dumps
 pub mod Questions
 pub mod Needs
 pub mod Certificates

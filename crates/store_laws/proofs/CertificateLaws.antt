@@ -16,11 +16,12 @@ use Rattle.kv_model.specs.Ranges.{plain_range}
 use Rattle.kv_model.specs.Events.{before_is_kept}
 use Rattle.kv_model.specs.World.{World, IsSound, revision, versions}
 use Rattle.kv_model.specs.Questions.{Question, IsKept, answered, IsGood}
-use Rattle.kv_model.specs.Needs.{Need, HasNeed}
+use Rattle.kv_model.specs.Needs.{HasNeed}
 use Rattle.kv_model.specs.Trimming.{is_tombstone, is_superseded}
-use Rattle.kv_model.specs.Certificates.{Claim, need_of, claim_of, claims_of, is_met, is_asked, NeedFault, fall_after, first_fall, is_double}
+use Rattle.kv_model.specs.Certificates.{need_of, claim_of, claims_of, is_met, is_asked, NeedFault, fall_after, first_fall, is_double}
 use Rattle.kv_model.specs.Certificates.{claims_fault, first_fault}
 use Rattle.kv_model.specs.Kept.{dump_of, AreNeeds}
+use Rattle.kv_model.specs.Dumps.{Claim, Need}
 use Rattle.store_laws.specs.TrimmingLaws.{SettledIsCertified}
 use Rattle.store_laws.proofs.PartLaws.{in_whole}
 use Rattle.store_laws.proofs.Compacting.{kvs_of, plain_shows, one_listed}

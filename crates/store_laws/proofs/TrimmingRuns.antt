@@ -13,7 +13,6 @@ use Rattle.base64.specs.Decode.{groups_error, groups_bytes, scan_steps}
 use Rattle.serde_json.proofs.OnLiterals.{serde_json_on_literals}
 use Rattle.kv_model.specs.declared.version.Rev.{Rev}
 use Rattle.kv_model.specs.History.{Mutation, Action, IsBefore, IsChange, IsHistory, put, delete}
-use Rattle.kv_model.specs.Certificates.{Claim}
 use Rattle.kv_model.specs.World.{World, opening, revision, versions}
 use Rattle.kv_model.specs.Told.{Event}
 use Rattle.kv_model.specs.Trimming.{oldest_place}
@@ -27,9 +26,11 @@ use Rattle.kv_model.specs.Samples.{a, one, two, rev_at, put_version}
 use Rattle.kv_model.specs.SampleTrims.{trimming_on_literals, put_delete_compact, put_delete, first_changes, later_changes}
 use Rattle.kv_model.specs.SampleTrims.{range_need, watch_need}
 use Rattle.kv_model.specs.Texts.{ones, ok, wire_on_literals}
+use Rattle.kv_model.specs.Dumps.{Claim}
 use Rattle.store_laws.specs.TrimmingLaws.{keeping}
 use Rattle.store_laws.specs.ByRule.{Trimming, not_begun, moved_on, rule_keeps, by_rule, AddsBatch, Compacts, AreMoves}
-use Rattle.store_laws.proofs.PlaceLaws.{each-map, rev_lt-mains}
+use Rattle.store_laws.proofs.PlaceLaws.{each-map}
+use Rattle.store_laws.proofs.RevOrder.{rev_lt-mains}
 use Rattle.store_laws.proofs.StepLaws.{part-self}
 use Rattle.store_laws.proofs.BetweenSteps.{starts_over}
 use Rattle.store_laws.proofs.RuleRuns.{Going, GoesOnTo, moves, step_going, keeps_on, follows_on, rule-run}

@@ -9,9 +9,10 @@ use Rattle.kv_model.specs.World.{World, IsSound}
 use Rattle.kv_model.specs.Told.{Trimmed}
 use Rattle.kv_model.specs.Questions.{IsGood, IsLeast, IsLeastBy}
 use Rattle.kv_model.specs.Trimming.{TrimStep, trimmed, IsSettled, IsTrimmedTo, oldest_place}
-use Rattle.kv_model.specs.Certificates.{Dump, Claim, claims_of, first_fault, AreNeedsBy}
+use Rattle.kv_model.specs.Certificates.{claims_of, first_fault, AreNeedsBy}
 use Rattle.kv_model.specs.Wire.{WireTold}
 use Rattle.kv_model.specs.Kept.{Keeping, Trims, IsTrimmed, IsCertificate, dump_of}
+use Rattle.kv_model.specs.Dumps.{Dump, Claim}
 
 -- ---- the least list
 
