@@ -1,11 +1,11 @@
 //! The core: one step of the store.
-ghost use Rattle.kv_model.specs.Feed.{Published, published};
 ghost use Rattle.range_view.specs.Replies.{kv_view, reply_view};
-ghost use Rattle.request_core.specs.Writing.{AreNext, IsHeldTo};
+ghost use Rattle.request_core.specs.Writing.{IsHeldTo};
 ghost use Rattle.kv_model.specs.Step.{last_main};
-ghost use Rattle.std.specs.Prelude.{◌≡◌, ◌≢◌, [], true, is_ok, option_map, ◌<◌, ◌≤◌, length};
+ghost use Rattle.std.specs.Prelude.{◌≡◌, [], true, is_ok, option_map, ◌≤◌, length};
 ghost use Rattle.std.specs.Prelude.{IfOk, IfErr, OnOk, OnErr};
 
+mod appending;
 mod deleting;
 mod expiring;
 mod leasing;
@@ -21,9 +21,8 @@ use self::leasing::{granted, renewed};
 use crate::answer::{Answer, Receipt, Status, Todo};
 use bytes::Bytes;
 use kv_model::call::Command;
-use kv_model::feed::{NoSink, Op, Sink};
+use kv_model::feed::{NoSink, Sink};
 use kv_model::refusal::Refusal;
-use kv_model::version::Version;
 use lease_book::LeaseBook;
 use lease_keys::LeaseKeys;
 use range_view::reply::KvRef;
@@ -61,7 +60,7 @@ impl Core {
     ghost use Rattle.kv_model.specs.World.{opening};
     ghost use Rattle.store_laws.specs.Stands.{StandsFor};
     ghost use Rattle.request_core.specs.State.{CoreState, IsTold, added_by, core_state, held_in};
-    ghost use Rattle.request_core.specs.State.{is_spent, with_any, with_versions};
+    ghost use Rattle.request_core.specs.State.{is_spent};
     ghost use Rattle.range_view.specs.Stored.{blank_at};
     ghost use Rattle.request_core.specs.Answers.{IsReadable, answer_view, answer_of, is_free};
     ghost use Rattle.request_core.specs.Commands.{CarriesOut, Does, Refuses};
@@ -270,50 +269,4 @@ impl Core {
     {
         self.tables.view().get(key)
     }
-
-    /// Appends the versions of the next revision, where there are some, once the sink has taken
-    /// them.
-    fn append_any<S: Sink>(
-        &mut self,
-        versions: Vec<Version>,
-        sink: &mut S,
-    ) -> Result<(), AllocError>
-        requires room { versions.items ≢ [] → self.old.store.revision < last_main }
-        requires next { versions.items ≢ [] → AreNext self.old.store.revision versions.items }
-        ensures ok { OnOk result (self.new ≡ with_any self.old versions.items) }
-        ensures told { OnOk result (IsTold S.takes versions.items sink.old sink.new) }
-        ensures err { OnErr result ((self.new ≡ self.old) × (sink.new ≡ sink.old)) }
-    {
-        if versions.is_empty() {
-            return Ok(());
-        }
-        self.append(versions, sink)
-    }
-
-    /// Appends the versions of the next revision, once the sink has taken them. Where that fails,
-    /// the index of leases may have some pairs more.
-    fn append<S: Sink>(&mut self, versions: Vec<Version>, sink: &mut S) -> Result<(), AllocError>
-        requires room { self.old.store.revision < last_main }
-        requires next { AreNext self.old.store.revision versions.items }
-        ensures ok { OnOk result (self.new ≡ with_versions self.old versions.items) }
-        ensures told { OnOk result (S.takes sink.old (Published.batch versions.items) sink.new) }
-        ensures err { OnErr result ((self.new ≡ self.old) × (sink.new ≡ sink.old)) }
-    {
-        let main = self.tables.revision() + 1;
-        self.keys.add_all(&versions)?;
-        let batch = batch_of(self.alloc, &versions)?;
-        self.tables.append(versions)?;
-        if let Err(full) = sink.take(batch) {
-            self.tables.retract(main);
-            return Err(full);
-        }
-        Ok(())
-    }
-}
-
-/// The batch of versions, which are cloned.
-fn batch_of(alloc: Global, versions: &[Version]) -> Result<Op, AllocError>
-    ensures { IfOk result (λ op. published op ≡ Published.batch versions.now) }
-{
-    Ok(Op::Batch(Vec::from_clones(alloc, versions)?))
 }
