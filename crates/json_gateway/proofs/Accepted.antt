@@ -1,15 +1,15 @@
 -- An accepted command is counted as the model says that it changes the world.
-use Rattle.std.proofs.Common.{◌≡◌, ℕ, Bool, true, false, cond, nat_lt, Option, None, Some, Ok, Err, refl, ◌∙◌, ap}
+use Rattle.std.proofs.Common.{◌≡◌, Bool, true, false, cond, nat_lt, None, Some, Ok, Err, refl, ◌∙◌, ap}
 use Rattle.std.specs.Prelude.{◌||◌, is_some}
 use Rattle.kv_model.specs.Calls.{Call}
-use Rattle.kv_model.specs.Step.{Made, made_in, perform, answer_of as answer_of_made, world_of}
+use Rattle.kv_model.specs.Step.{Made, made_in, answer_of as answer_of_made, world_of}
 use Rattle.kv_model.specs.Wire.{changes_beside, raised}
 use Rattle.kv_model.specs.World.{World, revision}
 use Rattle.store_laws.specs.Stands.{StandsFor}
 use Rattle.request_core.specs.declared.answer.Receipt.{Receipt}
 use Rattle.request_core.specs.State.{CoreState, stamp_after}
-use Rattle.request_core.specs.Answers.{answer_of, has_changed, is_beside}
-use Rattle.request_core.specs.Commands.{Accepts, Does}
+use Rattle.request_core.specs.Answers.{answer_of, has_changed}
+use Rattle.request_core.specs.Commands.{Does}
 use Rattle.json_gateway.specs.Endings.{IsCounted, is_change}
 
 counted-by : (old new : CoreState) (b c : Bool) → b ≡ c → (b ≡ false → new ≡ old) → new.stamp ≡ stamp_after b old.stamp → IsCounted c old new

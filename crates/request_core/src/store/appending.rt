@@ -15,7 +15,7 @@ impl Core {
 
     /// Appends the versions of the next revision, where there are some, once the sink has taken
     /// them.
-    pub(crate) fn append_any<S: Sink>(
+    pub(super) fn append_any<S: Sink>(
         &mut self,
         versions: Vec<Version>,
         sink: &mut S,
@@ -34,7 +34,7 @@ impl Core {
 
     /// Appends the versions of the next revision, once the sink has taken them, and the watches take
     /// note of them.
-    pub(crate) fn append<S: Sink>(
+    pub(super) fn append<S: Sink>(
         &mut self,
         versions: Vec<Version>,
         sink: &mut S,
