@@ -32,8 +32,11 @@ pub untold_worlds : (s : CoreState) (n : ℕ) (r : Result Delivery Refusal)
     → IfErr r (λ e. ((e ≡ NoWatch) × (tracked_at s.store.watches n ≡ None)) ⊎ ((e ≡ Memory) × (is_some (tracked_at s.store.watches n) ≡ true)))
     → IfErr r (λ e. IsUntold s n e)
 untold_worlds s n (Ok d) h = tt
-untold_worlds s n (Err e) (inl h) = subst (IsUntold s n) (sym h.0) (refl, λ w k. sym (delivery_told s.store w k n)
-    ∙ ap (λ (o : Option Tracked). told_at s.store.versions s.store.compacted (option_map pending_of o)) h.1)
+untold_worlds s n (Err e) (inl h) = subst (IsUntold s n) (sym h.0) (
+  refl,
+  λ w k. sym (delivery_told s.store w k n)
+      ∙ ap (λ (o : Option Tracked). told_at s.store.versions s.store.compacted (option_map pending_of o)) h.1,
+)
 untold_worlds s n (Err e) (inr h) = subst (IsUntold s n) (sym h.0) tt
 
 -- a watch that was not there leaves the core as it was

@@ -1,5 +1,6 @@
 -- What a core holds, and how a command changes it.
-use Rattle.std.specs.Prelude.{◌≡◌, ℕ, ℤ, pos, ◌+◌, ◌<◌, ◌≤◌, ◌%◌, ◌^◌, List, [], ◌∷◌, ◌++◌, map, drop, Bool, true, not, ◌&&◌}
+use Rattle.std.specs.Prelude.{◌≡◌, ℕ, ℤ, pos, ◌+◌, ◌<◌, ◌≤◌, ◌%◌, ◌^◌, List, [], ◌∷◌, ◌++◌, map, drop, Bool}
+use Rattle.std.specs.Prelude.{true, not, ◌&&◌}
 use Rattle.std.specs.Prelude.{nat_lt, filter, Option, None, Some, option_map, if◌then◌else◌}
 use Rattle.std.specs.Option.{option_or}
 use Rattle.std.specs.List.{AllByRecursion}

@@ -80,7 +80,8 @@ impl Core {
     fn at(alloc: Global, revision: u64) -> Self
         requires opened { 1 ≤ revision }
         requires fits { revision ≤ last_main }
-        ensures { result ≡ core_state (blank_at revision) (record { leases = []; clock = 0 }) no_watches 0 }
+        ensures { result
+            ≡ core_state (blank_at revision) (record { leases = []; clock = 0 }) no_watches 0 }
     {
         Core {
             alloc,

@@ -1,5 +1,6 @@
 -- A delivery by what is held of a watch and what is kept.
-use Rattle.std.specs.Prelude.{ℕ, ◌≤◌, ⊤, List, map, filter, ◌&&◌, nat_lt, nat_le, Option, None, Some, option_map, if◌then◌else◌}
+use Rattle.std.specs.Prelude.{ℕ, ◌≤◌, ⊤, List, map, filter, ◌&&◌, nat_lt, nat_le, Option, None, Some, option_map}
+use Rattle.std.specs.Prelude.{if◌then◌else◌}
 use Rattle.kv_model.specs.declared.version.Version.{Version}
 use Rattle.kv_model.specs.declared.call.Watched.{Watched}
 use Rattle.kv_model.specs.Events.{WatchEvent, event_of, matches}

@@ -1,5 +1,6 @@
 -- The watches of a store, and what befalls them.
-use Rattle.std.specs.Prelude.{ℕ, ◌+◌, ◌<◌, ⊤, ℤ, List, [], ◌∷◌, ◌++◌, filter, map, not, ◌==◌, ◌&&◌, nat_le, nat_lt, Bool}
+use Rattle.std.specs.Prelude.{ℕ, ◌+◌, ◌<◌, ⊤, ℤ, List, [], ◌∷◌, ◌++◌, filter, map, not, ◌==◌, ◌&&◌}
+use Rattle.std.specs.Prelude.{nat_le, nat_lt, Bool}
 use Rattle.std.specs.Prelude.{Option, find, if◌then◌else◌}
 use Rattle.std.specs.List.{AllByRecursion}
 use Rattle.kv_model.specs.declared.version.Version.{Version}

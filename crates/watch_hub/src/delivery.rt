@@ -1,8 +1,10 @@
 //! What a watch is told next, and how it goes on behind that (the etcd documentation's Watch).
-ghost use Rattle.std.specs.Prelude.{◌≡◌, ◌≤◌, ◌⊎◌, Some, None, is_some, true, option_map, IfOk, IfErr};
+ghost use Rattle.std.specs.Prelude.{◌≡◌, ◌≤◌, ◌⊎◌, Some, None, is_some, true, option_map};
+ghost use Rattle.std.specs.Prelude.{IfOk, IfErr};
 ghost use Rattle.kv_model.specs.declared.refusal.Refusal.TheVariants.{Memory, NoWatch};
 ghost use Rattle.kv_model.specs.Step.{last_main};
-ghost use Rattle.watch_hub.specs.Delivering.{IsWithin, course_at, course_of, delivered, delivery_due, taken_by, told_at};
+ghost use Rattle.watch_hub.specs.Delivering.{IsWithin, course_at, course_of, delivered};
+ghost use Rattle.watch_hub.specs.Delivering.{delivery_due, taken_by, told_at};
 ghost use Rattle.watch_hub.specs.Hub.{NumbersAscend, pending_of, tracked_at};
 ghost use Rattle.watch_hub.specs.Messages.{course_view, delivery_view};
 ghost use Rattle.watch_hub.specs.Views.{pending_view};
@@ -51,8 +53,11 @@ impl WatchHub {
         tables: &'a Tables,
         number: u64,
     ) -> Result<Delivery<'a>, Refusal>
-        ensures told { IfOk result (λ d. delivery_view d ≡ told_at tables.now.versions tables.now.compacted (option_map pending_of (tracked_at self.now.watches number))) }
-        ensures refused { IfErr result (λ e. ((e ≡ NoWatch) × (tracked_at self.now.watches number ≡ None))
+        ensures told { IfOk result (λ d. delivery_view d
+            ≡ told_at tables.now.versions tables.now.compacted
+            (option_map pending_of (tracked_at self.now.watches number))) }
+        ensures refused { IfErr result (λ e.
+            ((e ≡ NoWatch) × (tracked_at self.now.watches number ≡ None))
             ⊎ ((e ≡ Memory) × (is_some (tracked_at self.now.watches number) ≡ true))) }
     {
         let pending = match self.pending(number) {
@@ -66,14 +71,18 @@ impl WatchHub {
     }
 
     /// The watch of a number goes on behind what `deliver` tells: it stays as it was where that is
-    /// nothing, it ends where it is cancelled, and else it was told of all up to the last revision of
-    /// the message. Where no watch has the number, nothing changes. Takes no memory.
+    /// nothing, it ends where it is cancelled, and else it was told of all up to the last revision
+    /// of the message. Where no watch has the number, nothing changes. Takes no memory.
     ///
     /// The time is that of `deliver` without previous values, and of `advance` or `cancel`.
     pub fn go_on(&mut self, tables: &Tables, number: u64)
         requires { tables.now.revision ≤ last_main }
         ensures ascending { NumbersAscend self.old.watches }
-        ensures left { self.new ≡ record self.old { watches = delivered tables.now.versions tables.now.revision tables.now.compacted number self.old.watches } }
+        ensures left { self.new
+            ≡ record self.old {
+              watches = delivered tables.now.versions tables.now.revision
+                  tables.now.compacted number self.old.watches;
+            } }
     {
         let course = self.course(tables, number);
         self.take(tables, number, course);
@@ -81,7 +90,9 @@ impl WatchHub {
 
     /// How the watch of a number goes on.
     fn course(&self, tables: &Tables, number: u64) -> Course
-        ensures course { course_view result ≡ course_at tables.now.versions tables.now.compacted (option_map pending_of (tracked_at self.now.watches number)) }
+        ensures course { course_view result
+            ≡ course_at tables.now.versions tables.now.compacted
+            (option_map pending_of (tracked_at self.now.watches number)) }
         ensures within { IsWithin tables.now.revision (course_view result) }
         ensures ascending { NumbersAscend self.now.watches }
     {
@@ -95,7 +106,11 @@ impl WatchHub {
     fn take(&mut self, tables: &Tables, number: u64, course: Course)
         requires fits { tables.now.revision ≤ last_main }
         requires within { IsWithin tables.now.revision (course_view course) }
-        ensures { self.new ≡ record self.old { watches = taken_by tables.now.versions tables.now.revision number self.old.watches (course_view course) } }
+        ensures { self.new
+            ≡ record self.old {
+              watches = taken_by tables.now.versions tables.now.revision number
+                  self.old.watches (course_view course);
+            } }
     {
         match course {
             Course::Waits => {}
@@ -113,7 +128,8 @@ fn delivery_due<'a>(
     tables: &'a Tables,
     pending: Pending<'a>,
 ) -> Result<Delivery<'a>, AllocError>
-    ensures { IfOk result (λ d. delivery_view d ≡ delivery_due tables.now.versions tables.now.compacted (pending_view pending.entry)) }
+    ensures { IfOk result (λ d. delivery_view d
+        ≡ delivery_due tables.now.versions tables.now.compacted (pending_view pending.entry)) }
 {
     let compacted = tables.compacted();
     if pending.late {
@@ -131,7 +147,8 @@ fn delivery_due<'a>(
 
 /// How a watch goes on behind what it is told next.
 fn course_of(tables: &Tables, pending: Pending<'_>) -> Course
-    ensures course { course_view result ≡ course_of tables.now.versions tables.now.compacted (pending_view pending.entry) }
+    ensures course { course_view result
+        ≡ course_of tables.now.versions tables.now.compacted (pending_view pending.entry) }
     ensures within { IsWithin tables.now.revision (course_view result) }
 {
     if pending.late {

@@ -6,7 +6,8 @@ ghost use Rattle.slab.specs.Slab.{get, slab_len};
 ghost use Rattle.store_laws.specs.Stands.{noted};
 ghost use Rattle.kv_model.specs.Step.{last_main};
 ghost use Rattle.version_table.specs.Rising.{IsRising};
-ghost use Rattle.watch_hub.specs.Hub.{NumbersAscend, advanced_to, told_to, tracked_at, without_tracked};
+ghost use Rattle.watch_hub.specs.Hub.{NumbersAscend, advanced_to, told_to, tracked_at};
+ghost use Rattle.watch_hub.specs.Hub.{without_tracked};
 ghost use Rattle.watch_hub.specs.Entries.{tracked_of, seen_in, AreAscending, index_of, key_of};
 
 use crate::entry::Entry;

@@ -15,7 +15,8 @@ use range_view::reply::KvRef;
 use range_view::revision::end_of;
 use std::alloc::{AllocError, Global};
 
-/// What a watch is told of one version (the etcd documentation's Event). It lends from what is kept.
+/// What a watch is told of one version (the etcd documentation's Event). It lends from what is
+/// kept.
 #[derive(Clone, Copy, Debug)]
 pub struct Event<'a> {
     /// The put, or the tombstone.
@@ -62,7 +63,8 @@ fn collect_behind<'a>(
     found: &mut Vec<&'a Version>,
 ) -> Result<u64, AllocError>
     ensures last { IfOk result (λ last. last ≡ tallied (first_tally first) walk.old) }
-    ensures found { OnOk result (map (λ v. v.now) found.new.items ≡ map (λ v. v.now) found.old.items ++ with_room (first_tally first) walk.old) }
+    ensures found { OnOk result (map (λ v. v.now) found.new.items
+        ≡ map (λ v. v.now) found.old.items ++ with_room (first_tally first) walk.old) }
 {
     let mut tally = Tally::first(first);
     while let Some(version) = walk.next() {
@@ -79,7 +81,8 @@ fn collect_behind<'a>(
 /// The versions of the message of what is left of a walk.
 fn versions_of<'a>(alloc: Global, walk: Walk<'a>) -> Result<Vec<&'a Version>, AllocError>
     requires { IsRising walk }
-    ensures { IfOk result (λ us. map (λ u. u.now) us.items ≡ filter (λ u. nat_le u.rev.main (last_revision walk.entry)) walk.entry) }
+    ensures { IfOk result (λ us. map (λ u. u.now) us.items
+        ≡ filter (λ u. nat_le u.rev.main (last_revision walk.entry)) walk.entry) }
 {
     let mut walk = walk;
     let mut found = Vec::new(alloc);
@@ -93,7 +96,8 @@ fn versions_of<'a>(alloc: Global, walk: Walk<'a>) -> Result<Vec<&'a Version>, Al
 
 /// What a watch is told of a version that is kept. Takes no memory.
 fn event_of<'a>(tables: &'a Tables, watched: &Watched, version: &'a Version) -> Event<'a>
-    ensures { event_view result ≡ event_of tables.now.versions tables.now.compacted watched.now version.now }
+    ensures { event_view result
+        ≡ event_of tables.now.versions tables.now.compacted watched.now version.now }
 {
     let main = version.rev.main;
     let previous = if tables.compacted() < main && watched.prev_kv {
@@ -111,7 +115,9 @@ fn events_of<'a>(
     watched: &Watched,
     versions: &[&'a Version],
 ) -> Result<Vec<Event<'a>>, AllocError>
-    ensures { IfOk result (λ es. map event_view es.items ≡ map (event_of tables.now.versions tables.now.compacted watched.now) (map (λ v. v.now) versions.now)) }
+    ensures { IfOk result (λ es. map event_view es.items
+        ≡ map (event_of tables.now.versions tables.now.compacted watched.now)
+        (map (λ v. v.now) versions.now)) }
 {
     let mut events = Vec::with_capacity(alloc, versions.len())?;
     for version in versions {
@@ -130,7 +136,8 @@ pub(crate) fn message<'a>(
     walk: Walk<'a>,
 ) -> Result<Vec<Event<'a>>, AllocError>
     requires { IsRising walk }
-    ensures { IfOk result (λ es. map event_view es.items ≡ message_from tables.now.versions tables.now.compacted watched.now walk.entry) }
+    ensures { IfOk result (λ es. map event_view es.items
+        ≡ message_from tables.now.versions tables.now.compacted watched.now walk.entry) }
 {
     let versions = versions_of(alloc, walk)?;
     events_of(alloc, tables, watched, &versions)

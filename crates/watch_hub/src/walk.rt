@@ -1,5 +1,6 @@
 //! The versions that a watch matches, one after another.
-ghost use Rattle.std.specs.Prelude.{◌≡◌, ◌≤◌, ◌∷◌, [], ◌&&◌, filter, length, nat_le, drop, MatchOption};
+ghost use Rattle.std.specs.Prelude.{◌≡◌, ◌≤◌, ◌∷◌, [], ◌&&◌, filter, length, nat_le, drop};
+ghost use Rattle.std.specs.Prelude.{MatchOption};
 ghost use Rattle.store_laws.specs.Stands.{first_main_of};
 ghost use Rattle.watch_hub.specs.Hub.{first_from};
 ghost use Rattle.kv_model.specs.Events.{matches};
@@ -31,7 +32,8 @@ impl<'a> Walk<'a> {
     /// A walk over the versions from a revision on. It begins by halving.
     pub(crate) fn new(versions: &'a [Version], next: u64, watched: &'a Watched) -> Self
         requires { IsRising versions.now }
-        ensures { result ≡ filter (λ v. nat_le next v.rev.main && matches watched.now v) versions.now }
+        ensures { result
+            ≡ filter (λ v. nat_le next v.rev.main && matches watched.now v) versions.now }
     {
         Walk {
             watched,
@@ -41,7 +43,8 @@ impl<'a> Walk<'a> {
 
     /// The next version. Those that do not match are passed over.
     pub(crate) fn next(&mut self) -> Option<&'a Version>
-        ensures { MatchOption result ((self.old ≡ []) × (self.new ≡ [])) (λ v. self.old ≡ v.now ∷ self.new) }
+        ensures { MatchOption result ((self.old ≡ []) × (self.new ≡ []))
+            (λ v. self.old ≡ v.now ∷ self.new) }
     {
         match next_match(self.watched, self.rest) {
             Some((version, later)) => {
@@ -59,7 +62,8 @@ fn next_match<'a>(
     versions: &'a [Version],
 ) -> Option<(&'a Version, &'a [Version])>
     ensures { MatchOption result (filter (matches watched.now) versions.now ≡ [])
-        (λ found. filter (matches watched.now) versions.now ≡ found.0.now ∷ filter (matches watched.now) found.1.now) }
+        (λ found. filter (matches watched.now) versions.now
+        ≡ found.0.now ∷ filter (matches watched.now) found.1.now) }
 {
     let mut rest = versions;
     while let Some((version, later)) = rest.split_first() {

@@ -1,4 +1,4 @@
-//! How a core grows: versions of the next revision are handed to a sink, kept, and noted by watches.
+//! How a core grows: versions of the next revision go to a sink, are kept, and noted by watches.
 ghost use Rattle.kv_model.specs.Feed.{Published, published};
 ghost use Rattle.kv_model.specs.Step.{last_main};
 ghost use Rattle.request_core.specs.Writing.{AreNext};
@@ -32,8 +32,8 @@ impl Core {
         self.append(versions, sink)
     }
 
-    /// Appends the versions of the next revision, once the sink has taken them, and the watches take
-    /// note of them.
+    /// Appends the versions of the next revision, once the sink has taken them, and the watches
+    /// take note of them.
     pub(super) fn append<S: Sink>(
         &mut self,
         versions: Vec<Version>,

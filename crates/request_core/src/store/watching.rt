@@ -14,15 +14,15 @@ impl Core {
     ghost use Rattle.request_core.specs.Answers.{is_memory};
     ghost use Rattle.request_core.specs.State.{with_watches};
 
-    /// What the watch of a number is told next (the etcd documentation's Watch): nothing where it is
-    /// caught up, the events of whole revisions, or that it is cancelled since what it still had to be
-    /// told of is compacted. It lends from the core and changes nothing; `advance` follows once it was
-    /// told.
+    /// What the watch of a number is told next (the etcd documentation's Watch): nothing where it
+    /// is caught up, the events of whole revisions, or that it is cancelled since what it still had
+    /// to be told of is compacted. It lends from the core and changes nothing; `advance` follows
+    /// once it was told.
     ///
     /// The refusals: `NoWatch` where no watch has the number, `Memory` where the list of the events
-    /// found none. The time is logarithmic in the number of versions, linear in that of those from the
-    /// watch's first match on up to the end of the message, and for each event with a previous value
-    /// logarithmic in the number of keys and of versions.
+    /// found none. The time is logarithmic in the number of versions, linear in that of those from
+    /// the watch's first match on up to the end of the message, and for each event with a previous
+    /// value logarithmic in the number of keys and of versions.
     pub fn deliver(&self, number: u64) -> Result<Delivery<'_>, Refusal>
         ensures told { IfOk result (λ d. (w : World) → StandsFor self.now.store w
             → delivery_view d ≡ (deliver w number).0) }
@@ -34,9 +34,9 @@ impl Core {
     }
 
     /// The watch of a number goes on behind what `deliver` shows: it stays as it was where that is
-    /// nothing, it ends where it is cancelled, and else it was told of all up to the last revision of
-    /// the message. Where no watch has the number, nothing changes. No changing call is counted. Takes
-    /// no memory.
+    /// nothing, it ends where it is cancelled, and else it was told of all up to the last revision
+    /// of the message. Where no watch has the number, nothing changes. No changing call is counted.
+    /// Takes no memory.
     ///
     /// The time is that of `deliver` without previous values, twice.
     pub fn advance(&mut self, number: u64)
