@@ -10,6 +10,8 @@ mod faults;
 #[cfg(test)]
 mod gateway;
 #[cfg(test)]
+mod messages;
+#[cfg(test)]
 mod reading;
 #[cfg(test)]
 mod requests;

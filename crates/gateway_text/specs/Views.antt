@@ -1,14 +1,19 @@
 -- This crate's types, as the definitions of answers speak of them.
-use Rattle.std.specs.Prelude.{ℕ, ℤ, pos, negsuc, List, [], ◌∷◌, ◌++◌, map, Option, None, Some, codes}
+use Rattle.std.specs.Prelude.{ℕ, ℤ, pos, negsuc, List, [], ◌∷◌, ◌++◌, map, Option, None, Some, codes, true}
 use Rattle.serde_json.specs.Data.{Data}
 use Rattle.kv_model.specs.Answers.{Fault, header, short_header, object, nat_field}
 use Rattle.kv_model.specs.Answers.{int_field, list_field, bytes_text, lease_text, responses}
+use Rattle.kv_model.specs.Answers.{truth_field, event_text}
+use Rattle.kv_model.specs.Events.{WatchEvent}
 use Rattle.kv_model.specs.Txns.{Replies}
 use Rattle.range_view.specs.declared.reply.OpReply.{OpReply}
 use Rattle.range_view.specs.Replies.{op_reply_view}
 use Rattle.gateway_text.specs.declared.header.Header.{Header}
 use Rattle.gateway_text.specs.declared.header.Header.TheVariants.{Whole, Short}
 use Rattle.gateway_text.specs.declared.refusals.Wording.{Wording}
+use Rattle.gateway_text.specs.declared.watches.Told.{Told}
+use Rattle.gateway_text.specs.declared.watches.Told.TheVariants.{Created, Events, Cancelled}
+use Rattle.watch_hub.specs.Messages.{event_view}
 
 -- a header, as it stands in an answer
 abbrev pub header_data : Header → Data
@@ -48,3 +53,22 @@ first (d ∷ ds) = d
 -- what an operation of a transaction that ends at the revision is answered
 unfoldable pub response_of : ℕ → OpReply → Data
 response_of r o = first (responses r (op_reply_view o Replies.no_replies))
+
+-- ---- watches
+
+unfoldable pub created_data : Data → ℤ → Data
+created_data h id = object ((codes "created", truth_field true) ∷ (codes "header", Some h) ∷ (codes "watch_id", int_field id) ∷ [])
+
+unfoldable pub events_data : Data → ℤ → List WatchEvent → Data
+events_data h id es = object ((codes "events", list_field (map event_text es)) ∷ (codes "header", Some h)
+    ∷ (codes "watch_id", int_field id) ∷ [])
+
+unfoldable pub cancelled_data : Data → ℤ → ℕ → Data
+cancelled_data h id c = object ((codes "canceled", truth_field true) ∷ (codes "compact_revision", nat_field c)
+    ∷ (codes "header", Some h) ∷ (codes "watch_id", int_field id) ∷ [])
+
+-- what stands in a message's result
+abbrev pub message_data : Data → ℤ → Told → Data
+message_data h id Created = created_data h id
+message_data h id (Events es) = events_data h id (map event_view es.now)
+message_data h id (Cancelled c) = cancelled_data h id c
