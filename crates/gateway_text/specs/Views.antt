@@ -57,7 +57,8 @@ response_of r o = first (responses r (op_reply_view o Replies.no_replies))
 -- ---- watches
 
 unfoldable pub created_data : Data → ℤ → Data
-created_data h id = object ((codes "created", truth_field true) ∷ (codes "header", Some h) ∷ (codes "watch_id", int_field id) ∷ [])
+created_data h id = object ((codes "created", truth_field true) ∷ (codes "header", Some h)
+    ∷ (codes "watch_id", int_field id) ∷ [])
 
 unfoldable pub events_data : Data → ℤ → List WatchEvent → Data
 events_data h id es = object ((codes "events", list_field (map event_text es)) ∷ (codes "header", Some h)

@@ -26,8 +26,8 @@ use watch_hub::Event;
 /// The bytes of an event's text without its key-values, at most.
 const EVENT_NAMES: usize = 64;
 
-/// The body of the answer to a Watch, with the revision of the store, to the client's number for the
-/// watch.
+/// The body of the answer to a Watch, with the revision of the store, to the client's number for
+/// the watch.
 pub fn created_text(alloc: Global, revision: u64, id: i64, ids: &Ids) -> Result<Vec<u8>, AllocError>
     ensures { IfOk result (λ v. (number : ℕ) → v.items ≡ (answered ids.now
         (record { reply = told.Reply.watch id number; revision = revision })).body) }
@@ -70,8 +70,8 @@ pub fn events_text(
     Ok(out.into_bytes())
 }
 
-/// The text of the message that a watch is cancelled, with the revision of the store at the delivery
-/// and that of the last compaction, to the client's number for the watch.
+/// The text of the message that a watch is cancelled, with the revision of the store at the
+/// delivery and that of the last compaction, to the client's number for the watch.
 pub fn cancelled_text(
     alloc: Global,
     revision: u64,
