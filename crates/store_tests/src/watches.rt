@@ -90,6 +90,9 @@ type Told = Result<[(u64, Option<u64>); 2], Refusal>;
 /// What a watch is told next; then it goes on behind that.
 fn told(alloc: Global, hub: &mut WatchHub, tables: &Tables, number: u64) -> Told {
     let mut seen = [(0, None); 2];
+    if tables.revision() > 9 {
+        return Err(Refusal::RevisionsSpent);
+    }
     match hub.deliver(alloc, tables, number) {
         Ok(Delivery::Events(events)) => {
             for (place, event) in seen.iter_mut().zip(events.as_slice()) {
