@@ -4,7 +4,7 @@ use gateway_text::{cancelled_text, created_text, events_text};
 use kv_model::ids::Ids;
 use kv_model::version::{Body, Rev, Version};
 use range_view::reply::KvRef;
-use std::alloc::AllocError;
+use std::alloc::{AllocError, Global};
 use watch_hub::Event;
 
 const IDS: Ids = Ids {
@@ -17,6 +17,22 @@ fn says(text: Result<Vec<u8>, AllocError>, body: &str) -> bool {
         Ok(text) => text.as_slice() == body.as_bytes(),
         Err(_) => false,
     }
+}
+
+/// Whether the text of one event, at a revision and to a client's number, is this one.
+fn event_says(
+    alloc: Global,
+    version: &Version,
+    previous: Option<KvRef<'_>>,
+    told: (u64, i64),
+    expected: &str,
+) -> bool {
+    let (revision, id) = told;
+    let mut events = Vec::new(alloc);
+    let _ = events.push(Event { version, previous });
+    let says = says(events_text(alloc, revision, id, &events, &IDS), expected);
+    drop(events);
+    says
 }
 
 /// A version of the key a, in the first change of a revision.
@@ -68,21 +84,19 @@ fn events_are_told(rt: HostRuntime) {
         version: 1,
         lease: 0,
     };
-    let deleted = [Event {
-        version: &delete,
-        previous: Some(before),
-    }];
-    let made = [Event {
-        version: &put,
-        previous: None,
-    }];
     let are = [
-        says(
-            events_text(rt.alloc(), 4, 5, deleted.as_slice(), &IDS),
+        event_says(
+            rt.alloc(),
+            &delete,
+            Some(before),
+            (4, 5),
             "{\"result\":{\"events\":[{\"kv\":{\"key\":\"YQ==\",\"mod_revision\":\"3\"},\"prev_kv\":{\"create_revision\":\"2\",\"key\":\"YQ==\",\"mod_revision\":\"2\",\"value\":\"MQ==\",\"version\":\"1\"},\"type\":\"DELETE\"}],\"header\":{\"cluster_id\":\"1\",\"member_id\":\"1\",\"raft_term\":\"1\",\"revision\":\"4\"},\"watch_id\":\"5\"}}",
         ),
-        says(
-            events_text(rt.alloc(), 6, 0, made.as_slice(), &IDS),
+        event_says(
+            rt.alloc(),
+            &put,
+            None,
+            (6, 0),
             "{\"result\":{\"events\":[{\"kv\":{\"create_revision\":\"4\",\"key\":\"YQ==\",\"mod_revision\":\"6\",\"value\":\"Mg==\",\"version\":\"3\"}}],\"header\":{\"cluster_id\":\"1\",\"member_id\":\"1\",\"raft_term\":\"1\",\"revision\":\"6\"}}}",
         ),
     ];
