@@ -113,6 +113,13 @@ pub enum Command {
     Delete(DeleteRequest),
     /// Compares, and does one of two lists of operations as one change.
     Txn(Txn),
+    /// Makes a watch from the revision `start` on, where 0 and below mean the next one. `id` is the
+    /// client's number for it.
+    Watch {
+        watched: Watched,
+        start: i64,
+        id: i64,
+    },
     /// Grants a lease of `ttl` seconds under an ID, where 0 asks for a free one.
     Grant { ttl: i64, id: i64 },
     /// Revokes a lease and deletes its keys.
