@@ -1,21 +1,25 @@
 -- A watch that is made: what it has still to be told of is found in the versions that are kept.
 use Rattle.std.proofs.Common.{◌≡◌, ◌≤◌, ℕ, suc, ◌+◌, ℤ, List, [], ◌∷◌, ◌++◌, length, map, filter, Bool, true, false, ◌&&◌, cond, refl, sym}
 use Rattle.std.proofs.Common.{◌∙◌, ap, arith}
-use Rattle.std.specs.Prelude.{nat_lt, nat_le, MatchBool, ⊤}
+use Rattle.std.specs.Prelude.{nat_lt, nat_le, ◌||◌, MatchBool, ⊤, Ok}
 use Rattle.std.specs.List.{AllByRecursion}
 use Rattle.std.proofs.lemmas.Bool.{eq-eqb, ltb-false}
 use Rattle.std.proofs.lemmas.Bool.Decides.{nat_tests}
 use Rattle.kv_model.specs.declared.version.Version.{Version}
 use Rattle.kv_model.specs.declared.call.Watched.{Watched}
+use Rattle.kv_model.specs.declared.refusal.Refusal.TheVariants.{TooManyWatches}
 use Rattle.kv_model.specs.Lists.{IsPart, nothing, keep, leave}
+use Rattle.kv_model.specs.Ranges.{refuse_if}
+use Rattle.kv_model.specs.Calls.{Call}
+use Rattle.kv_model.specs.Told.{Reply}
 use Rattle.kv_model.specs.History.{Mutation, IsChange, IsHistory, now, dress}
 use Rattle.kv_model.specs.Events.{WatchEvent, matches}
 use Rattle.kv_model.specs.Questions.{IsGood}
 use Rattle.kv_model.specs.World.{World, Watch, revision, versions}
 use Rattle.kv_model.specs.Watches.{undelivered}
-use Rattle.kv_model.specs.Step.{start_of}
+use Rattle.kv_model.specs.Step.{last_main, made_in, most_watches, refused_or, start_of, watch_in, watched_range}
 use Rattle.store_laws.specs.Stands.{Store, Tracked, TracksNext, Tracks, TracksAll, StandsFor, first_main_of, ahead_of}
-use Rattle.store_laws.specs.Stores.{watch_made, tracked_made, with_watch}
+use Rattle.store_laws.specs.Stores.{refusal_of_watch, watch_made, tracked_made, with_watch}
 use Rattle.store_laws.proofs.PlaceLaws.{each-map, each-dressed, each-change, above-one}
 use Rattle.store_laws.proofs.BatchLaws.{is_told, good-events, dressed-mains}
 use Rattle.store_laws.proofs.CompactLaws.{versions-told}
@@ -184,3 +188,29 @@ watch_stands s w h watched start id =
               h.sound.history (omega (arith, h.compacted)));
           ahead = ap (λ r. ahead_of r (start_of s.revision start)) h.revision_is;
         }
+
+-- what the model makes of the command, by the store
+pub watch_told : (s : Store) (w : World) → StandsFor s w → (watched : Watched) (start id : ℤ) → made_in w (Call.watch watched start id)
+    ≡ refused_or (refusal_of_watch s) (Ok (
+      Reply.watch id (s.made + 1),
+      record w {
+        watches = w.watches ++ watch_made s watched start id ∷ [];
+        made = s.made + 1;
+      },
+    ))
+unfolding watch_in
+watch_told s w h watched start id =
+    let same : length s.watches ≡ length w.watches = tracks-length (versions w) (revision w) s.watches w.watches h.watches in
+    sym (λ i. refused_or (refuse_if (nat_le most_watches (same i) || nat_le last_main (h.made i)) TooManyWatches) (Ok (
+      Reply.watch id (h.made i + 1),
+      record w {
+        watches = w.watches ++ (record {
+          number = h.made i + 1;
+          id = id;
+          watched = record watched { range = watched_range watched.range };
+          late = nat_lt (start_of (h.revision_is i) start) (h.compacted i);
+          next = start_of (h.revision_is i) start;
+        }) ∷ [];
+        made = h.made i + 1;
+      },
+    )))
