@@ -1,7 +1,7 @@
 -- What a revoke and a step of expiry do, in each world that the core stands for.
 use Rattle.std.proofs.Common.{◌≡◌, ℕ, ℤ, ◌+◌, ◌≤◌, ◌^◌, List, [], ◌∷◌, length, Bool, true, false, cond, nat_lt}
 use Rattle.std.proofs.Common.{Option, None, Some, Err, refl, sym, ◌∙◌, ap, subst, arith, lt-ltb, le-ltb}
-use Rattle.std.specs.Prelude.{option_map, MatchBool, ⊤, ◌||◌}
+use Rattle.std.specs.Prelude.{option_map, MatchBool, ⊤}
 use Rattle.std.proofs.lemmas.List.{length-map}
 use Rattle.kv_model.specs.declared.refusal.Refusal.{Refusal}
 use Rattle.kv_model.specs.declared.refusal.Refusal.TheVariants.{Memory, RevisionsSpent}

@@ -1,7 +1,7 @@
 -- How a watch is made, what it is told and how it goes on, in each world that a core stands for.
-use Rattle.std.proofs.Common.{◌≡◌, ◌⊎◌, inl, inr, ℕ, ◌+◌, ℤ, List, [], ◌∷◌, ◌++◌, Bool, true, false, cond, Option, None, Some, Result, Ok, Err}
+use Rattle.std.proofs.Common.{◌≡◌, ◌⊎◌, inl, inr, ℕ, ◌+◌, ℤ, [], ◌∷◌, ◌++◌, true, false, cond, Option, None, Some, Result, Ok, Err}
 use Rattle.std.proofs.Common.{refl, sym, ◌∙◌, ap, subst, arith, lt-ltb}
-use Rattle.std.specs.Prelude.{nat_lt, option_map, is_ok, is_some, IfOk, IfErr, OnOk, OnErr, MatchBool, ⊤}
+use Rattle.std.specs.Prelude.{nat_lt, option_map, is_ok, is_some, IfOk, IfErr, OnErr, MatchBool, ⊤}
 use Rattle.kv_model.specs.declared.call.Watched.{Watched}
 use Rattle.kv_model.specs.declared.refusal.Refusal.{Refusal}
 use Rattle.kv_model.specs.declared.refusal.Refusal.TheVariants.{Memory, NoWatch}
@@ -11,19 +11,19 @@ use Rattle.kv_model.specs.Step.{refused_or}
 use Rattle.kv_model.specs.World.{World}
 use Rattle.kv_model.specs.Watches.{Delivery as ModelDelivery, deliver}
 use Rattle.store_laws.specs.Stands.{StandsFor, Tracked}
-use Rattle.store_laws.specs.Stores.{refusal_of_watch, tracked_made, watch_made}
+use Rattle.store_laws.specs.Stores.{refusal_of_watch, watch_made}
 use Rattle.store_laws.proofs.StandsWatches.{watch_stands, watch_told}
 use Rattle.lease_book.specs.Book.{Book}
 use Rattle.range_view.specs.Stored.{Stored}
 use Rattle.watch_hub.specs.declared.delivery.Delivery.{Delivery}
 use Rattle.watch_hub.specs.Delivering.{told_at}
-use Rattle.watch_hub.specs.Hub.{Hub, pending_of, store_with, tracked_at, with_watch, without_tracked}
+use Rattle.watch_hub.specs.Hub.{Hub, pending_of, tracked_at, without_tracked}
 use Rattle.watch_hub.specs.Messages.{delivery_view}
 use Rattle.watch_hub.proofs.Delivered.{delivery_told, none_goes}
 use Rattle.request_core.specs.declared.answer.Todo.TheVariants as todo
 use Rattle.request_core.specs.Answers.{IsRefusal, is_memory}
 use Rattle.request_core.specs.Commands.{CarriesOut, Makes, Moves, Refuses}
-use Rattle.request_core.specs.State.{CoreState, after_watch, core_state, raised_from}
+use Rattle.request_core.specs.State.{CoreState, after_watch, core_state}
 use Rattle.request_core.proofs.Worlds.{changed-beside, is_refused}
 
 -- ---- a watch is made
@@ -76,32 +76,6 @@ watch_refuses s new watched start id e r same = record {
   free = λ no. let bad : true ≡ false = no in cc;
   kept = same;
 }
-
--- what the hub makes of a watch, seen in the core
-pub created : {X : Type 0} (r : Result X Refusal) (t : Stored) (b : Book) (h new : Hub) (stamp : ℕ) (watched : Watched) (start id : ℤ)
-    → OnOk r (new ≡ with_watch h (tracked_made (store_with t h) watched start id)) → (s : CoreState) → core_state t b h stamp ≡ s
-    → OnOk r (core_state t b new stamp ≡ after_watch s watched start id)
-created (Ok n) t b h new stamp watched start id made s is =
-    ap (λ (x : Hub). core_state t b x stamp) made ∙ ap (λ (u : CoreState). after_watch u watched start id) is
-created (Err e) t b h new stamp watched start id made s is = tt
-
-abbrev pub WantsMemory : Option Refusal → Refusal → Type 0
-WantsMemory o e = (o ≡ Some e) ⊎ ((o ≡ None) × (e ≡ Memory))
-
-wants-memory : (o : Option Refusal) (e : Refusal) → WantsMemory o e → IsRefusal e o
-wants-memory o e (inl one) = by (is_memory e)
-  where
-    by : (b : Bool) → MatchBool b ⊤ (o ≡ Some e)
-    by true = tt
-    by false = one
-wants-memory o e (inr want) = subst (λ f. IsRefusal f o) (sym want.1) tt
-
-pub uncreated : (r : Result ℕ Refusal) (t : Stored) (b : Book) (h : Hub) (stamp : ℕ)
-    → IfErr r (λ e. WantsMemory (refusal_of_watch (store_with t h)) e) → (s : CoreState) → core_state t b h stamp ≡ s
-    → IfErr r (λ e. IsRefusal e (refusal_of_watch s.store))
-uncreated (Ok n) t b h stamp refused s is = tt
-uncreated (Err e) t b h stamp refused s is =
-    subst (λ (u : CoreState). IsRefusal e (refusal_of_watch u.store)) is (wants-memory (refusal_of_watch (store_with t h)) e refused)
 
 -- ---- what it is told
 
