@@ -1,8 +1,8 @@
 -- The reading of a watch, step by step.
-use Rattle.std.proofs.Common.{◌≡◌, ℕ, ℤ, List, [], ◌∷◌, ◌++◌, Bool, true, false, not, Option, None, Some, Ok, Err, refl, sym, ap, ◌∙◌}
-use Rattle.std.specs.Prelude.{codes, option_map, ◌||◌}
+use Rattle.std.proofs.Common.{◌≡◌, ℕ, ℤ, List, [], ◌∷◌, ◌++◌, Bool, true, false, not, Ok, Err, refl, sym, ap, ◌∙◌}
+use Rattle.std.specs.Prelude.{codes, ◌||◌}
 use Rattle.std.specs.List.{list_any}
-use Rattle.serde_json.specs.Data.{Data, Items, Members}
+use Rattle.serde_json.specs.Data.{Items, Members}
 use Rattle.kv_model.specs.Requests as requests
 use Rattle.kv_model.specs.Requests.{Read, ◌>>=◌, integer_field, truth_field, list_field, bytes_field, each, filter_request, drops_puts}
 use Rattle.gateway_read.specs.declared.watching.Filters.{Filters}

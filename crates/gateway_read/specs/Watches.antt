@@ -2,7 +2,6 @@
 use Rattle.std.specs.Prelude.{ℕ, List, not, ◌||◌, codes, Ok}
 use Rattle.std.specs.List.{list_any}
 use Rattle.serde_json.specs.Data.{Items, Members}
-use Rattle.kv_model.specs.declared.call.Watched.{Watched}
 use Rattle.kv_model.specs.Calls.{Call}
 use Rattle.kv_model.specs.Requests as requests
 use Rattle.kv_model.specs.Requests.{Read, ◌>>=◌, bad_field, some_or, given, integer_field, truth_field}

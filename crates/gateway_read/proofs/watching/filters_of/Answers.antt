@@ -1,6 +1,6 @@
-use Rattle.std.proofs.Common.{◌≡◌, [], ◌∷◌, ◌++◌, Ok, ap, refl, sym, ◌∙◌, arith}
-use Rattle.kv_model.specs.Requests.{◌>>=◌, filter_request}
-use Rattle.gateway_read.specs.Watches.{filter_of, together, with_filter}
+use Rattle.std.proofs.Common.{[], ◌∷◌, ◌++◌, Ok, ap, refl, sym, ◌∙◌, arith}
+use Rattle.kv_model.specs.Requests.{filter_request}
+use Rattle.gateway_read.specs.Watches.{filter_of, with_filter}
 use Rattle.gateway_read.proofs.Each.{each_none, each_more, each_fails, each_done}
 use Rattle.gateway_read.proofs.Steps.{fails_then, gives_fault}
 use Rattle.gateway_read.proofs.Watches.{together-snoc}
