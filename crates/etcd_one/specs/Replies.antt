@@ -1,5 +1,5 @@
 -- What is written for a script.
-use Rattle.std.specs.Prelude.{◌≡◌, ℕ, List, [], ◌∷◌, ◌++◌, Option, None, Some, codes, decimal}
+use Rattle.std.specs.Prelude.{◌≡◌, ℕ, List, [], ◌∷◌, ◌++◌, true, false, Option, None, Some, codes, decimal}
 use Rattle.std.specs.Fmt.{signed_decimal}
 use Rattle.kv_model.specs.declared.ids.Ids.{Ids}
 use Rattle.kv_model.specs.declared.refusal.Refusal.TheVariants.{Memory}
@@ -28,6 +28,11 @@ abbrev pub told_line : WireTold → List ℕ
 told_line (WireTold.reply r up watch) = response_line r
 told_line (WireTold.clock clock) = clock_line clock
 told_line (WireTold.expiry e) = expiry_line e
+told_line WireTold.no_watch = codes "no watch\n"
+told_line WireTold.nothing = codes "nothing\n"
+told_line (WireTold.message text) = text ++ 10 ∷ []
+told_line (WireTold.closed true) = codes "closed\n"
+told_line (WireTold.closed false) = codes "no watch\n"
 told_line _ = []
 
 -- what is written where an event found no memory

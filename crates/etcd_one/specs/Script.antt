@@ -1,6 +1,6 @@
 -- A script: its lines, and the event that each asks for.
 use Rattle.std.specs.Prelude.{ℕ, ◌^◌, List, map, Bool, ◌==◌, nat_lt, nat_eq, if◌then◌else◌, length, Option, None, Some}
-use Rattle.std.specs.Prelude.{option_map, option_and_then, codes}
+use Rattle.std.specs.Prelude.{option_and_then, codes}
 use Rattle.std.specs.List.{position_or_len, before_first, after_first}
 use Rattle.std.specs.Cmp.Lexicographic.{pointwise}
 use Rattle.std.specs.Str.Lines.{lines}
@@ -39,10 +39,16 @@ number_of text = option_and_then if_unsigned_64 (digits_value text)
 abbrev pub event_alone : List ℕ → Option WireEvent
 event_alone word = if pointwise nat_eq word (codes "EXPIRE") then Some WireEvent.expire else None
 
+-- what a word asks for, with the number after it
+abbrev pub event_numbered : List ℕ → ℕ → Option WireEvent
+event_numbered word n = if pointwise nat_eq word (codes "AT") then Some (WireEvent.moment n)
+    else (if pointwise nat_eq word (codes "DELIVER") then Some (WireEvent.deliver n)
+    else (if pointwise nat_eq word (codes "CLOSE") then Some (WireEvent.close n) else None))
+
 -- what a line's first word asks for, with the text after the space that ends it
 abbrev pub event_with : List ℕ → List ℕ → Option WireEvent
 event_with word rest = if pointwise nat_eq word (codes "POST") then Some (post_of rest)
-    else (if pointwise nat_eq word (codes "AT") then option_map WireEvent.moment (number_of rest) else None)
+    else option_and_then (event_numbered word) (number_of rest)
 
 abbrev pub event_by : List ℕ → Option (List ℕ) → Option WireEvent
 event_by word None = event_alone word

@@ -13,6 +13,9 @@
 //! ```text
 //! AT 1000                                               at 1000
 //! POST /v3/kv/put {"key":"YQ==","value":"MQ=="}         200 {"header":{..}}
+//! POST /v3/watch {"create_request":{"key":"YQ=="}}      200 {"result":{"created":true,..}}
+//! DELIVER 1                                             nothing
+//! CLOSE 1                                               closed
 //! POST /v3/lease/grant {"TTL":"1","ID":"7"}             200 {"ID":"7","TTL":"1","header":{..}}
 //! PUT a 1                                               bad line
 //! EXPIRE                                                nothing

@@ -31,8 +31,10 @@ const IDS: Ids = Ids {
 
 /// Answers a script on a fresh store: reads all of it, makes its events one run, and then writes a
 /// line for each line of the script, in order: `bad line`; a request's status, a space and its
-/// body; `at` and the clock in milliseconds; or of a step of expiry `expired`, the lease's ID,
-/// `revision` and the revision after it, `nothing`, `revisions are spent` or `out of memory`.
+/// body; `at` and the clock in milliseconds; of a step of expiry `expired`, the lease's ID,
+/// `revision` and the revision after it, `nothing`, `revisions are spent` or `out of memory`; what
+/// a watch is told, a JSON text, `nothing`, `no watch` or `out of memory`; or `closed` or
+/// `no watch`.
 ///
 /// **What is written is what the model of the whole history answers to the script**, where it is
 /// known what the reader gives and the writer holds. Memory: the script and the bodies of all

@@ -4,7 +4,8 @@ ghost use Rattle.std.specs.Prelude.{codes, decimal, map, IfOk, IfErr};
 ghost use Rattle.std.specs.Fmt.{signed_decimal};
 ghost use Rattle.json_gateway.specs.Outcomes.{wire_response};
 ghost use Rattle.json_gateway.specs.Runs.{command_view, event_view, expired_view, expiry_outcome};
-ghost use Rattle.json_gateway.specs.Runs.{outcome_view};
+ghost use Rattle.json_gateway.specs.Runs.{message_view, outcome_view};
+ghost use Rattle.kv_model.specs.Wire.{closed};
 ghost use Rattle.etcd_one.specs.Lines.{line_by, replies_by};
 ghost use Rattle.etcd_one.specs.Replies as spec;
 ghost use Rattle.etcd_one.specs.Faults.{is_write};
@@ -14,7 +15,7 @@ use crate::fault::Fault;
 use crate::pieces::{write_bytes, write_pieces};
 use crate::script::Lines;
 use itoa::Buffer;
-use json_gateway::{Expiry, Outcome, Settled, Unexpired, WireEvent, WireOutcome};
+use json_gateway::{Expiry, Message, Outcome, Settled, Unexpired, WireEvent, WireOutcome};
 use std::io;
 use std::io::Write;
 
@@ -102,6 +103,9 @@ fn write_outcome<W: Write>(
         WireOutcome::Clock(clock) => write_clock(w, *clock),
         WireOutcome::Expiry(Ok(expiry)) => write_expiry(w, *expiry),
         WireOutcome::Expiry(Err(why)) => write_unexpired(w, event, *why),
+        WireOutcome::Delivered(Ok(message)) => write_message(w, message),
+        WireOutcome::Delivered(Err(_)) => write_out_of_memory(w, event),
+        WireOutcome::Closed(stood) => write_closed(w, *stood),
     }
 }
 
@@ -170,6 +174,30 @@ fn write_unexpired<W: Write>(w: &mut W, event: &WireEvent<'_>, why: Unexpired) -
     match why {
         Unexpired::Memory => write_out_of_memory(w, event),
         Unexpired::RevisionsSpent => write_bytes(w, b"revisions are spent\n"),
+    }
+}
+
+/// Writes what a watch was told.
+fn write_message<W: Write>(w: &mut W, message: &Message) -> io::Result<()>
+    ensures { Writes result (W.contents w.old) (W.contents w.new)
+        (spec.told_line (message_view message.now)) }
+{
+    match message {
+        Message::NoWatch => write_bytes(w, b"no watch\n"),
+        Message::Nothing => write_bytes(w, b"nothing\n"),
+        Message::Text(text) => write_pieces(w, &[text.as_slice(), b"\n"]),
+    }
+}
+
+/// Writes whether a watch was closed.
+fn write_closed<W: Write>(w: &mut W, stood: bool) -> io::Result<()>
+    ensures { Writes result (W.contents w.old) (W.contents w.new)
+        (spec.told_line (closed stood)) }
+{
+    if stood {
+        write_bytes(w, b"closed\n")
+    } else {
+        write_bytes(w, b"no watch\n")
     }
 }
 

@@ -6,7 +6,6 @@ ghost use Rattle.std.specs.Prelude.{◌≡◌, ◌<◌, ◌≤◌, ℕ, ◌∷�
 ghost use Rattle.std.specs.Prelude.{IfOk, MatchOption};
 ghost use Rattle.std.specs.List.{position_or_len, before_first, after_first};
 ghost use Rattle.std.specs.Str.Lines.{lines, strip_carriage_return};
-ghost use Rattle.kv_model.specs.Wire.{moment as model_moment};
 ghost use Rattle.json_gateway.specs.Runs.{event_view};
 ghost use Rattle.etcd_one.specs.Lines.{AreLines};
 ghost use Rattle.etcd_one.specs.Script as script;
@@ -54,9 +53,10 @@ pub fn line_events(alloc: Global, text: &[u8]) -> Result<Lines<'_>, AllocError>
 /// The event that a line asks for; `None` for a bad line, one above `LONGEST_LINE` bytes or of no
 /// form.
 ///
-/// The forms are `POST path body`, `AT moment` and `EXPIRE`. The body is the rest of the line, its
-/// spaces too, and may be missing; the path may be empty. The moment is in milliseconds, decimal
-/// digits alone, of a number of 64 bits.
+/// The forms are `POST path body`, `AT moment`, `DELIVER number`, `CLOSE number` and `EXPIRE`. The
+/// body is the rest of the line, its spaces too, and may be missing; the path may be empty. The
+/// moment is in milliseconds, and the number that of a watch: both are decimal digits alone, of a
+/// number of 64 bits.
 pub fn event_of(line: &[u8]) -> Option<WireEvent<'_>>
     ensures { option_map event_view result ≡ script.event_of line.now }
 {
@@ -86,21 +86,26 @@ fn event_with<'a>(word: &[u8], rest: &'a [u8]) -> Option<WireEvent<'a>>
     ensures { option_map event_view result ≡ script.event_with word.now rest.now }
 {
     if word == b"POST".as_slice() {
-        Some(post(rest))
-    } else if word == b"AT".as_slice() {
-        moment(rest)
-    } else {
-        None
+        return Some(post(rest));
+    }
+    match number_of(rest) {
+        Some(number) => event_numbered(word, number),
+        None => None,
     }
 }
 
-/// A moment in milliseconds.
-fn moment<'a>(digits: &[u8]) -> Option<WireEvent<'a>>
-    ensures { option_map event_view result ≡ option_map model_moment (script.number_of digits.now) }
+/// What a word asks for, with the number after it.
+fn event_numbered<'a>(word: &[u8], number: u64) -> Option<WireEvent<'a>>
+    ensures { option_map event_view result ≡ script.event_numbered word.now number }
 {
-    match number_of(digits) {
-        Some(now) => Some(WireEvent::Moment(now)),
-        None => None,
+    if word == b"AT".as_slice() {
+        Some(WireEvent::Moment(number))
+    } else if word == b"DELIVER".as_slice() {
+        Some(WireEvent::Deliver(number))
+    } else if word == b"CLOSE".as_slice() {
+        Some(WireEvent::Close(number))
+    } else {
+        None
     }
 }
 

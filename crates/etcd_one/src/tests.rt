@@ -4,3 +4,4 @@ mod ranges;
 mod rows;
 mod streams;
 mod transactions;
+mod watches;

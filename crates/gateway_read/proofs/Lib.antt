@@ -8,3 +8,4 @@ pub mod Signs
 pub mod Spellings
 pub mod Steps
 pub mod Transactions
+pub mod Watches

@@ -29,7 +29,7 @@ op_view-Inner t = search (rules, the_lemmas)
 
 -- ---- one step after another
 
-then_assoc : {A B C : Type 0} (r : Read A) (f : A → Read B) (g : B → Read C) → ((r >>= f) >>= g) ≡ (r >>= λ x. f x >>= g)
+pub then_assoc : {A B C : Type 0} (r : Read A) (f : A → Read B) (g : B → Read C) → ((r >>= f) >>= g) ≡ (r >>= λ x. f x >>= g)
 then_assoc (Ok x) f g = refl
 then_assoc (Err e) f g = refl
 

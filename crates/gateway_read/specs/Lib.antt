@@ -7,3 +7,4 @@ pub mod Parts
 pub mod Reading
 pub mod Signs
 pub mod Transactions
+pub mod Watches

@@ -45,12 +45,14 @@ mod requests;
 mod sorting;
 mod symbols;
 mod transacting;
+mod watching;
 
-const PATHS: [(&str, Request); 12] = [
+const PATHS: [(&str, Request); 13] = [
     ("/v3/kv/range", Request::Range),
     ("/v3/kv/put", Request::Put),
     ("/v3/kv/deleterange", Request::Delete),
     ("/v3/kv/txn", Request::Txn),
+    ("/v3/watch", Request::Watch),
     ("/v3/lease/grant", Request::Grant),
     ("/v3/lease/revoke", Request::Revoke),
     ("/v3/kv/lease/revoke", Request::Revoke),

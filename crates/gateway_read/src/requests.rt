@@ -15,6 +15,7 @@ use crate::members::{bytes_field, integer_field, truth_field};
 use crate::object::Object;
 use crate::sorting::{sort_order, sort_target};
 use crate::transacting::txn_request;
+use crate::watching::watch_request;
 use kv_model::call::{Command, PutRequest, RangeQuery};
 use kv_model::version::KeyRange;
 use std::alloc::Global;
@@ -26,6 +27,7 @@ pub(crate) enum Request {
     Put,
     Delete,
     Txn,
+    Watch,
     Grant,
     Revoke,
     KeepAlive,
@@ -42,6 +44,7 @@ pub(crate) fn command(alloc: Global, request: Request, object: &Object<'_>) -> R
         Request::Put => Ok(Command::Put(put_request(alloc, object)?)),
         Request::Delete => Ok(Command::Delete(delete_request(alloc, object)?)),
         Request::Txn => Ok(Command::Txn(txn_request(alloc, object)?)),
+        Request::Watch => watch_request(alloc, object),
         Request::Grant => grant_request(object),
         Request::Revoke => revoke_request(object),
         Request::KeepAlive => keep_alive_request(object),

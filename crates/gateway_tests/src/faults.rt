@@ -1,5 +1,5 @@
 //! Why a request is not read: the first fault of each body, and what a refusal is called.
-use crate::reading::{Case, PUT, RANGE, TXN, first_wrong, is_text, refusal};
+use crate::reading::{Case, PUT, RANGE, TXN, WATCH, first_wrong, is_text, refusal};
 use gateway_read::bad::Bad;
 use gateway_read::field::Field;
 use std::alloc::{AllocError, Global};
@@ -233,7 +233,55 @@ const TRANSACTIONS: [Case; 6] = [
     ),
 ];
 
-/// The bodies of ranges and of transactions, each with its first fault.
+const WATCHES: [Case; 12] = [
+    ("{}", Some(Bad::BadField(Field::CreateRequest))),
+    (
+        "{\"create_request\":null,\"key\":\"YQ==\"}",
+        Some(Bad::BadField(Field::CreateRequest)),
+    ),
+    (
+        "{\"createRequest\":[]}",
+        Some(Bad::BadField(Field::CreateRequest)),
+    ),
+    (
+        "{\"create_request\":{\"filters\":[\"NODELETE\",\"NOPUT\",0,1,\"NOPUT\"]}}",
+        None,
+    ),
+    (
+        "{\"create_request\":{\"filters\":[\"NOPUT\",\"NONE\"]}}",
+        Some(Bad::BadField(Field::Filters)),
+    ),
+    (
+        "{\"create_request\":{\"filters\":\"NOPUT\"}}",
+        Some(Bad::BadField(Field::Filters)),
+    ),
+    (
+        "{\"create_request\":{\"key\":\"?\",\"rangeEnd\":1}}",
+        Some(Bad::BadBase64(Field::Key)),
+    ),
+    (
+        "{\"create_request\":{\"start_revision\":\"\",\"rangeEnd\":1}}",
+        Some(Bad::BadField(Field::RangeEnd)),
+    ),
+    (
+        "{\"create_request\":{\"start_revision\":\"\",\"filters\":[2]}}",
+        Some(Bad::BadField(Field::StartRevision)),
+    ),
+    (
+        "{\"create_request\":{\"prev_kv\":0,\"filters\":[2]}}",
+        Some(Bad::BadField(Field::Filters)),
+    ),
+    (
+        "{\"create_request\":{\"prev_kv\":0,\"watch_id\":true}}",
+        Some(Bad::BadField(Field::PrevKv)),
+    ),
+    (
+        "{\"create_request\":{\"watchId\":true}}",
+        Some(Bad::BadField(Field::WatchId)),
+    ),
+];
+
+/// The bodies of ranges, of transactions and of watches, each with its first fault.
 #[test]
 fn bodies_with_one_fault(rt: HostRuntime) {
     let wrong = [
@@ -241,6 +289,7 @@ fn bodies_with_one_fault(rt: HostRuntime) {
         first_wrong(rt.alloc(), RANGE, NAMES_AND_TEXTS.as_slice()),
         first_wrong(rt.alloc(), RANGE, NUMBERS_AND_WORDS.as_slice()),
         first_wrong(rt.alloc(), TXN, TRANSACTIONS.as_slice()),
+        first_wrong(rt.alloc(), WATCH, WATCHES.as_slice()),
     ];
-    assert_eq!(rt; wrong, [None; 4]);
+    assert_eq!(rt; wrong, [None; 5]);
 }

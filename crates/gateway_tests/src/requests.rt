@@ -1,5 +1,5 @@
 //! Worked requests: the command that each is read as, with each of its fields.
-use crate::reading::{PUT, RANGE, TXN, is_read_as};
+use crate::reading::{PUT, RANGE, TXN, WATCH, is_read_as};
 
 #[test]
 fn ranges_are_read(rt: HostRuntime) {
@@ -57,5 +57,21 @@ fn lease_requests_are_read(rt: HostRuntime) {
         ("/v3/kv/lease/leases", "Leases"),
     ] {
         assert!(rt; is_read_as(rt.alloc(), path, body, expected), "of {path}");
+    }
+}
+
+#[test]
+fn watches_are_read(rt: HostRuntime) {
+    for (body, expected) in [
+        (
+            "{\"create_request\":{\"key\":\"YQ==\",\"range_end\":\"Yg==\",\"start_revision\":\"2\",\"filters\":[\"NOPUT\",0],\"prev_kv\":true,\"watch_id\":\"-7\"},\"key\":1}",
+            "Watch { watched: Watched { range: KeyRange { key: b\"a\", end: b\"b\" }, no_put: true, no_delete: false, prev_kv: true }, start: 2, id: -7 }",
+        ),
+        (
+            "{\"createRequest\":{\"rangeEnd\":\"AA==\",\"startRevision\":-3,\"filters\":[1],\"prevKv\":false,\"watchId\":5}}",
+            "Watch { watched: Watched { range: KeyRange { key: b\"\", end: b\"\\0\" }, no_put: false, no_delete: true, prev_kv: false }, start: -3, id: 5 }",
+        ),
+    ] {
+        assert!(rt; is_read_as(rt.alloc(), WATCH, body, expected), "of {body}");
     }
 }

@@ -1,11 +1,14 @@
 -- What events and outcomes of a run say, in the definitions' terms.
 use Rattle.std.specs.Prelude.{ℕ, Option, Result, Ok, Err, ⊤}
+use Rattle.std.specs.declared.alloc.AllocError.{AllocError}
 use Rattle.kv_model.specs.Told as told
 use Rattle.kv_model.specs.Follows as follows
 use Rattle.kv_model.specs.Wire as model
 use Rattle.kv_model.specs.Wire.{WireTold}
 use Rattle.request_core.specs.declared.answer.Expiry.{Expiry}
 use Rattle.request_core.specs.declared.answer.Expiry.TheVariants as expiry
+use Rattle.json_gateway.specs.declared.outcome.Message.{Message}
+use Rattle.json_gateway.specs.declared.outcome.Message.TheVariants as message
 use Rattle.json_gateway.specs.declared.outcome.Settled.{Settled}
 use Rattle.json_gateway.specs.declared.outcome.Settled.TheVariants as settled
 use Rattle.json_gateway.specs.declared.outcome.Outcome.{Outcome}
@@ -21,6 +24,8 @@ abbrev pub event_view : WireEvent → model.WireEvent
 event_view (event.Moment m) = model.WireEvent.moment m
 event_view (event.Post path body) = model.WireEvent.post path.now body.now
 event_view event.Expire = model.WireEvent.expire
+event_view (event.Deliver n) = model.WireEvent.deliver n
+event_view (event.Close n) = model.WireEvent.close n
 
 -- how a request ended, with the new revision where it rose and the number of a watch made
 abbrev pub ending_view : Settled → Option ℕ → Option ℕ → model.WireOutcome
@@ -49,10 +54,22 @@ abbrev pub expiry_outcome : Result Expiry Unexpired → model.WireOutcome
 expiry_outcome (Ok e) = follows.Outcome.said (WireTold.expiry (expired_view e))
 expiry_outcome (Err e) = unexpired_view e
 
+-- what a watch was told
+abbrev pub message_view : Message → WireTold
+message_view message.NoWatch = WireTold.no_watch
+message_view message.Nothing = WireTold.nothing
+message_view (message.Text text) = WireTold.message text.items
+
+abbrev pub delivery_outcome : Result Message AllocError → model.WireOutcome
+delivery_outcome (Ok m) = follows.Outcome.said (message_view m)
+delivery_outcome (Err e) = follows.Outcome.memory
+
 abbrev pub outcome_view : WireOutcome → model.WireOutcome
 outcome_view (outcome.Posted o) = command_view o
 outcome_view (outcome.Clock clock) = follows.Outcome.said (WireTold.clock clock)
 outcome_view (outcome.Expiry made) = expiry_outcome made
+outcome_view (outcome.Delivered made) = delivery_outcome made
+outcome_view (outcome.Closed stood) = follows.Outcome.said (WireTold.closed stood)
 
 -- where a request was not accepted, no revision rose and no watch was made
 abbrev pub IsBareIn : WireOutcome → Type 0

@@ -18,8 +18,8 @@ use crate::outcome::{Outcome, Reply, Settled};
 use gateway_read::bad::Bad;
 use gateway_read::read;
 use gateway_text::{
-    Wording, delete_text, granted_text, leases_text, put_text, range_text, refusal_text,
-    refusal_wording, renewed_text, revoked_text, time_left_text, txn_text,
+    Wording, created_text, delete_text, granted_text, leases_text, put_text, range_text,
+    refusal_text, refusal_wording, renewed_text, revoked_text, time_left_text, txn_text,
 };
 use kv_model::call::Command;
 use kv_model::ids::Ids;
@@ -156,6 +156,7 @@ pub fn text(alloc: Global, answer: &Answer<'_>, ids: &Ids) -> Result<Vec<u8>, Al
             revision,
             ids: leases,
         } => leases_text(alloc, *revision, leases, ids),
+        Answer::Watch { revision, id, .. } => created_text(alloc, *revision, *id, ids),
     }
 }
 

@@ -1,4 +1,4 @@
-//! What a command or a request was answered.
+//! What a command, a request or a watch was answered.
 use gateway_text::{lost_text, memory_text};
 
 /// A reply: an HTTP status, and the bytes of a JSON body.
@@ -27,6 +27,17 @@ pub struct Outcome {
     pub raised: Option<u64>,
     /// The number of a watch that was made.
     pub watch: Option<u64>,
+}
+
+/// What a watch was told.
+#[derive(Debug, Drop)]
+pub enum Message {
+    /// No watch has the number.
+    NoWatch,
+    /// It is caught up.
+    Nothing,
+    /// The bytes of a JSON text: events, or that it is cancelled.
+    Text(Vec<u8>),
 }
 
 impl Settled {

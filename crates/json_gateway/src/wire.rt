@@ -4,11 +4,13 @@ ghost use Rattle.std.specs.Prelude.{◌≡◌, map, IfOk, if◌then◌else◌};
 ghost use Rattle.kv_model.specs.declared.ids.Ids.{Ids};
 ghost use Rattle.request_core.specs.Answers.{is_memory};
 ghost use Rattle.store_laws.specs.Stands.{StandsFor};
-ghost use Rattle.kv_model.specs.Wire.{Follows, expire as model_expire, post as model_post};
+ghost use Rattle.kv_model.specs.Wire.{Follows, close as model_close, deliver as model_deliver};
+ghost use Rattle.kv_model.specs.Wire.{expire as model_expire, post as model_post};
 ghost use Rattle.kv_model.specs.World.{World};
 
 use crate::commands::post;
-use crate::outcome::Outcome;
+use crate::messages::message;
+use crate::outcome::{Message, Outcome};
 use kv_model::ids::Ids;
 use kv_model::refusal::Refusal;
 use request_core::answer::Expiry;
@@ -24,6 +26,10 @@ pub enum WireEvent<'a> {
     Post { path: &'a [u8], body: &'a [u8] },
     /// The lease that is due first is revoked, if there is one.
     Expire,
+    /// The watch of this number is told what comes next for it.
+    Deliver(u64),
+    /// The watch of this number ends.
+    Close(u64),
 }
 
 /// What an event was answered.
@@ -35,6 +41,10 @@ pub enum WireOutcome {
     Clock(u64),
     /// What a step of expiry did, or why it did nothing.
     Expiry(Result<Expiry, Unexpired>),
+    /// What a watch was told, or that no memory was found for it: then it has not gone on.
+    Delivered(Result<Message, AllocError>),
+    /// Whether a watch that had the number was closed.
+    Closed(bool),
 }
 
 /// Why a lease that is due was not revoked. Nothing has changed then.
@@ -59,9 +69,9 @@ ghost use Rattle.json_gateway.specs.Steps.{Steps};
 /// history**, whatever the events are: `Follows` of the model says so.
 ///
 /// An event that found no memory counts as not made, and an answer may be lost only where its
-/// change stands; a moment finds its memory always. An outcome without an answer, and a refusal,
-/// tell neither a revision nor a watch. `AllocError` comes before the first event, where there is
-/// no room for the outcomes.
+/// change stands; a moment and the close of a watch find their memory always. An outcome without
+/// an answer, and a refusal, tell neither a revision nor a watch. `AllocError` comes before the
+/// first event, where there is no room for the outcomes.
 pub fn run_wire(alloc: Global, events: &[WireEvent<'_>], ids: &Ids) -> Result<WireRun, AllocError>
     ensures follows { IfOk result (λ run.
         Follows ids.now (map event_view events.now) (map outcome_view run.outcomes.items)) }
@@ -86,6 +96,8 @@ fn step(alloc: Global, core: &mut Core, event: &WireEvent<'_>, ids: &Ids) -> Wir
         WireEvent::Moment(now) => WireOutcome::Clock(core.moment(*now)),
         WireEvent::Post { path, body } => step_post(alloc, core, path, body, ids),
         WireEvent::Expire => step_expire(core),
+        WireEvent::Deliver(number) => step_deliver(alloc, core, *number, ids),
+        WireEvent::Close(number) => step_close(core, *number),
     }
 }
 
@@ -108,6 +120,24 @@ fn step_expire(core: &mut Core) -> WireOutcome
         Ok(expiry) => WireOutcome::Expiry(Ok(expiry)),
         Err(refusal) => WireOutcome::Expiry(Err(why_unexpired(refusal))),
     }
+}
+
+/// A delivery to a watch of a core, as an event of a run.
+fn step_deliver(alloc: Global, core: &mut Core, number: u64, ids: &Ids) -> WireOutcome
+    ensures bare { IsBareIn result }
+    ensures steps { (w : World) → StandsFor core.old.store w
+        → Steps ids.now w (model_deliver number) (outcome_view result) core.new }
+{
+    WireOutcome::Delivered(message(alloc, core, number, ids))
+}
+
+/// The end of a watch of a core, as an event of a run.
+fn step_close(core: &mut Core, number: u64) -> WireOutcome
+    ensures bare { IsBareIn result }
+    ensures steps { (ids : Ids) (w : World) → StandsFor core.old.store w
+        → Steps ids w (model_close number) (outcome_view result) core.new }
+{
+    WireOutcome::Closed(core.cancel(number).is_ok())
 }
 
 /// Why a lease was not revoked, by the core's refusal, which is one of these two.

@@ -8,7 +8,7 @@ use Rattle.kv_model.specs.declared.refusal.Refusal.TheVariants.{Memory, NoWatch}
 use Rattle.kv_model.specs.Calls.{Call}
 use Rattle.kv_model.specs.Told.{Reply}
 use Rattle.kv_model.specs.Step.{refused_or}
-use Rattle.kv_model.specs.World.{World}
+use Rattle.kv_model.specs.World.{World, Watch, watch_at}
 use Rattle.kv_model.specs.Watches.{Delivery as ModelDelivery, deliver}
 use Rattle.store_laws.specs.Stands.{StandsFor, Tracked}
 use Rattle.store_laws.specs.Stores.{refusal_of_watch, watch_made}
@@ -17,9 +17,9 @@ use Rattle.lease_book.specs.Book.{Book}
 use Rattle.range_view.specs.Stored.{Stored}
 use Rattle.watch_hub.specs.declared.delivery.Delivery.{Delivery}
 use Rattle.watch_hub.specs.Delivering.{told_at}
-use Rattle.watch_hub.specs.Hub.{Hub, pending_of, tracked_at, without_tracked}
+use Rattle.watch_hub.specs.Hub.{Hub, PendingWatch, pending_of, tracked_at, without_tracked}
 use Rattle.watch_hub.specs.Messages.{delivery_view}
-use Rattle.watch_hub.proofs.Delivered.{delivery_told, none_goes}
+use Rattle.watch_hub.proofs.Delivered.{client_ids, delivery_told, none_goes}
 use Rattle.request_core.specs.declared.answer.Todo.TheVariants as todo
 use Rattle.request_core.specs.Answers.{IsRefusal, is_memory}
 use Rattle.request_core.specs.Commands.{CarriesOut, Makes, Moves, Refuses}
@@ -101,6 +101,14 @@ untold_worlds s n (Err e) (inl h) = subst (IsUntold s n) (sym h.0) (
       ∙ ap (λ (o : Option Tracked). told_at s.store.versions s.store.compacted (option_map pending_of o)) h.1,
 )
 untold_worlds s n (Err e) (inr h) = subst (IsUntold s n) (sym h.0) tt
+
+-- the client's number for a watch is this, in each world
+abbrev pub IsNamed : CoreState → ℕ → Option ℤ → Type 0
+IsNamed s n id = (w : World) → StandsFor s.store w → id ≡ option_map (λ (x : Watch). x.id) (watch_at w.watches n)
+
+pub id_worlds : (s : CoreState) (n : ℕ) (o : Option PendingWatch) → option_map pending_of (tracked_at s.store.watches n) ≡ o
+    → IsNamed s n (option_map (λ (p : PendingWatch). p.id) o)
+id_worlds s n o e = λ w h. ap (option_map (λ (p : PendingWatch). p.id)) (sym e) ∙ client_ids s.store w h n
 
 -- a watch that was not there leaves the core as it was
 pub cancelled_same : (r : Result (Unit {0}) Refusal) (n stamp : ℕ) (t : Stored) (b : Book) (h new : Hub) (s : CoreState)

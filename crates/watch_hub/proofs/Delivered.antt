@@ -11,7 +11,7 @@ use Rattle.kv_model.specs.Watches.{Delivery, undelivered, last_revision, deliver
 use Rattle.store_laws.specs.Stands.{Store, Tracked, TracksNext, Tracks, TracksAll, StandsFor, first_main_of}
 use Rattle.store_laws.proofs.StandsWatches.{good-undelivered}
 use Rattle.store_laws.proofs.TrimLaws.{rising-dress}
-use Rattle.watch_hub.specs.Hub.{NumbersAscend, pending_of, tracked_at, without_tracked}
+use Rattle.watch_hub.specs.Hub.{NumbersAscend, PendingWatch, pending_of, tracked_at, without_tracked}
 use Rattle.watch_hub.specs.Delivering.{Course, course_from, course_at, delivery_from, delivery_kept, message_from, taken_by, delivered, told_at}
 use Rattle.watch_hub.proofs.Delivering.{AreFrom, least, delivery_stands}
 use Rattle.watch_hub.proofs.Standing.{ended_stands, told_stands}
@@ -150,6 +150,18 @@ stood s w h n = by (found (versions w) (revision w) n s.watches w.watches h.watc
     by : Found (versions w) (revision w) n s.watches w.watches → is_some (tracked_at s.watches n) ≡ is_some (watch_at w.watches n)
     by (inl f) = ap is_some f.0 ∙ sym (ap is_some f.1)
     by (inr f) = ap is_some f.2 ∙ sym (ap is_some f.3)
+
+-- the client's number for it is the one that the world has
+pub client_ids : (s : Store) (w : World) → StandsFor s w → (n : ℕ)
+    → option_map (λ (p : PendingWatch). p.id) (option_map pending_of (tracked_at s.watches n)) ≡ option_map (λ (x : Watch). x.id) (watch_at w.watches n)
+client_ids s w h n = by (found (versions w) (revision w) n s.watches w.watches h.watches)
+  where
+    by : Found (versions w) (revision w) n s.watches w.watches
+        → option_map (λ (p : PendingWatch). p.id) (option_map pending_of (tracked_at s.watches n)) ≡ option_map (λ (x : Watch). x.id) (watch_at w.watches n)
+    by (inl f) = ap (λ (o : Option Tracked). option_map (λ (p : PendingWatch). p.id) (option_map pending_of o)) f.0 ∙ sym (ap (option_map (λ (x : Watch). x.id)) f.1)
+    by (inr f) =
+        ap (λ (o : Option Tracked). option_map (λ (p : PendingWatch). p.id) (option_map pending_of o)) f.2
+        ∙ ap (λ i. Some i) f.4.id ∙ sym (ap (option_map (λ (x : Watch). x.id)) f.3)
 
 -- where there is none, none goes
 pub none_goes : (ts : List Tracked) (n : ℕ) → is_some (tracked_at ts n) ≡ false → without_tracked n ts ≡ ts

@@ -3,7 +3,7 @@ ghost use Rattle.kv_model.specs.declared.refusal.Refusal.TheVariants.{NoWatch};
 ghost use Rattle.kv_model.specs.Watches.{deliver, Delivery as ModelDelivery};
 ghost use Rattle.kv_model.specs.World.{World, watch_at, without_watch};
 ghost use Rattle.std.specs.Prelude.{◌≡◌, ◌+◌, ⊤, None, is_ok, is_some, IfOk, IfErr, OnOk};
-ghost use Rattle.std.specs.Prelude.{OnErr, MatchBool};
+ghost use Rattle.std.specs.Prelude.{option_map, OnErr, MatchBool};
 ghost use Rattle.store_laws.specs.Stands.{StandsFor};
 ghost use Rattle.store_laws.specs.Stores.{refusal_of_watch};
 ghost use Rattle.watch_hub.specs.Messages.{delivery_view};
@@ -47,6 +47,18 @@ impl Core {
         ensures err { OnErr result (self.new ≡ self.old) }
     {
         self.hub.create(&self.tables, watched, start, id)
+    }
+
+    /// The client's number for the watch of a number; nothing where no watch has that number. Takes
+    /// no memory. Logarithmic time.
+    pub fn watch_id(&self, number: u64) -> Option<i64>
+        ensures { (w : World) → StandsFor self.now.store w
+            → result ≡ option_map (λ x. x.id) (watch_at w.watches number) }
+    {
+        match self.hub.pending(number) {
+            Ok(pending) => Some(pending.id),
+            Err(_) => None,
+        }
     }
 
     /// What the watch of a number is told next (the etcd documentation's Watch): nothing where it

@@ -8,3 +8,8 @@ pub returns-in-Expire-clause-steps : goal.returns-in-Expire-clause-steps
 returns-in-Expire-clause-steps c = λ w h.
     subst (λ (e : WireEvent). Steps c.args.ids.now w (event_view e) (outcome_view c.step_expire.result) c.step_expire.new.core) (sym c.in-Expire.is)
     (c.step_expire.ensures.steps c.args.ids.now w h)
+
+pub returns-in-Close-clause-steps : goal.returns-in-Close-clause-steps
+returns-in-Close-clause-steps c = λ w h.
+    subst (λ (e : WireEvent). Steps c.args.ids.now w (event_view e) (outcome_view c.step_close.result) c.step_close.new.core) (sym c.in-Close.is)
+    (c.step_close.ensures.steps c.args.ids.now w h)
