@@ -26,6 +26,7 @@
 
 mod filter;
 mod growth;
+pub mod key_versions;
 mod order;
 pub mod reply;
 pub mod revision;
@@ -33,6 +34,7 @@ mod select;
 pub mod tables;
 pub mod view;
 
+pub use key_versions::KeyVersions;
 pub use reply::{KvRef, RangeReply};
 pub use tables::Tables;
 pub use view::View;
