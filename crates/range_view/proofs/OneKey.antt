@@ -93,7 +93,7 @@ from-count next (u ∷ us) r = by (nat_lt u.rev.main next) refl (from-count next
         let from : nat_le next u.rev.main ≡ true = grind (arith, nat_tests) in
         sym (ap (λ b. revs (cond b (u ∷ left) left)) from ∙ ap (λ ws. u.rev ∷ revs ws) (kept-all (λ w. nat_le next w.rev.main) us (all from)))
 
-filter-both : (p q : Version → Bool) (vs : List Version) → filter p (filter q vs) ≡ filter (λ v. p v && q v) vs
+pub filter-both : (p q : Version → Bool) (vs : List Version) → filter p (filter q vs) ≡ filter (λ v. p v && q v) vs
 filter-both p q [] = refl
 filter-both p q (v ∷ vs) = by (q v) (p v) refl (filter-both p q vs)
   where

@@ -138,7 +138,7 @@ fn delivery_due<'a>(
     match pending.first {
         Some(first) if first < compacted => Ok(Delivery::Cancelled(compacted)),
         Some(first) => {
-            let walk = Walk::new(tables.versions(), first, pending.watched);
+            let walk = Walk::new(tables, first, pending.watched);
             Ok(Delivery::Events(message(alloc, tables, pending.watched, walk)?))
         }
         None => Ok(Delivery::Nothing),
@@ -157,7 +157,7 @@ fn course_of(tables: &Tables, pending: Pending<'_>) -> Course
     match pending.first {
         Some(first) if first < tables.compacted() => Course::Ends,
         Some(first) => {
-            let walk = Walk::new(tables.versions(), first, pending.watched);
+            let walk = Walk::new(tables, first, pending.watched);
             Course::Passes(last_revision(walk))
         }
         None => Course::Waits,

@@ -181,8 +181,7 @@ impl WatchHub {
                   number last self.old.watches;
             } }
     {
-        self.entries
-            .advance(number, tables.versions(), tables.revision(), last);
+        self.entries.advance(number, tables, last);
     }
 
     /// Ends the watch of a number. `NoWatch` comes where no watch has the number, and then nothing
@@ -216,7 +215,7 @@ fn entry_for(
 {
     let watched = watched_of(watched)?;
     let next = start_of(tables.revision(), start);
-    let first = first_from(tables.versions(), next, &watched);
+    let first = first_from(tables, next, &watched);
     Ok(Entry {
         number,
         id,
