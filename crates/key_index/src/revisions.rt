@@ -108,13 +108,7 @@ impl Revisions {
     {
         match &self.held {
             Held::Nothing => 0,
-            Held::One(only) => {
-                if only.main < main {
-                    1
-                } else {
-                    0
-                }
-            }
+            Held::One(only) => { if only.main < main { 1 } else { 0 } }
             Held::Many(revisions) => count_before(revisions, main),
         }
     }
@@ -126,13 +120,7 @@ impl Revisions {
     {
         match &self.held {
             Held::Nothing => None,
-            Held::One(only) => {
-                if index == 0 {
-                    Some(*only)
-                } else {
-                    None
-                }
-            }
+            Held::One(only) => { if index == 0 { Some(*only) } else { None } }
             Held::Many(revisions) => rev_at(revisions, index),
         }
     }

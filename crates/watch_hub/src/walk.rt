@@ -147,10 +147,10 @@ pub(crate) fn first_main(walk: Walk<'_>) -> Option<u64>
 
 /// The main revision of the first of the versions from a revision on that a watch matches.
 ///
-/// Of a watch of one key the time is logarithmic in the number of keys, in that of the key's
-/// revisions and in that of the versions, and linear in that of the key's versions from the
-/// revision on that the watch leaves out, up to the match. Of any other it is logarithmic in the
-/// number of versions, and linear in that of those from the revision on up to the match.
+/// For a range of one key the time is logarithmic in the number of keys and in that of the key's
+/// revisions, and for each of the key's versions from the revision on up to the match at most
+/// logarithmic in the number of versions. For any other it is logarithmic in the number of
+/// versions, and linear in that of those from the revision on up to the match.
 pub(crate) fn first_from(tables: &Tables, next: u64, watched: &Watched) -> Option<u64>
     ensures { result ≡ first_from tables.now.versions next watched.now }
 {
