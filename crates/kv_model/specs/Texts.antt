@@ -1,5 +1,5 @@
 -- Worked requests, as bytes.
-use Rattle.std.specs.Prelude.{◌≡◌, refl, ⊤, ℕ, ℤ, pos, List, [], ◌∷◌, map, true, false, unwrap_or, codes}
+use Rattle.std.specs.Prelude.{◌≡◌, refl, ⊤, ℕ, ℤ, pos, List, [], ◌∷◌, map, true, false, Some, None, unwrap_or, codes}
 use Rattle.serde_json.proofs.OnLiterals.{serde_json_on_literals}
 use Rattle.std.specs.Str.{is_utf8, chars}
 use Rattle.std.specs.Fmt.{digits}
@@ -7,13 +7,13 @@ use Rattle.base64.specs.Rfc4648.{encode_symbols}
 use Rattle.base64.specs.Decode.{groups_error, groups_bytes, scan_steps}
 use Rattle.kv_model.specs.World.{World, opening}
 use Rattle.kv_model.specs.Requests.{request_of, range_query, put_request, delete_request, compare_request, txn_request}
-use Rattle.kv_model.specs.Requests.{grant_request, time_to_live_request, decoded}
+use Rattle.kv_model.specs.Requests.{watch_request, watch_create, grant_request, time_to_live_request, decoded}
 use Rattle.kv_model.specs.declared.ids.Ids.{Ids}
 use Rattle.kv_model.specs.Answers.{Response, bytes_text, header, key_value_text, range_text, put_text, delete_text}
 use Rattle.kv_model.specs.Answers.{txn_text, short_header, response, responses, header_alone, result_text, lease_text}
 use Rattle.kv_model.specs.Answers.{reply_text, fault_text, created_text, tombstone_text, event_text, events_text}
 use Rattle.kv_model.specs.Answers.{cancelled_text, response_to, message_text}
-use Rattle.kv_model.specs.Wire.{WireEvent, wire_step, reply_to}
+use Rattle.kv_model.specs.Wire.{WireEvent, WireTold, wire_step, reply_to}
 use Rattle.kv_model.specs.Told.{Event, Told}
 use Rattle.kv_model.specs.Step.{told_by}
 use Rattle.kv_model.specs.Samples.{a, one, two, put_event, delete_event, watch_event, compact_event}
@@ -24,7 +24,7 @@ ones = record { cluster = 1; member = 1 }
 
 -- an `unfolding` line that names this opens the definitions of requests and answers
 unfoldable pub wire_on_literals : ⊤
-unfolding request_of range_query put_request delete_request compare_request txn_request grant_request time_to_live_request decoded bytes_text header key_value_text range_text put_text delete_text txn_text short_header response responses header_alone result_text lease_text reply_text fault_text created_text tombstone_text event_text events_text cancelled_text
+unfolding request_of range_query put_request delete_request compare_request txn_request watch_request watch_create grant_request time_to_live_request decoded bytes_text header key_value_text range_text put_text delete_text txn_text short_header response responses header_alone result_text lease_text reply_text fault_text created_text tombstone_text event_text events_text cancelled_text
 wire_on_literals = tt
 
 -- what is answered to requests in turn
@@ -163,7 +163,46 @@ pub a_lease : run_wired opening (Wired.moment 1000
 unfolding model_on_literals wire_on_literals serde_json_on_literals is_utf8 chars digits encode_symbols groups_error groups_bytes scan_steps
 a_lease = refl
 
--- ---- compactions and watches, whose requests no path takes yet: the texts of what they are told
+-- ---- runs with watches
+
+-- what is told of events in turn
+abbrev pub wires : World → List WireEvent → List WireTold
+wires w [] = []
+wires w (e ∷ es) = (wire_step ones w e).0 ∷ wires (wire_step ones w e).1 es
+
+-- a watch of deletes with previous values is told once and closed once; one from a revision that is still to come waits for it
+pub two_watches : wires opening (WireEvent.post (codes "/v3/kv/put") (codes "{\"key\":\"YQ==\",\"value\":\"MQ==\"}")
+    ∷ WireEvent.post (codes "/v3/kv/deleterange") (codes "{\"key\":\"YQ==\"}")
+    ∷ WireEvent.post (codes "/v3/kv/put") (codes "{\"key\":\"YQ==\",\"value\":\"Mg==\"}")
+    ∷ WireEvent.post (codes "/v3/watch") (codes "{\"create_request\":{\"key\":\"YQ==\",\"start_revision\":\"2\",\"filters\":[\"NOPUT\"],\"prev_kv\":true,\"watch_id\":\"5\"}}")
+    ∷ WireEvent.deliver 1
+    ∷ WireEvent.deliver 1
+    ∷ WireEvent.close 1
+    ∷ WireEvent.close 1
+    ∷ WireEvent.deliver 1
+    ∷ WireEvent.post (codes "/v3/watch") (codes "{\"create_request\":{\"key\":\"YQ==\",\"start_revision\":\"6\"}}")
+    ∷ WireEvent.post (codes "/v3/kv/put") (codes "{\"key\":\"YQ==\",\"value\":\"MQ==\"}")
+    ∷ WireEvent.deliver 2
+    ∷ WireEvent.post (codes "/v3/kv/put") (codes "{\"key\":\"YQ==\",\"value\":\"Mg==\"}")
+    ∷ WireEvent.deliver 2 ∷ [])
+    ≡ WireTold.reply (ok (codes "{\"header\":{\"cluster_id\":\"1\",\"member_id\":\"1\",\"raft_term\":\"1\",\"revision\":\"2\"}}")) (Some 2) None
+    ∷ WireTold.reply (ok (codes "{\"deleted\":\"1\",\"header\":{\"cluster_id\":\"1\",\"member_id\":\"1\",\"raft_term\":\"1\",\"revision\":\"3\"}}")) (Some 3) None
+    ∷ WireTold.reply (ok (codes "{\"header\":{\"cluster_id\":\"1\",\"member_id\":\"1\",\"raft_term\":\"1\",\"revision\":\"4\"}}")) (Some 4) None
+    ∷ WireTold.reply (ok (codes "{\"result\":{\"created\":true,\"header\":{\"cluster_id\":\"1\",\"member_id\":\"1\",\"raft_term\":\"1\",\"revision\":\"4\"},\"watch_id\":\"5\"}}")) None (Some 1)
+    ∷ WireTold.message (codes "{\"result\":{\"events\":[{\"kv\":{\"key\":\"YQ==\",\"mod_revision\":\"3\"},\"prev_kv\":{\"create_revision\":\"2\",\"key\":\"YQ==\",\"mod_revision\":\"2\",\"value\":\"MQ==\",\"version\":\"1\"},\"type\":\"DELETE\"}],\"header\":{\"cluster_id\":\"1\",\"member_id\":\"1\",\"raft_term\":\"1\",\"revision\":\"4\"},\"watch_id\":\"5\"}}")
+    ∷ WireTold.nothing
+    ∷ WireTold.closed true
+    ∷ WireTold.closed false
+    ∷ WireTold.no_watch
+    ∷ WireTold.reply (ok (codes "{\"result\":{\"created\":true,\"header\":{\"cluster_id\":\"1\",\"member_id\":\"1\",\"raft_term\":\"1\",\"revision\":\"4\"}}}")) None (Some 2)
+    ∷ WireTold.reply (ok (codes "{\"header\":{\"cluster_id\":\"1\",\"member_id\":\"1\",\"raft_term\":\"1\",\"revision\":\"5\"}}")) (Some 5) None
+    ∷ WireTold.nothing
+    ∷ WireTold.reply (ok (codes "{\"header\":{\"cluster_id\":\"1\",\"member_id\":\"1\",\"raft_term\":\"1\",\"revision\":\"6\"}}")) (Some 6) None
+    ∷ WireTold.message (codes "{\"result\":{\"events\":[{\"kv\":{\"create_revision\":\"4\",\"key\":\"YQ==\",\"mod_revision\":\"6\",\"value\":\"Mg==\",\"version\":\"3\"}}],\"header\":{\"cluster_id\":\"1\",\"member_id\":\"1\",\"raft_term\":\"1\",\"revision\":\"6\"}}}") ∷ []
+unfolding model_on_literals wire_on_literals serde_json_on_literals is_utf8 chars digits encode_symbols groups_error groups_bytes scan_steps
+two_watches = refl
+
+-- ---- compactions and watches: a compaction has no path yet, so these are the texts of what is told of plain events
 
 -- what is written of an answer, or of a delivery to a watch that its client gave this number
 abbrev pub text_of : ℤ → Told → List ℕ

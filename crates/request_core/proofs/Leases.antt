@@ -16,7 +16,7 @@ use Rattle.request_core.specs.declared.answer.Todo.TheVariants as todo
 use Rattle.request_core.specs.State.{CoreState, after_grant, after_keep_alive, leased}
 use Rattle.request_core.specs.Answers.{IsRefusal, time_left_view}
 use Rattle.request_core.specs.Commands.{CarriesOut, Makes, Moves, Refuses}
-use Rattle.request_core.proofs.Worlds.{read_moves, is_refused}
+use Rattle.request_core.proofs.Worlds.{changed-beside, none-raised, read_moves, is_refused}
 
 -- a command that changes the leases alone
 leases-make : (s : CoreState) (ls : List Lease) (call : Call) (told : Reply) (w : World) → StandsFor s.store w
@@ -24,16 +24,12 @@ leases-make : (s : CoreState) (ls : List Lease) (call : Call) (told : Reply) (w 
 leases-make s ls call told w h made =
     record { after = record w { leases = ls }; made = made; stands = leases_stand s.store w ls h }
 
-leases-moved : (s : CoreState) (ls : List Lease) → Moves s (leased s ls) true
+leases-moved : (s : CoreState) (ls : List Lease) → Moves s (leased s ls) true None
 leases-moved s ls = record {
-  unchanged = λ none. let bad : true ≡ false = sym (or-true (nat_lt s.store.revision s.store.revision)) ∙ none in cc;
+  unchanged = changed-beside (nat_lt s.store.revision s.store.revision);
   stamp = refl;
-  watches = refl;
+  watches = none-raised s.store.made;
 }
-  where
-    or-true : (b : Bool) → (b || true) ≡ true
-    or-true true = refl
-    or-true false = refl
 
 -- ---- Grant
 

@@ -1,7 +1,7 @@
 -- What a revoke and a step of expiry do, in each world that the core stands for.
 use Rattle.std.proofs.Common.{◌≡◌, ℕ, ℤ, ◌+◌, ◌≤◌, ◌^◌, List, [], ◌∷◌, length, Bool, true, false, cond, nat_lt}
 use Rattle.std.proofs.Common.{Option, None, Some, Err, refl, sym, ◌∙◌, ap, subst, arith, lt-ltb, le-ltb}
-use Rattle.std.specs.Prelude.{option_map, MatchBool, ⊤, ◌||◌}
+use Rattle.std.specs.Prelude.{option_map, MatchBool, ⊤}
 use Rattle.std.proofs.lemmas.List.{length-map}
 use Rattle.kv_model.specs.declared.refusal.Refusal.{Refusal}
 use Rattle.kv_model.specs.declared.refusal.Refusal.TheVariants.{Memory, RevisionsSpent}
@@ -20,10 +20,11 @@ use Rattle.request_core.specs.declared.answer.Expiry.TheVariants as expiry
 use Rattle.request_core.specs.declared.answer.Todo.TheVariants as todo
 use Rattle.request_core.specs.Writing.{tombstones}
 use Rattle.request_core.specs.State.{CoreState, leased_in, with_any, leased, fault_of_revoke, added_by_revoke, after_revoke, due_in}
-use Rattle.request_core.specs.State.{counted, stamp_after}
+use Rattle.request_core.specs.State.{counted, raised_from, stamp_after}
 use Rattle.request_core.specs.Answers.{IsRefusal, expiry_view, has_expired, is_memory}
 use Rattle.request_core.specs.Commands.{CarriesOut, Expires, Makes, Moves, Refuses, RefusesExpiry}
 use Rattle.request_core.proofs.Worlds.{changed_by, committed, made_first, refused_first, commit_made, commit_spent, is_refused}
+use Rattle.request_core.proofs.Worlds.{changed-beside, none-raised}
 use Rattle.request_core.proofs.Deletes.{any-grows, any-stays, deletes-spent}
 
 -- a revoke that a core made, of a lease with so many keys
@@ -89,17 +90,14 @@ revoke-makes s new id n was w h =
 
 -- ---- in the form that `apply_revoke` cites
 
-revoke-moves : (s new : CoreState) (id : ℤ) (n : ℕ) → WasRevoked s new id n → Moves s new true
+revoke-moves : (s new : CoreState) (id : ℤ) (n : ℕ) → WasRevoked s new id n → Moves s new true None
 revoke-moves s new id n was = record {
-  unchanged = λ none. let bad : true ≡ false = sym (or-true (nat_lt s.store.revision new.store.revision)) ∙ none in cc;
+  unchanged = changed-beside (nat_lt s.store.revision new.store.revision);
   stamp = ap (λ (t : CoreState). t.stamp) was.made ∙ any-stamp (added_by_revoke s.store id);
-  watches = ap (λ (t : CoreState). t.store.made) was.made ∙ any-made (added_by_revoke s.store id);
+  watches = ap (raised_from s.store.made) (ap (λ (t : CoreState). t.store.made) was.made ∙ any-made (added_by_revoke s.store id))
+      ∙ none-raised s.store.made;
 }
   where
-    or-true : (b : Bool) → (b || true) ≡ true
-    or-true true = refl
-    or-true false = refl
-
     any-stamp : (vs : List Version) → (with_any s vs).stamp ≡ s.stamp
     any-stamp [] = refl
     any-stamp (v ∷ vs) = refl

@@ -220,7 +220,7 @@ txn_done s new t b steps was =
           (sym (left-answer s new (txn_view t) b (steps_view steps.items) was)) (txn-makes s new t b (steps_view steps.items) was w h));
       allowed = txn-readable s new (txn_view t) b (steps_view steps.items) was;
       beside = λ w h. sym (txn-beside w t);
-      moves = subst (λ (n : CoreState). Moves s n false) (sym left) (any_moves s (added_by_txn s.store (txn_view t)) false);
+      moves = subst (λ (n : CoreState). Moves s n false None) (sym left) (any_moves s (added_by_txn s.store (txn_view t)) false);
     }
 
 -- ---- a refused one

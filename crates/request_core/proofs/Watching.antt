@@ -1,11 +1,18 @@
--- What a watch is told and how it goes on, in each world that a core stands for.
-use Rattle.std.proofs.Common.{◌≡◌, ◌⊎◌, inl, inr, ℕ, List, Bool, true, false, Option, None, Some, Result, Ok, Err, refl, sym, ◌∙◌, ap, subst}
-use Rattle.std.specs.Prelude.{option_map, is_ok, is_some, IfOk, IfErr, OnErr, MatchBool, ⊤}
+-- How a watch is made, what it is told and how it goes on, in each world that a core stands for.
+use Rattle.std.proofs.Common.{◌≡◌, ◌⊎◌, inl, inr, ℕ, ◌+◌, ℤ, [], ◌∷◌, ◌++◌, true, false, cond, Option, None, Some, Result, Ok, Err}
+use Rattle.std.proofs.Common.{refl, sym, ◌∙◌, ap, subst, arith, lt-ltb}
+use Rattle.std.specs.Prelude.{nat_lt, option_map, is_ok, is_some, IfOk, IfErr, OnErr, MatchBool, ⊤}
+use Rattle.kv_model.specs.declared.call.Watched.{Watched}
 use Rattle.kv_model.specs.declared.refusal.Refusal.{Refusal}
 use Rattle.kv_model.specs.declared.refusal.Refusal.TheVariants.{Memory, NoWatch}
+use Rattle.kv_model.specs.Calls.{Call}
+use Rattle.kv_model.specs.Told.{Reply}
+use Rattle.kv_model.specs.Step.{refused_or}
 use Rattle.kv_model.specs.World.{World}
 use Rattle.kv_model.specs.Watches.{Delivery as ModelDelivery, deliver}
 use Rattle.store_laws.specs.Stands.{StandsFor, Tracked}
+use Rattle.store_laws.specs.Stores.{refusal_of_watch, watch_made}
+use Rattle.store_laws.proofs.StandsWatches.{watch_stands, watch_told}
 use Rattle.lease_book.specs.Book.{Book}
 use Rattle.range_view.specs.Stored.{Stored}
 use Rattle.watch_hub.specs.declared.delivery.Delivery.{Delivery}
@@ -13,8 +20,64 @@ use Rattle.watch_hub.specs.Delivering.{told_at}
 use Rattle.watch_hub.specs.Hub.{Hub, pending_of, tracked_at, without_tracked}
 use Rattle.watch_hub.specs.Messages.{delivery_view}
 use Rattle.watch_hub.proofs.Delivered.{delivery_told, none_goes}
-use Rattle.request_core.specs.Answers.{is_memory}
-use Rattle.request_core.specs.State.{CoreState, core_state}
+use Rattle.request_core.specs.declared.answer.Todo.TheVariants as todo
+use Rattle.request_core.specs.Answers.{IsRefusal, is_memory}
+use Rattle.request_core.specs.Commands.{CarriesOut, Makes, Moves, Refuses}
+use Rattle.request_core.specs.State.{CoreState, after_watch, core_state}
+use Rattle.request_core.proofs.Worlds.{changed-beside, is_refused}
+
+-- ---- a watch is made
+
+watch-makes : (s : CoreState) (watched : Watched) (start id : ℤ) → refusal_of_watch s.store ≡ None → (w : World) → StandsFor s.store w
+    → Makes w (Call.watch watched start id) (Reply.watch id (s.store.made + 1)) (after_watch s watched start id).store
+watch-makes s watched start id clear w h =
+    let after : World = record w { watches = w.watches ++ watch_made s.store watched start id ∷ []; made = s.store.made + 1 } in
+    record {
+      after = after;
+      made = watch_told s.store w h watched start id
+          ∙ ap (λ o. refused_or o (Ok (Reply.watch id (s.store.made + 1), after))) clear;
+      stands = watch_stands s.store w h watched start id;
+    }
+
+-- a watch that a core made
+pub record WasMade (s new : CoreState) (watched : Watched) (start id : ℤ) (number : ℕ) : Type 0 where
+  pub clear : refusal_of_watch s.store ≡ None
+  pub made : new ≡ after_watch s watched start id
+  pub number_is : number ≡ s.store.made + 1
+
+watch-moves : (s : CoreState) (watched : Watched) (start id : ℤ) (number : ℕ) → number ≡ s.store.made + 1
+    → Moves s (after_watch s watched start id) true (Some number)
+watch-moves s watched start id number is = record {
+  unchanged = changed-beside (nat_lt s.store.revision s.store.revision);
+  stamp = refl;
+  watches = ap (λ b. cond b (Some (s.store.made + 1)) None) (lt-ltb s.store.made (s.store.made + 1) (omega arith))
+      ∙ ap (λ n. Some n) (sym is);
+}
+
+pub watch_done : (s new : CoreState) (watched : Watched) (start id : ℤ) (number : ℕ) → WasMade s new watched start id number
+    → CarriesOut s new (Call.watch watched start id) (todo.Watch id number)
+watch_done s new watched start id number was =
+    subst (λ (n : CoreState). CarriesOut s n (Call.watch watched start id) (todo.Watch id number)) (sym was.made) (record {
+      makes = λ w h. subst (λ n. Makes w (Call.watch watched start id) (Reply.watch id n) (after_watch s watched start id).store)
+          (sym was.number_is) (watch-makes s watched start id was.clear w h);
+      allowed = tt;
+      beside = λ w h. refl;
+      moves = watch-moves s watched start id number was.number_is;
+    })
+
+pub watch_refuses : (s new : CoreState) (watched : Watched) (start id : ℤ) (e : Refusal) → IsRefusal e (refusal_of_watch s.store)
+    → new ≡ s → Refuses s new (Call.watch watched start id) e
+watch_refuses s new watched start id e r same = record {
+  refused = λ w h. is_refused w (Call.watch watched start id) e (refusal_of_watch s.store) r
+      (λ f one. watch_told s.store w h watched start id ∙ ap (λ o. refused_or o (Ok (
+        Reply.watch id (s.store.made + 1),
+        record w { watches = w.watches ++ watch_made s.store watched start id ∷ []; made = s.store.made + 1 },
+      ))) one);
+  free = λ no. let bad : true ≡ false = no in cc;
+  kept = same;
+}
+
+-- ---- what it is told
 
 -- what the hub and the tables of a core tell
 abbrev pub told_in : CoreState → ℕ → ModelDelivery

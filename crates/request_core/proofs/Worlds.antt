@@ -22,7 +22,7 @@ use Rattle.store_laws.proofs.StandsCommands.{answer_refused}
 use Rattle.request_core.specs.declared.answer.Receipt.{Receipt}
 use Rattle.request_core.specs.declared.answer.Todo.{Todo}
 use Rattle.request_core.specs.State.{CoreState, counted, is_spent, raised_from, stamp_after, with_any, with_versions}
-use Rattle.request_core.specs.Answers.{IsAllowed, IsRefusal, answer_of, has_changed, is_beside, is_memory, reply_left}
+use Rattle.request_core.specs.Answers.{IsAllowed, IsRefusal, answer_of, has_changed, is_beside, is_memory, reply_left, watch_of}
 use Rattle.request_core.specs.Commands.{CarriesOut, Does, IsIssued, Moves, first_refusal}
 
 -- ---- the first of two refusals
@@ -58,8 +58,9 @@ raised-rose m n = by (nat_lt m n)
     by true = refl
     by false = refl
 
-none-made : (m n : ℕ) → n ≡ m → cond (nat_lt m n) (Some n) None ≡ None
-none-made m n e = ap (λ b. cond b (Some n) None) (le-ltb m n (omega (arith, e)))
+-- a number that has stayed did not rise
+pub none-raised : (n : ℕ) → raised_from n n ≡ None
+none-raised n = ap (λ b. cond b (Some n) None) (le-ltb n n (omega arith))
 
 -- a receipt tells of a change where there was one
 receipt-tells : (old mid new : CoreState) (t : Todo) (r : Receipt) → IsIssued old.store.revision t mid new r
@@ -98,8 +99,7 @@ does old new call r f =
                 (left ∙ ap (λ n. record { reply = reply_left t mid.store mid.store.revision; revision = n }) m.stands.revision_is));
             stands = subst (λ u. StandsFor new.store u) after (subst (λ s. StandsFor s m.after) (sym same) m.stands);
             raised = i.raised ∙ (λ j. raised_from (h.revision_is j) (m.stands.revision_is j)) ∙ ap (λ u. raised w u) after;
-            watch = i.unwatched ∙ sym (none-made w.made m.after.made (sym m.stands.made ∙ d.moves.watches ∙ h.made))
-                ∙ ap (λ u. number_made w u) after;
+            watch = i.watch ∙ sym d.moves.watches ∙ (λ j. raised_from (h.made j) (m.stands.made j)) ∙ ap (λ u. number_made w u) after;
           };
       readable = record {
         stamp = i.stamp;
@@ -109,25 +109,30 @@ does old new call r f =
       unchanged = λ none. i.counts ∙ ap (λ b. counted b mid) none
           ∙ d.moves.unchanged (sym (receipt-tells old mid new t r i) ∙ none);
       stamp = ap (λ (s : CoreState). s.stamp) i.counts ∙ ap (λ n. stamp_after (has_changed r) n) d.moves.stamp;
-      unwatched = i.unwatched;
+      watch = i.watch ∙ ap watch_of (sym i.todo);
       beside = λ w h. ap is_beside i.todo ∙ d.beside w h;
     }
 
+-- something changed besides the versions
+pub changed-beside : {X : Type 0} {x y : X} (b : Bool) → (b || true) ≡ false → x ≡ y
+changed-beside true e = let bad : true ≡ false = e in cc
+changed-beside false e = let bad : true ≡ false = e in cc
+
 -- a command that is only read for its answer
-pub read_moves : (s : CoreState) (b : Bool) → Moves s s b
-read_moves s b = record { unchanged = λ none. refl; stamp = refl; watches = refl }
+pub read_moves : (s : CoreState) (b : Bool) → Moves s s b None
+read_moves s b = record { unchanged = λ none. refl; stamp = refl; watches = none-raised s.store.made }
 
 -- ---- changes that are committed
 
 -- where versions were appended, the revision rose
-pub any_moves : (s : CoreState) (vs : List Version) (b : Bool) → Moves s (with_any s vs) b
+pub any_moves : (s : CoreState) (vs : List Version) (b : Bool) → Moves s (with_any s vs) b None
 any_moves s [] b = read_moves s b
 any_moves s (v ∷ vs) b = record {
   unchanged = λ none.
       let bad : true ≡ false
       = ap (λ c. c || b) (sym (lt-ltb s.store.revision (s.store.revision + 1) (omega arith))) ∙ none in cc;
   stamp = refl;
-  watches = refl;
+  watches = none-raised s.store.made;
 }
 
 -- a list is told by what stands before it and the two together

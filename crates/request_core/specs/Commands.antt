@@ -14,7 +14,7 @@ use Rattle.request_core.specs.declared.answer.Receipt.{Receipt}
 use Rattle.request_core.specs.declared.answer.Todo.{Todo}
 use Rattle.request_core.specs.State.{CoreState, counted, raised_from, stamp_after}
 use Rattle.request_core.specs.Answers.{IsAllowed, IsReadable, IsRefusal, answer_of, has_changed, is_beside, is_memory}
-use Rattle.request_core.specs.Answers.{expiry_view, has_expired, reply_left}
+use Rattle.request_core.specs.Answers.{expiry_view, has_expired, reply_left, watch_of}
 
 -- ---- a command that is accepted
 
@@ -36,8 +36,8 @@ pub record Does (old new : CoreState) (call : Call) (r : Receipt) : Type 0 where
   pub unchanged : has_changed r ≡ false → new ≡ old
   -- the command is counted where it changed something
   pub stamp : new.stamp ≡ stamp_after (has_changed r) old.stamp
-  -- it made no watch
-  pub unwatched : r.watch ≡ None
+  -- it has the number of the watch that the command made, if it made one
+  pub watch : r.watch ≡ watch_of r.todo
   -- it changed something besides the versions where it does so in the model
   pub beside : (w : World) → StandsFor old.store w → is_beside r.todo ≡ changes_beside w call
 
@@ -92,18 +92,19 @@ pub record Makes (w : World) (call : Call) (told : Reply) (new : Store) : Type 0
   pub made : made_in w call ≡ Ok (told, after)
   pub stands : StandsFor new after
 
--- a change that is not counted yet, and that is none where neither the revision rose nor something else changed
-pub record Moves (old new : CoreState) (beside : Bool) : Type 0 where
+-- a change that is not counted yet, and that is none where neither the revision rose nor something else changed, with the
+-- number of the watch that it made
+pub record Moves (old new : CoreState) (beside : Bool) (watch : Option ℕ) : Type 0 where
   pub unchanged : (nat_lt old.store.revision new.store.revision || beside) ≡ false → new ≡ old
   pub stamp : new.stamp ≡ old.stamp
-  pub watches : new.store.made ≡ old.store.made
+  pub watches : raised_from old.store.made new.store.made ≡ watch
 
 -- what a command has done, for which this is left to read, before it is counted
 pub record CarriesOut (old new : CoreState) (call : Call) (t : Todo) : Type 0 where
   pub makes : (w : World) → StandsFor old.store w → Makes w call (reply_left t new.store new.store.revision) new.store
   pub allowed : IsAllowed t new.store
   pub beside : (w : World) → StandsFor old.store w → is_beside t ≡ changes_beside w call
-  pub moves : Moves old new (is_beside t)
+  pub moves : Moves old new (is_beside t) (watch_of t)
 
 -- the receipt of a command that found a revision, left this to read in the first state, and is counted in the second
 pub record IsIssued (before : ℕ) (t : Todo) (old new : CoreState) (r : Receipt) : Type 0 where
@@ -111,5 +112,5 @@ pub record IsIssued (before : ℕ) (t : Todo) (old new : CoreState) (r : Receipt
   pub revision : r.revision ≡ new.store.revision
   pub stamp : r.stamp ≡ new.stamp
   pub raised : r.raised ≡ raised_from before old.store.revision
-  pub unwatched : r.watch ≡ None
+  pub watch : r.watch ≡ watch_of t
   pub counts : new ≡ counted (has_changed r) old

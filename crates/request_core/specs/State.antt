@@ -9,6 +9,7 @@ use Rattle.kv_model.specs.declared.version.Version.{Version}
 use Rattle.kv_model.specs.declared.version.KeyRange.{KeyRange}
 use Rattle.kv_model.specs.declared.call.PutRequest.{PutRequest}
 use Rattle.kv_model.specs.declared.call.DeleteRequest.{DeleteRequest}
+use Rattle.kv_model.specs.declared.call.Watched.{Watched}
 use Rattle.kv_model.specs.declared.refusal.Refusal.{Refusal}
 use Rattle.kv_model.specs.declared.refusal.Refusal.TheVariants.{RevisionsSpent}
 use Rattle.kv_model.specs.Calls.{Call, Ops}
@@ -26,6 +27,7 @@ use Rattle.store_laws.specs.Stands.{Store, Tracked, noted}
 use Rattle.watch_hub.specs.Hub.{Hub}
 use Rattle.store_laws.specs.Stores.{path_in, refusal_of_path, changes_of_path, refusal_of_delete, with_leases}
 use Rattle.store_laws.specs.Stores.{granted_lease, refusal_of_revoke, renewed_leases, at_store_moment}
+use Rattle.store_laws.specs.Stores.{tracked_made, with_watch}
 use Rattle.lease_book.specs.Book.{Book}
 use Rattle.range_view.specs.Stored.{Stored}
 use Rattle.txn_core.specs.KeyWrites.{held_refusal, put_version, IsCountedTo}
@@ -122,9 +124,9 @@ abbrev pub with_any : CoreState → List Version → CoreState
 with_any s [] = s
 with_any s (v ∷ vs) = with_versions s (v ∷ vs)
 
--- the revision that a command which found one revision raised the store to
+-- the number that another rose to, where it did
 abbrev pub raised_from : ℕ → ℕ → Option ℕ
-raised_from before revision = if nat_lt before revision then Some revision else None
+raised_from before n = if nat_lt before n then Some n else None
 
 -- ---- Put
 
@@ -170,6 +172,11 @@ added_by_txn s ops = map (txns.next_version s.versions) (changes_of_path s (path
 -- what an accepted transaction leaves: nothing has changed where it changes no key
 abbrev pub after_txn : CoreState → Ops → CoreState
 after_txn s ops = with_any s (added_by_txn s.store ops)
+
+-- ---- watches
+
+abbrev pub after_watch : CoreState → Watched → ℤ → ℤ → CoreState
+after_watch s watched start id = record s { store = with_watch s.store (tracked_made s.store watched start id) }
 
 -- ---- leases
 

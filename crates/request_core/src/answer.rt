@@ -78,19 +78,34 @@ pub enum Todo<'c> {
     },
     /// The IDs of all leases.
     Leases,
+    /// A watch that is made, with the client's number for it and the store's.
+    Watch {
+        id: i64,
+        number: u64,
+    },
 }
 
 impl Todo<'_> {
-    ghost use Rattle.request_core.specs.Answers.{is_beside};
+    ghost use Rattle.request_core.specs.Answers.{is_beside, watch_of};
 
     /// Whether the command changed something besides the versions.
     pub(crate) fn is_beside(&self) -> bool
         ensures { result ≡ is_beside self.now }
     {
         match self {
-            Todo::Grant { .. } | Todo::Revoke => true,
+            Todo::Grant { .. } | Todo::Revoke | Todo::Watch { .. } => true,
             Todo::KeepAlive { ttl, .. } => ttl.is_some(),
             _ => false,
+        }
+    }
+
+    /// The store's number of the watch that the command made, if it made one.
+    pub(crate) fn watch(&self) -> Option<u64>
+        ensures { result ≡ watch_of self.now }
+    {
+        match self {
+            Todo::Watch { number, .. } => Some(*number),
+            _ => None,
         }
     }
 }
@@ -146,6 +161,13 @@ pub enum Answer<'a> {
         revision: u64,
         /// The IDs of the granted leases, ascending.
         ids: Vec<i64>,
+    },
+    Watch {
+        revision: u64,
+        /// The client's number for the watch.
+        id: i64,
+        /// The store's.
+        number: u64,
     },
 }
 

@@ -123,8 +123,8 @@ impl Core {
     /// stands for the world after it, and the receipt's `raised` is the model's (`accepted`). The
     /// receipt can be answered on the new state (`readable`). Where it says that nothing has
     /// changed, the core is as it was (`unchanged`), and where something has, the stamp is one more
-    /// (`stamp`). No watch is made (`unwatched`), and something besides the versions changed where
-    /// the model changes it (`beside`).
+    /// (`stamp`). It has the number of a watch where it made one (`watch`), and something besides
+    /// the versions changed where the model changes it (`beside`).
     ///
     /// What a refused one left is another, `Refuses`: the refusal is the model's, or memory was
     /// wanting (`refused`), which it never is where the command takes none (`free`), and the core
@@ -136,10 +136,11 @@ impl Core {
     /// keeps what it also gives, `KeyMissing` where it keeps what is not there, and `LeaseMissing`
     /// where it names a lease that is not granted; of a grant, `TtlTooLarge` above 9,000,000,000
     /// seconds, `LeaseExists` for an ID in use and `TooManyLeases` where 65,536 are granted; of a
-    /// revoke, `LeaseMissing`; and last `RevisionsSpent` where a change would need a revision above
-    /// the greatest. `Memory` comes where a list, a copy or the place of a lease found none, and
-    /// may come in place of `RevisionsSpent`; a Range, a keepalive, a time to live and the list of
-    /// leases take none here.
+    /// revoke, `LeaseMissing`; of a watch, `TooManyWatches` where 1,024 stand or 2^63 - 1 were made;
+    /// and last `RevisionsSpent` where a change would need a revision above the greatest. `Memory`
+    /// comes where a list, a copy or the place of a lease or a watch found none, and may come in
+    /// place of `RevisionsSpent`; a Range, a keepalive, a time to live and the list of leases take
+    /// none here.
     ///
     /// A Txn is first refused for what hangs on it alone, also in branches that do not run, and a
     /// transaction before its parts: `TooDeep` where it lies in eight others, `TooManyOps` where it
@@ -156,7 +157,8 @@ impl Core {
     /// the time of a read or a write by itself; all its changes stand in one revision. All this is
     /// but for the growth of a list. A grant and a keepalive are logarithmic in the number of
     /// leases. A revoke looks up the keys that were put under the lease, each in such time, and
-    /// deletes those that still are in one revision.
+    /// deletes those that still are in one revision. A watch takes the time of
+    /// `WatchHub::create`.
     pub fn apply<'c>(&mut self, command: &'c Command) -> Result<Receipt<'c>, Refusal>
         ensures done { IfOk result (λ r. Does self.old self.new (call_of command.now) r) }
         ensures refused { IfErr result (λ e. Refuses self.old self.new (call_of command.now) e) }
@@ -201,6 +203,7 @@ impl Core {
             Command::Put(request) => self.apply_put(request, sink),
             Command::Delete(request) => self.apply_delete(request, sink),
             Command::Txn(txn) => self.apply_txn(txn, sink),
+            Command::Watch { watched, start, id } => self.apply_watch(watched, *start, *id),
             Command::Grant { ttl, id } => self.apply_grant(*ttl, *id),
             Command::Revoke { id } => self.apply_revoke(*id, sink),
             Command::KeepAlive { id } => Ok(self.apply_keep_alive(*id)),
@@ -213,7 +216,7 @@ impl Core {
     /// and copies none.
     ///
     /// `AllocError` comes where the list of an answer, or the sort of a Range, found no memory; so
-    /// never to a Put, a grant, a revoke or a keepalive. What a delete showed is read at the end of
+    /// never to a Put, a grant, a revoke, a keepalive or a watch. What a delete showed is read at the end of
     /// the revision before its own, and each operation of a transaction is read before its own
     /// changes. The keys of a lease are found by an index, and no others are walked but those that
     /// were put under it.
@@ -255,6 +258,11 @@ impl Core {
             Todo::Leases => Ok(Answer::Leases {
                 revision: receipt.revision,
                 ids: self.book.ids()?,
+            }),
+            Todo::Watch { id, number } => Ok(Answer::Watch {
+                revision: receipt.revision,
+                id: *id,
+                number: *number,
             }),
         }
     }

@@ -1,7 +1,12 @@
-//! The store before its first command.
+//! The store before its first command, and what its watches are told.
 use crate::views::crosses;
-use request_core::answer::Status;
+use bytes::Bytes;
+use kv_model::call::{Command, PutRequest, Watched};
+use kv_model::refusal::Refusal;
+use kv_model::version::KeyRange;
+use request_core::answer::{Answer, Status};
 use request_core::store::Core;
+use watch_hub::Delivery;
 
 #[test]
 fn a_fresh_core(rt: HostRuntime) {
@@ -20,4 +25,109 @@ fn a_fresh_core(rt: HostRuntime) {
 #[test]
 fn a_core_crosses_threads(rt: HostRuntime) {
     crosses(Core::new(rt.alloc()));
+}
+
+fn put_a() -> Command {
+    Command::Put(PutRequest {
+        key: Bytes::from_static(b"a"),
+        value: Bytes::from_static(b"1"),
+        lease: 0,
+        prev_kv: false,
+        ignore_value: false,
+        ignore_lease: false,
+    })
+}
+
+/// A watch of the key a from the next revision on.
+fn watch_a() -> Command {
+    Command::Watch {
+        watched: Watched {
+            range: KeyRange {
+                key: Bytes::from_static(b"a"),
+                end: Bytes::new(),
+            },
+            no_put: false,
+            no_delete: false,
+            prev_kv: true,
+        },
+        start: 0,
+        id: 5,
+    }
+}
+
+/// The revision after a command, the number of a watch that it made, and whether its answer has both.
+type Done = Result<(u64, Option<u64>, bool), Refusal>;
+
+fn done(core: &mut Core, command: Command) -> Done {
+    let found = match core.apply(&command) {
+        Ok(receipt) => {
+            let is_told = match core.answer(&receipt) {
+                Ok(
+                    Answer::Watch {
+                        revision,
+                        id,
+                        number,
+                    },
+                ) => revision == receipt.revision && id == 5 && Some(number) == receipt.watch,
+                Ok(_) => receipt.watch.is_none(),
+                Err(_) => false,
+            };
+            Ok((receipt.revision, receipt.watch, is_told))
+        }
+        Err(refusal) => Err(refusal),
+    };
+    drop(command);
+    found
+}
+
+/// The main revision of the first event that a watch is told of next, and that of the key-value before it.
+type Told = Result<Option<(u64, Option<u64>)>, Refusal>;
+
+fn first_of(delivery: &Delivery<'_>) -> Option<(u64, Option<u64>)> {
+    match delivery {
+        Delivery::Events(events) => match events.first() {
+            Some(event) => match event.previous {
+                Some(kv) => Some((event.version.rev.main, Some(kv.modified))),
+                None => Some((event.version.rev.main, None)),
+            },
+            None => None,
+        },
+        _ => None,
+    }
+}
+
+/// What a watch is told next; then it goes on behind that.
+fn told(core: &mut Core, number: u64) -> Told {
+    let found = match core.deliver(number) {
+        Ok(delivery) => Ok(first_of(&delivery)),
+        Err(refusal) => Err(refusal),
+    };
+    core.advance(number);
+    found
+}
+
+#[test]
+fn a_core_tells_its_watches(rt: HostRuntime) {
+    let mut core = Core::new(rt.alloc());
+    let made = [
+        done(&mut core, put_a()),
+        done(&mut core, watch_a()),
+        done(&mut core, put_a()),
+    ];
+    let deliveries = [told(&mut core, 1), told(&mut core, 1), told(&mut core, 2)];
+    let ended = [core.cancel(1), core.cancel(1)];
+    drop(core);
+    assert_eq!(rt;
+        made,
+        [
+            Ok((2, None, true)),
+            Ok((2, Some(1), true)),
+            Ok((3, None, true))
+        ]
+    );
+    assert_eq!(rt;
+        deliveries,
+        [Ok(Some((3, Some(2)))), Ok(None), Err(Refusal::NoWatch)]
+    );
+    assert_eq!(rt; ended, [Ok(()), Err(Refusal::NoWatch)]);
 }

@@ -17,6 +17,8 @@ mod leases;
 #[cfg(test)]
 mod plans;
 #[cfg(test)]
+mod spans;
+#[cfg(test)]
 mod table;
 #[cfg(test)]
 mod trims;

@@ -20,7 +20,7 @@ impl Core {
             stamp: self.stamp,
             revision,
             raised,
-            watch: None,
+            watch: todo.watch(),
             todo,
         }
     }

@@ -1,18 +1,53 @@
-//! Watches: what each is told next, how it goes on behind that, and how it ends.
+//! Watches: how one is made, what each is told next, how it goes on behind that, and how it ends.
 ghost use Rattle.kv_model.specs.declared.refusal.Refusal.TheVariants.{NoWatch};
 ghost use Rattle.kv_model.specs.Watches.{deliver, Delivery as ModelDelivery};
 ghost use Rattle.kv_model.specs.World.{World, watch_at, without_watch};
-ghost use Rattle.std.specs.Prelude.{◌≡◌, ⊤, is_ok, is_some, IfOk, IfErr, OnErr, MatchBool};
+ghost use Rattle.std.specs.Prelude.{◌≡◌, ◌+◌, ⊤, None, is_ok, is_some, IfOk, IfErr, OnOk};
+ghost use Rattle.std.specs.Prelude.{OnErr, MatchBool};
 ghost use Rattle.store_laws.specs.Stands.{StandsFor};
+ghost use Rattle.store_laws.specs.Stores.{refusal_of_watch};
 ghost use Rattle.watch_hub.specs.Messages.{delivery_view};
 
 use super::Core;
+use crate::answer::Todo;
+use kv_model::call::Watched;
 use kv_model::refusal::Refusal;
 use watch_hub::Delivery;
 
 impl Core {
-    ghost use Rattle.request_core.specs.Answers.{is_memory};
-    ghost use Rattle.request_core.specs.State.{with_watches};
+    ghost use Rattle.kv_model.specs.Calls.{Call};
+    ghost use Rattle.request_core.specs.Answers.{IsRefusal, is_memory};
+    ghost use Rattle.request_core.specs.Commands.{CarriesOut, Refuses};
+    ghost use Rattle.request_core.specs.State.{after_watch, with_watches};
+
+    /// A watch takes a place of the hub.
+    pub(crate) fn apply_watch<'c>(
+        &mut self,
+        watched: &Watched,
+        start: i64,
+        id: i64,
+    ) -> Result<Todo<'c>, Refusal>
+        ensures done { IfOk result
+            (λ t. CarriesOut self.old self.new (Call.watch watched.now start id) t) }
+        ensures refused { IfErr result
+            (λ e. Refuses self.old self.new (Call.watch watched.now start id) e) }
+    {
+        match self.watch(watched, start, id) {
+            Ok(number) => Ok(Todo::Watch { id, number }),
+            Err(refusal) => Err(refusal),
+        }
+    }
+
+    /// Makes a watch, and tells its number.
+    fn watch(&mut self, watched: &Watched, start: i64, id: i64) -> Result<u64, Refusal>
+        ensures allowed { OnOk result (refusal_of_watch self.old.store ≡ None) }
+        ensures made { OnOk result (self.new ≡ after_watch self.old watched.now start id) }
+        ensures number { IfOk result (λ n. n ≡ self.old.store.made + 1) }
+        ensures refused { IfErr result (λ e. IsRefusal e (refusal_of_watch self.old.store)) }
+        ensures err { OnErr result (self.new ≡ self.old) }
+    {
+        self.hub.create(&self.tables, watched, start, id)
+    }
 
     /// What the watch of a number is told next (the etcd documentation's Watch): nothing where it
     /// is caught up, the events of whole revisions, or that it is cancelled since what it still had

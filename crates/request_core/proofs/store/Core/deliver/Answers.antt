@@ -2,7 +2,6 @@ use Rattle.std.proofs.Common.{◌≡◌, subst}
 use Rattle.std.specs.Prelude.{IfOk, IfErr}
 use Rattle.request_core.specs.State.{CoreState, core_state}
 use Rattle.request_core.proofs.Watching.{IsUntold, told_worlds, untold_worlds}
-use Rattle.watch_hub.specs.declared.delivery.Delivery.{Delivery}
 use Rattle.watch_hub.specs.Messages.{delivery_view}
 use Rattle.kv_model.specs.World.{World}
 use Rattle.kv_model.specs.Watches.{deliver}
