@@ -1,6 +1,6 @@
 //! The versions of one key, one after another.
 ghost use Rattle.std.specs.Prelude.{◌≡◌, ◌+◌, ◌-◌, ◌^◌, ◌<◌, [], ◌∷◌, ◌&&◌, drop, filter, nat_le};
-ghost use Rattle.std.specs.Prelude.{MatchOption, IfSome, option_copied};
+ghost use Rattle.std.specs.Prelude.{MatchOption, IfSome};
 ghost use Rattle.std.specs.List.{slice_get};
 ghost use Rattle.kv_model.specs.Keys.{same_key};
 ghost use Rattle.key_index.specs.KeyRevisions.{count_before};

@@ -1,6 +1,5 @@
 -- The version at the revision is the next one.
-use Rattle.std.proofs.Common.{◌+◌, ◌∙◌, sym, ap, drop, List}
-use Rattle.kv_model.specs.declared.version.Version.{Version}
+use Rattle.std.proofs.Common.{◌+◌, ◌∙◌, sym, ap, drop}
 use Rattle.range_view.specs.OneKey.{held, led_by, standing_at}
 use Rattle.range_view.proofs.OneKey.{led, standing-end, standing-step}
 use Rattle.range_view.proofs.key_versions.version_at.Goals as goal

@@ -1,6 +1,5 @@
 -- The index gives just the revisions of the key's versions.
-use Rattle.std.proofs.Common.{[], ◌∙◌, ap, drop, List, unwrap_or}
-use Rattle.kv_model.specs.declared.version.Rev.{Rev}
+use Rattle.std.proofs.Common.{[], ◌∙◌, ap, drop, unwrap_or}
 use Rattle.key_index.specs.KeyRevisions.{count_before}
 use Rattle.range_view.specs.OneKey.{held, standing_at}
 use Rattle.range_view.proofs.OneKey.{standing-from}
