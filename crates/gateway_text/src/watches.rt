@@ -1,13 +1,11 @@
 //! The bodies of what watches are told (the etcd documentation's WatchResponse and Event).
 //!
 //! Each function here fails for want of memory alone, and costs as those of the other answers do.
-ghost use Rattle.std.specs.Prelude.{◌≡◌, ℕ, ◌++◌, Some, codes, map, option_map, IfOk, OnOk};
+ghost use Rattle.std.specs.Prelude.{◌≡◌, ℕ, ◌++◌, Some, codes, map, IfOk, OnOk};
 ghost use Rattle.kv_model.specs.Told as told;
 ghost use Rattle.kv_model.specs.Answers as texts;
 ghost use Rattle.kv_model.specs.Answers.{answered, message_text};
-ghost use Rattle.kv_model.specs.History.{key_value};
 ghost use Rattle.kv_model.specs.Watches as watches;
-ghost use Rattle.range_view.specs.Replies.{kv_view};
 ghost use Rattle.watch_hub.specs.Messages.{event_view};
 ghost use Rattle.gateway_text.specs.Tokens.{data_tokens, field_tokens};
 ghost use Rattle.gateway_text.specs.Views.{cancelled_data, created_data, events_data};
@@ -19,7 +17,7 @@ use crate::json_text::{JsonText, WriteJson};
 use crate::key_value::room_of_kv;
 use kv_model::ids::Ids;
 use kv_model::version::{Body, Version};
-use range_view::reply::KvRef;
+use range_view::reply::key_value_of;
 use std::alloc::{AllocError, Global};
 use watch_hub::Event;
 
@@ -214,32 +212,10 @@ impl WriteJson for Version {
     ghost value = { λ v. version_text v (key_value v) };
 
     fn write_json(&self, out: &mut JsonText) -> Result<(), AllocError> {
-        match put_of(self) {
+        match key_value_of(self) {
             Some(kv) => kv.write_json(out),
             None => write_tombstone(out, self),
         }
-    }
-}
-
-/// The key-value of a put; none of a tombstone.
-fn put_of(version: &Version) -> Option<KvRef<'_>>
-    ensures { option_map kv_view result ≡ key_value version.now }
-{
-    match &version.body {
-        Body::Put {
-            create,
-            version: number,
-            lease,
-            value,
-        } => Some(KvRef {
-            key: version.key.as_slice(),
-            value: value.as_slice(),
-            create: *create,
-            modified: version.rev.main,
-            version: *number,
-            lease: *lease,
-        }),
-        Body::Gone => None,
     }
 }
 
@@ -263,7 +239,7 @@ fn room_of_events(events: &[Event<'_>]) -> usize {
 }
 
 fn room_of_event(event: &Event<'_>) -> usize {
-    let kv = match put_of(event.version) {
+    let kv = match key_value_of(event.version) {
         Some(kv) => room_of_kv(&kv),
         None => (event.version.key.len() / 3 + 1)
             .saturating_mul(4)

@@ -4,7 +4,7 @@ use Rattle.std.proofs.Common.{cond, drop, find, Option, None, Some, option_map, 
 use Rattle.std.proofs.lemmas.Bool.Decides.{nat_tests}
 use Rattle.std.proofs.lemmas.List.{append-nil}
 use Rattle.std.proofs.lemmas.Option.{slice_get_read}
-use Rattle.std.specs.Prelude.{option_to_list}
+use Rattle.std.specs.Prelude.{nat_lt, option_to_list}
 use Rattle.std.specs.Option.{option_or}
 use Rattle.std.specs.Slice.{IsGetResult}
 use Rattle.std.specs.List.{AllByRecursion, slice_get}
@@ -13,7 +13,7 @@ use Rattle.kv_model.specs.declared.version.Rev.{Rev}
 use Rattle.kv_model.specs.Lists.{is_empty}
 use Rattle.kv_model.specs.History.{rev_lt, rev_le}
 use Rattle.store_laws.specs.Rising.{is_of}
-use Rattle.store_laws.proofs.RevOrder.{rev_lt-up_to, rev_lt-beyond, rev_lt-opposite, is_rev-same}
+use Rattle.store_laws.proofs.RevOrder.{rev_lt-main, rev_lt-up_to, rev_lt-beyond, rev_lt-opposite, is_rev-same}
 use Rattle.store_laws.proofs.Rising as rising
 use Rattle.key_index.specs.KeyRevisions.{IsRising, newest, ends_in, at_place, undone, count_up_to, is_oldest, without}
 
@@ -154,6 +154,11 @@ at_place-none p qs (suc n) r e h = absurd (h (omega arith))
 -- what is not after a place comes before what is
 pub partitioned : (p : Rev) (qs : List Rev) → IsRising qs → IsPartitionedBy (λ q. rev_le q p) qs
 partitioned p = rising.partitioned (λ q. q) (λ q. rev_le q p) (λ q r h g. rev_lt-up_to q r p h g)
+
+-- what is of an earlier main revision comes before what is not
+pub mains-partitioned : (main : ℕ) (qs : List Rev) → IsRising qs → IsPartitionedBy (λ q. nat_lt q.main main) qs
+mains-partitioned main =
+    rising.partitioned (λ q. q) (λ q. nat_lt q.main main) (λ q r h g. let l : q.main ≤ r.main = rev_lt-main q r h in grind (arith, nat_tests))
 
 -- ---- what is after a place
 

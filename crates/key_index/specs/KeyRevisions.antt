@@ -1,5 +1,5 @@
 -- The revisions of one key, in order.
-use Rattle.std.specs.Prelude.{ℕ, List, [], ◌∷◌, Bool, true, false, not, ◌&&◌, ◌==◌, ◌≤◌, nat_le}
+use Rattle.std.specs.Prelude.{ℕ, List, [], ◌∷◌, Bool, true, false, not, ◌&&◌, ◌==◌, ◌≤◌, nat_le, nat_lt}
 use Rattle.std.specs.Prelude.{Option, None, Some, filter, if◌then◌else◌}
 use Rattle.std.specs.List.{AllByRecursion, find, slice_get}
 use Rattle.kv_model.specs.declared.version.Rev.{Rev}
@@ -29,6 +29,10 @@ abbrev pub count_up_to : Rev → List Rev → ℕ
 count_up_to p qs = rising.count_while (λ q. rev_le q p) qs
 
 -- ---- main revisions
+
+-- how many revisions are of an earlier main revision, where they rise
+abbrev pub count_before : ℕ → List Rev → ℕ
+count_before main qs = rising.count_while (λ q. nat_lt q.main main) qs
 
 -- the last one is of this main revision
 abbrev pub ends_in : ℕ → List Rev → Bool

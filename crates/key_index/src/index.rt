@@ -1,7 +1,8 @@
 //! From each key to its revisions (etcd: the tree index of keys).
-ghost use Rattle.std.specs.Prelude.{◌≡◌, ◌↔◌, [], map, OnOk, OnErr, IfOk, IsTrue};
+ghost use Rattle.std.specs.Prelude.{◌≡◌, ◌↔◌, [], map, option_copied, OnOk, OnErr, IfOk};
+ghost use Rattle.std.specs.Prelude.{IsTrue};
 ghost use Rattle.key_index.specs.KeyRevisions.{IsBehind, after_place, at_place};
-ghost use Rattle.key_index.specs.Index.{IsIndex, in_interval, is_up_to, revisions};
+ghost use Rattle.key_index.specs.Index.{IsIndex, found, in_interval, is_up_to, revisions};
 ghost use Rattle.key_index.specs.Index.{retracted, retracted_newest, undone_at};
 ghost use Rattle.key_index.specs.Index.{with_revision, without_front, without_revision};
 
@@ -142,6 +143,14 @@ impl KeyIndex {
         ensures { self.new ≡ without_revision key.now rev self.old }
     {
         changes::drop_at(&mut self.keys, key, rev);
+    }
+
+    /// The revisions of a key, lent: none where the index has not the key. Takes no memory, and time
+    /// logarithmic in the number of keys.
+    pub fn get(&self, key: &Bytes) -> Option<&Revisions>
+        ensures { option_copied result ≡ found key.now self.now }
+    {
+        self.keys.get(key)
     }
 
     /// The first revision of a key after a place, also where it is a tombstone. Takes no memory.

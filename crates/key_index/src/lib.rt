@@ -18,6 +18,8 @@
 //! at 3.7                 3.0, the last one that is not after it
 //! at 4.5                 4.0, whose version is a tombstone: foo holds nothing there
 //! after 3.0              4.0, the first one after it
+//! count_before 4         2, as 2.0 and 3.0 are of an earlier main
+//! get 2                  4.0, with two before it
 //! remove 2.0             3.0 4.0 5.0 6.0, as a trimming step does after a compaction at 3
 //! retract 6 of foo       3.0 4.0 5.0, since no key has a revision of a later main
 //! drop_front             4.0 5.0

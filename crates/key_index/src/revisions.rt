@@ -1,12 +1,12 @@
 //! The revisions of one key, in order (etcd: data model, generations of a key).
 ghost use Rattle.std.specs.Prelude.{◌≡◌, ◌↔◌, List, [], ◌∷◌, ◌++◌, drop};
-ghost use Rattle.std.specs.Prelude.{IfOk, OnOk, OnErr, IsTrue};
+ghost use Rattle.std.specs.Prelude.{◌<◌, ◌-◌, ◌^◌, IfOk, IfSome, OnOk, OnErr, IsTrue};
 ghost use Rattle.std.specs.List.{slice_get};
 ghost use Rattle.kv_model.specs.Lists.{is_empty};
 ghost use Rattle.kv_model.specs.History.{rev_lt, rev_le};
 ghost use Rattle.key_index.specs.KeyRevisions.{IsBehind, IsRising, after_place, at_place};
-ghost use Rattle.key_index.specs.KeyRevisions.{count_up_to, ends_in, ends_up_to, is_oldest};
-ghost use Rattle.key_index.specs.KeyRevisions.{is_rev, newest, undone, without};
+ghost use Rattle.key_index.specs.KeyRevisions.{count_before, count_up_to, ends_in, ends_up_to};
+ghost use Rattle.key_index.specs.KeyRevisions.{is_oldest, is_rev, newest, undone, without};
 
 use kv_model::version::Rev;
 use std::alloc::{AllocError, Global};
@@ -97,6 +97,31 @@ impl Revisions {
                 }
             }
             Held::Many(revisions) => after(revisions, place),
+        }
+    }
+
+    /// How many of the revisions are of an earlier main revision. Takes no memory.
+    ///
+    /// It halves: the time is logarithmic in the number of the key's revisions.
+    pub fn count_before(&self, main: u64) -> usize
+        ensures { result ≡ count_before main self.now }
+    {
+        match &self.held {
+            Held::Nothing => 0,
+            Held::One(only) => { if only.main < main { 1 } else { 0 } }
+            Held::Many(revisions) => count_before(revisions, main),
+        }
+    }
+
+    /// The revision at an index, where the oldest one has the index 0. Constant time.
+    pub fn get(&self, index: usize) -> Option<Rev>
+        ensures value { result ≡ slice_get self.now index }
+        ensures bound { IfSome result (λ _. index < 2 ^ 64 - 1) }
+    {
+        match &self.held {
+            Held::Nothing => None,
+            Held::One(only) => { if index == 0 { Some(*only) } else { None } }
+            Held::Many(revisions) => rev_at(revisions, index),
         }
     }
 
@@ -324,7 +349,8 @@ fn is_up_to(left: Rev, right: Rev) -> bool
 
 /// The revision at an index.
 fn rev_at(revisions: &VecDeque<Rev>, place: usize) -> Option<Rev>
-    ensures { result ≡ slice_get revisions.now.items place }
+    ensures value { result ≡ slice_get revisions.now.items place }
+    ensures bound { IfSome result (λ _. place < 2 ^ 64 - 1) }
 {
     revisions.get(place).copied()
 }
@@ -352,4 +378,12 @@ fn count_up_to(revisions: &VecDeque<Rev>, place: Rev) -> usize
     ensures { result ≡ count_up_to place revisions.now.items }
 {
     revisions.partition_point(|rev| is_up_to(*rev, place))
+}
+
+/// How many of the revisions, which rise, are of an earlier main revision. It halves.
+fn count_before(revisions: &VecDeque<Rev>, main: u64) -> usize
+    requires { IsRising revisions.now.items }
+    ensures { result ≡ count_before main revisions.now.items }
+{
+    revisions.partition_point(|rev| rev.main < main)
 }

@@ -1,5 +1,6 @@
 pub mod Growing
 pub mod Live
+pub mod OneKey
 pub mod Orders
 pub mod Selecting
 pub mod Sorting

@@ -1,3 +1,4 @@
 pub mod Replies
 pub mod Selecting
 pub mod Stored
+pub mod OneKey

@@ -16,6 +16,7 @@
 //! view().get a                      a=2, created at 2, modified at 4, version 2
 //! view_at(3.0).get a                a=1: its last version that is not after 3.0
 //! view().range a..c limit 1         a=2, count 2, more
+//! versions_of a from 3              4 put a=2; of a from 2 2 put a=1 before it
 //! view().range a at revision 3      a=1
 //! view().range a at revision 5      refused: Future(4)
 //! compact(4), view().range a at 3   refused: Compacted(4)
@@ -26,6 +27,7 @@
 
 mod filter;
 mod growth;
+pub mod key_versions;
 mod order;
 pub mod reply;
 pub mod revision;
@@ -33,6 +35,7 @@ mod select;
 pub mod tables;
 pub mod view;
 
+pub use key_versions::KeyVersions;
 pub use reply::{KvRef, RangeReply};
 pub use tables::Tables;
 pub use view::View;

@@ -1,4 +1,9 @@
 //! What a read lends.
+ghost use Rattle.std.specs.Prelude.{◌≡◌, option_map};
+ghost use Rattle.kv_model.specs.History.{key_value};
+ghost use Rattle.range_view.specs.Replies.{kv_view};
+
+use kv_model::version::{Body, Version};
 
 /// A live key, lent from the version that holds it (the etcd documentation's KeyValue).
 #[derive(Clone, Copy, Debug)]
@@ -47,4 +52,27 @@ pub enum OpReply<'a> {
         /// The answers to the operations of the branch that ran, in order.
         replies: Vec<OpReply<'a>>,
     },
+}
+
+/// The key-value of a put, lent from its version; nothing for a tombstone. Constant time. Takes no
+/// memory.
+pub fn key_value_of(version: &Version) -> Option<KvRef<'_>>
+    ensures { option_map kv_view result ≡ key_value version.now }
+{
+    match &version.body {
+        Body::Put {
+            create,
+            version: number,
+            lease,
+            value,
+        } => Some(KvRef {
+            key: version.key.as_slice(),
+            value: value.as_slice(),
+            create: *create,
+            modified: version.rev.main,
+            version: *number,
+            lease: *lease,
+        }),
+        Body::Gone => None,
+    }
 }

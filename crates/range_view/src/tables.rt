@@ -1,6 +1,8 @@
 //! What a store keeps: the versions, the index of their keys, and the numbers that stand beside
 //! them (etcd: data model).
 ghost use Rattle.std.specs.Prelude.{◌≡◌, ◌<◌, ◌≤◌, ◌-◌, ◌==◌, ◌&&◌, nat_lt, true, OnOk, OnErr};
+ghost use Rattle.std.specs.Prelude.{filter, nat_le};
+ghost use Rattle.kv_model.specs.Keys.{same_key};
 ghost use Rattle.kv_model.specs.History.{end_of};
 ghost use Rattle.store_laws.specs.Stands.{first_main_of};
 ghost use Rattle.version_table.specs.Rising.{retracted};
@@ -10,8 +12,10 @@ ghost use Rattle.range_view.specs.Stored.{trim_of, trimmed_once};
 ghost use Rattle.trim_core.specs.Steps.{told_of};
 
 use crate::growth::{add_all, take_back};
+use crate::key_versions::KeyVersions;
 use crate::revision::end_of;
 use crate::view::View;
+use bytes::Bytes;
 use key_index::KeyIndex;
 use kv_model::version::{Rev, Version};
 use std::alloc::{AllocError, Global};
@@ -110,6 +114,19 @@ impl Tables {
         ensures stored { IsStored self.now }
     {
         self.table.as_slice()
+    }
+
+    /// The versions of a key from a revision on, the oldest first, lent one after another. It goes
+    /// by the index of keys, and comes by no version of another key. Takes no memory.
+    ///
+    /// The time is logarithmic in the number of keys and in that of the key's revisions, and that
+    /// of each step logarithmic in the number of versions.
+    pub fn versions_of(&self, key: &Bytes, next: u64) -> KeyVersions<'_>
+        ensures value { result ≡ filter
+            (λ v. nat_le next v.rev.main && same_key v.key key.now) self.now.versions }
+        ensures stored { IsStored self.now }
+    {
+        KeyVersions::new(&self.table, &self.index, key, next)
     }
 
     /// The revision of the last compaction, 0 before the first.

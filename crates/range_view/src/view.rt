@@ -1,7 +1,7 @@
 //! What is kept, read at a place (the etcd documentation's RangeRequest and RangeResponse).
 ghost use Rattle.std.specs.Prelude.{◌≡◌, IfOk, IfErr, MatchOption, option_map, filter_map, map};
 ghost use Rattle.kv_model.specs.Keys.{one_key};
-ghost use Rattle.kv_model.specs.History.{key_value, value_at};
+ghost use Rattle.kv_model.specs.History.{value_at};
 ghost use Rattle.kv_model.specs.Ranges.{range_reply, read_place, revision_refusal, live};
 ghost use Rattle.version_table.specs.Rising.{IsRising};
 ghost use Rattle.key_index.specs.Agrees.{read_at, read_entry};
@@ -10,14 +10,14 @@ ghost use Rattle.range_view.specs.Replies.{kv_view, reply_view};
 ghost use Rattle.range_view.specs.Selecting.{IsFound};
 ghost use Rattle.range_view.specs.Stored.{AreTied};
 
-use crate::reply::{KvRef, RangeReply};
+use crate::reply::{KvRef, RangeReply, key_value_of};
 use crate::revision::{read_place, revision_refusal};
 use crate::select::Found;
 use bytes::Bytes;
 use key_index::{Indexed, KeyIndex};
 use kv_model::call::RangeQuery;
 use kv_model::refusal::Refusal;
-use kv_model::version::{Body, KeyRange, Rev, Version};
+use kv_model::version::{KeyRange, Rev};
 use std::alloc::{AllocError, Global};
 use std::marker::Model;
 use version_table::VersionTable;
@@ -46,28 +46,6 @@ impl<'a> Model for View<'a> {
     } };
 
     ghost invariant = { λ v. AreTied v.index.now v.table.now };
-}
-
-/// The key-value that a version shows, nothing where it is a tombstone.
-fn shown(version: &Version) -> Option<KvRef<'_>>
-    ensures { option_map kv_view result ≡ key_value version.now }
-{
-    match &version.body {
-        Body::Put {
-            create,
-            version: number,
-            lease,
-            value,
-        } => Some(KvRef {
-            key: version.key.as_slice(),
-            value: value.as_slice(),
-            create: *create,
-            modified: version.rev.main,
-            version: *number,
-            lease: *lease,
-        }),
-        Body::Gone => None,
-    }
 }
 
 impl<'a> View<'a> {
@@ -261,7 +239,7 @@ fn held(table: &VersionTable, rev: Rev) -> Option<KvRef<'_>>
     ensures rising { IsRising table.now }
 {
     match table.get(rev) {
-        Some(version) => shown(version),
+        Some(version) => key_value_of(version),
         None => None,
     }
 }

@@ -197,3 +197,46 @@ fn takes_out_one_revision(rt: HostRuntime) {
         [Some((4, 0)), Some((4, 0)), Some((4, 0)), None]
     );
 }
+
+/// How many revisions of a key are of an earlier main revision, and the first that is not.
+type From = Option<(usize, Option<(u64, u64)>)>;
+
+fn from(index: &KeyIndex, letter: &'static [u8], main: u64) -> From {
+    let key = Bytes::from_static(letter);
+    let found = match index.get(&key) {
+        Some(revisions) => {
+            let before = revisions.count_before(main);
+            Some((before, pair(revisions.get(before))))
+        }
+        None => None,
+    };
+    drop(key);
+    found
+}
+
+#[test]
+fn lists_the_revisions_of_a_key(rt: HostRuntime) {
+    let index = index(rt.alloc());
+    let found = [
+        from(&index, b"a", 0),
+        from(&index, b"a", 3),
+        from(&index, b"a", 5),
+        from(&index, b"a", 7),
+        from(&index, b"c", 6),
+        from(&index, b"c", 7),
+        from(&index, b"x", 0),
+    ];
+    drop(index);
+    assert_eq!(rt;
+        found,
+        [
+            Some((0, Some((2, 0)))),
+            Some((1, Some((3, 0)))),
+            Some((3, Some((6, 1)))),
+            Some((4, None)),
+            Some((0, Some((6, 2)))),
+            Some((1, None)),
+            None
+        ]
+    );
+}

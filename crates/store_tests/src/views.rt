@@ -4,7 +4,8 @@ use bytes::Bytes;
 use kv_model::call::{RangeQuery, SortOrder, SortTarget};
 use kv_model::refusal::Refusal;
 use kv_model::version::KeyRange;
-use range_view::reply::RangeReply;
+use range_view::KeyVersions;
+use range_view::reply::{RangeReply, key_value_of};
 use range_view::revision::end_of;
 use range_view::tables::Tables;
 use std::alloc::{AllocError, Global};
@@ -227,6 +228,54 @@ fn takes_a_revision_back(rt: HostRuntime) {
     let version = version_at(&tables, 5, b"c");
     drop(tables);
     assert_eq!(rt; (kept, left, version), (6, (5, 4), Some(1)));
+}
+
+/// The main revision of a version, and of a put its number in the key's life.
+type Walked = Option<(u64, Option<u64>)>;
+
+fn step(versions: &mut KeyVersions<'_>) -> Walked {
+    match versions.next() {
+        Some(version) => match key_value_of(version) {
+            Some(kv) => Some((version.rev.main, Some(kv.version))),
+            None => Some((version.rev.main, None)),
+        },
+        None => None,
+    }
+}
+
+/// The first three versions of a key from a revision on.
+fn walked(tables: &Tables, key: &'static [u8], next: u64) -> [Walked; 3] {
+    let key = Bytes::from_static(key);
+    let mut versions = tables.versions_of(&key, next);
+    let steps = [
+        step(&mut versions),
+        step(&mut versions),
+        step(&mut versions),
+    ];
+    drop(versions);
+    drop(key);
+    steps
+}
+
+#[test]
+fn walks_the_versions_of_a_key(rt: HostRuntime) {
+    let tables = tables(rt.alloc());
+    let found = [
+        walked(&tables, b"c", 0),
+        walked(&tables, b"a", 4),
+        walked(&tables, b"b", 5),
+        walked(&tables, b"x", 0),
+    ];
+    drop(tables);
+    assert_eq!(rt;
+        found,
+        [
+            [Some((2, Some(1))), Some((6, None)), None],
+            [Some((5, Some(2))), None, None],
+            [None, None, None],
+            [None, None, None]
+        ]
+    );
 }
 
 /// Whether tombstones of a and b at two places may come next.

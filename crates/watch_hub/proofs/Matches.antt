@@ -6,10 +6,14 @@ use Rattle.std.specs.List.{AllByRecursion, find}
 use Rattle.std.specs.List.Sorted.{IsPartitionedBy, IsPartitionPoint}
 use Rattle.std.proofs.lemmas.Bool.Decides.{nat_tests}
 use Rattle.kv_model.specs.declared.version.Version.{Version}
+use Rattle.kv_model.specs.declared.call.Watched.{Watched}
+use Rattle.kv_model.specs.Keys.{in_range, same_key}
+use Rattle.kv_model.specs.Events.{matches, wants}
 use Rattle.kv_model.specs.History.{rev_lt}
 use Rattle.store_laws.specs.Stands.{first_main_of}
 use Rattle.version_table.specs.Rising.{IsRising}
 use Rattle.store_laws.proofs.RevOrder.{rev_lt-main}
+use Rattle.range_view.proofs.OneKey.{filter-both}
 use Rattle.watch_hub.proofs.Halving.{AreOrdered, partitioned as halves}
 
 -- ---- the first that passes a test
@@ -83,3 +87,22 @@ pub filter-from : (next : ℕ) (q : Version → Bool) (vs : List Version) (n : �
     → filter q (drop n vs) ≡ filter (λ v. nat_le next v.rev.main && q v) vs
 filter-from next q vs n h g =
     filter-passed (λ v. nat_le next v.rev.main) q (drop n vs) g ∙ filter-behind (λ v. nat_le next v.rev.main) q vs n h
+
+-- ---- a watch of one key
+
+-- in a range of the one key
+once : (n r w : Bool) → ((r && w) && (n && r)) ≡ (n && (r && w))
+once n true true = refl
+once true true false = refl
+once false true false = refl
+once true false w = refl
+once false false w = refl
+
+-- among the versions of the key all that it matches are found
+pub filter-key : (next : ℕ) (w : Watched) (k : List ℕ) → ((j : List ℕ) → same_key j k ≡ in_range w.range j) → (vs : List Version)
+    → filter (matches w) (filter (λ v. nat_le next v.rev.main && same_key v.key k) vs)
+    ≡ filter (λ v. nat_le next v.rev.main && matches w v) vs
+filter-key next w k h vs =
+    (λ i. filter (matches w) (filter (λ v. nat_le next v.rev.main && h v.key i) vs))
+    ∙ filter-both (matches w) (λ v. nat_le next v.rev.main && in_range w.range v.key) vs
+    ∙ (λ i. filter (λ v. once (nat_le next v.rev.main) (in_range w.range v.key) (wants w v.body) i) vs)

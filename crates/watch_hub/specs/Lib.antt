@@ -3,3 +3,4 @@ pub mod Entries
 pub mod Views
 pub mod Delivering
 pub mod Messages
+pub mod Walks

@@ -44,9 +44,13 @@ impl WatchHub {
     /// followed by `go_on`.
     ///
     /// The refusals: `NoWatch` where no watch has the number, `Memory` where the list of the events
-    /// found none. The time is logarithmic in the number of versions, linear in that of those from
-    /// the watch's first match on up to the end of the message, and for each event with a previous
-    /// value logarithmic in the number of keys and of versions.
+    /// found none.
+    ///
+    /// The time is logarithmic in the number of versions, linear in that of those from the watch's
+    /// first match on up to the end of the message, and for each event with a previous value
+    /// logarithmic in the number of keys and of versions. For a range of one key no version of
+    /// another key is looked at: the time is logarithmic in the number of keys, and for each of the
+    /// key's versions up to the end of the message at most logarithmic in that of all versions.
     pub fn deliver<'a>(
         &'a self,
         alloc: Global,
@@ -138,7 +142,7 @@ fn delivery_due<'a>(
     match pending.first {
         Some(first) if first < compacted => Ok(Delivery::Cancelled(compacted)),
         Some(first) => {
-            let walk = Walk::new(tables.versions(), first, pending.watched);
+            let walk = Walk::new(tables, first, pending.watched);
             Ok(Delivery::Events(message(alloc, tables, pending.watched, walk)?))
         }
         None => Ok(Delivery::Nothing),
@@ -157,7 +161,7 @@ fn course_of(tables: &Tables, pending: Pending<'_>) -> Course
     match pending.first {
         Some(first) if first < tables.compacted() => Course::Ends,
         Some(first) => {
-            let walk = Walk::new(tables.versions(), first, pending.watched);
+            let walk = Walk::new(tables, first, pending.watched);
             Course::Passes(last_revision(walk))
         }
         None => Course::Waits,

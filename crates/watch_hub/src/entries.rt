@@ -5,13 +5,13 @@ ghost use Rattle.std.specs.List.{AllByRecursion, slice_get};
 ghost use Rattle.slab.specs.Slab.{get, slab_len};
 ghost use Rattle.store_laws.specs.Stands.{noted};
 ghost use Rattle.kv_model.specs.Step.{last_main};
-ghost use Rattle.version_table.specs.Rising.{IsRising};
 ghost use Rattle.watch_hub.specs.Hub.{NumbersAscend, advanced_to, told_to, tracked_at};
 ghost use Rattle.watch_hub.specs.Hub.{without_tracked};
 ghost use Rattle.watch_hub.specs.Entries.{tracked_of, seen_in, AreAscending, index_of, key_of};
 
 use crate::entry::Entry;
 use kv_model::version::Version;
+use range_view::Tables;
 use slab::Slab;
 use std::alloc::{AllocError, Global};
 use std::marker::Model;
@@ -108,14 +108,14 @@ impl Entries {
         note_all(&mut self.slab, versions, now);
     }
 
-    /// The watch of a number goes on behind a revision, of these versions, which rise.
-    pub(crate) fn advance(&mut self, number: u64, versions: &[Version], now: u64, last: u64)
-        requires rising { IsRising versions.now }
-        requires fits { last ≤ last_main }
-        ensures { self.new ≡ advanced_to versions.now now number last self.old }
+    /// The watch of a number goes on behind a revision, by what is kept.
+    pub(crate) fn advance(&mut self, number: u64, tables: &Tables, last: u64)
+        requires { last ≤ last_main }
+        ensures { self.new
+            ≡ advanced_to tables.now.versions tables.now.revision number last self.old }
     {
         if let Some(key) = key_of(&self.places, number) {
-            advance_at(&mut self.slab, key, versions, now, last);
+            advance_at(&mut self.slab, key, tables, last);
         }
     }
 }
@@ -176,15 +176,15 @@ fn note_all(slab: &mut Slab<Entry>, versions: &[Version], now: u64)
 }
 
 /// The watch under a key goes on behind a revision.
-fn advance_at(slab: &mut Slab<Entry>, key: usize, versions: &[Version], now: u64, last: u64)
-    requires rising { IsRising versions.now }
-    requires fits { last ≤ last_main }
+fn advance_at(slab: &mut Slab<Entry>, key: usize, tables: &Tables, last: u64)
+    requires { last ≤ last_main }
     ensures here { seen_in slab.new key
-        ≡ option_map (told_to versions.now now last) (seen_in slab.old key) }
+        ≡ option_map (told_to tables.now.versions tables.now.revision last)
+        (seen_in slab.old key) }
     ensures others { (other : ℕ) → other ≢ key → get slab.new other ≡ get slab.old other }
     ensures count { slab_len slab.new ≡ slab_len slab.old }
 {
     if let Some(entry) = slab.get_mut(key) {
-        entry.advance(versions, now, last);
+        entry.advance(tables, last);
     }
 }

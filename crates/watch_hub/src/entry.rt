@@ -3,6 +3,7 @@ use crate::matching::{ahead_of, first_reached, still_ahead};
 use crate::walk::first_from;
 use kv_model::call::Watched;
 use kv_model::version::Version;
+use range_view::Tables;
 
 /// A watch that stands. Where it is not late it is behind, and holds the main revision of the first
 /// version that it matches and was not told of, or it is caught up. Then what it looks at next is
@@ -25,7 +26,6 @@ impl Entry {
     ghost use Rattle.std.specs.Prelude.{◌≡◌, ◌≤◌};
     ghost use Rattle.store_laws.specs.Stands.{noted};
     ghost use Rattle.kv_model.specs.Step.{last_main};
-    ghost use Rattle.version_table.specs.Rising.{IsRising};
     ghost use Rattle.watch_hub.specs.Hub.{told_to};
     ghost use Rattle.watch_hub.specs.Entries.{tracked_of};
 
@@ -42,13 +42,13 @@ impl Entry {
         self.ahead = still_ahead(now, self.ahead);
     }
 
-    /// Goes on behind a revision, of these versions, which rise.
-    pub(crate) fn advance(&mut self, versions: &[Version], now: u64, last: u64)
-        requires rising { IsRising versions.now }
-        requires fits { last ≤ last_main }
-        ensures { tracked_of self.new ≡ told_to versions.now now last (tracked_of self.old) }
+    /// Goes on behind a revision, by what is kept.
+    pub(crate) fn advance(&mut self, tables: &Tables, last: u64)
+        requires { last ≤ last_main }
+        ensures { tracked_of self.new
+            ≡ told_to tables.now.versions tables.now.revision last (tracked_of self.old) }
     {
-        self.first = first_from(versions, last + 1, &self.watched);
-        self.ahead = ahead_of(now, last + 1);
+        self.first = first_from(tables, last + 1, &self.watched);
+        self.ahead = ahead_of(tables.revision(), last + 1);
     }
 }

@@ -86,8 +86,13 @@ impl WatchHub {
     /// shared, not copied.
     ///
     /// The refusals, in this order: `TooManyWatches` where 1,024 stand or 2^63 - 1 were made,
-    /// `Memory`. A refusal changes nothing. The time is logarithmic in the number of versions, and
-    /// linear in that of those from the start up to the first match.
+    /// `Memory`. A refusal changes nothing.
+    ///
+    /// For a range of one key the time is logarithmic in the number of keys and in that of the
+    /// key's versions, and for each of the key's versions from the start up to the first match at
+    /// most logarithmic in the number of versions; no version of another key is looked at. For any
+    /// other range it is logarithmic in the number of versions, and linear in that of those from
+    /// the start up to the first match.
     pub fn create(
         &mut self,
         tables: &Tables,
@@ -171,8 +176,7 @@ impl WatchHub {
     /// The watch of a number was told of all that it matches up to the revision `last`: it goes on
     /// behind that. Where no watch has the number, nothing changes. Takes no memory.
     ///
-    /// The time is logarithmic in the number of versions, and linear in that of those from there on
-    /// up to the next match.
+    /// The time is that of `create`, from the revision behind `last` on up to the next match.
     pub fn advance(&mut self, tables: &Tables, number: u64, last: u64)
         requires { last ≤ last_main }
         ensures { self.new
@@ -181,8 +185,7 @@ impl WatchHub {
                   number last self.old.watches;
             } }
     {
-        self.entries
-            .advance(number, tables.versions(), tables.revision(), last);
+        self.entries.advance(number, tables, last);
     }
 
     /// Ends the watch of a number. `NoWatch` comes where no watch has the number, and then nothing
@@ -216,7 +219,7 @@ fn entry_for(
 {
     let watched = watched_of(watched)?;
     let next = start_of(tables.revision(), start);
-    let first = first_from(tables.versions(), next, &watched);
+    let first = first_from(tables, next, &watched);
     Ok(Entry {
         number,
         id,

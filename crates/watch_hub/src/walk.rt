@@ -1,43 +1,56 @@
 //! The versions that a watch matches, one after another.
 ghost use Rattle.std.specs.Prelude.{◌≡◌, ◌≤◌, ◌∷◌, [], ◌&&◌, filter, length, nat_le, drop};
-ghost use Rattle.std.specs.Prelude.{MatchOption};
+ghost use Rattle.std.specs.Prelude.{Bool, MatchOption};
+ghost use Rattle.kv_model.specs.declared.version.Version.{Version};
 ghost use Rattle.store_laws.specs.Stands.{first_main_of};
 ghost use Rattle.watch_hub.specs.Hub.{first_from};
+ghost use Rattle.watch_hub.specs.Walks.{left_in};
 ghost use Rattle.kv_model.specs.Events.{matches};
-ghost use Rattle.version_table.specs.Rising.{IsRising};
+ghost use Rattle.range_view.specs.Stored.{IsStored};
 
 use crate::matching::{count_before, matches};
 use kv_model::call::Watched;
+use kv_model::span::Span;
 use kv_model::version::Version;
+use range_view::{KeyVersions, Tables};
 use std::marker::Model;
 
 /// What is left of a walk over the versions that a watch matches, which rise.
-#[derive(Debug, Drop)]
+#[derive(Drop)]
 pub(crate) struct Walk<'a> {
     watched: &'a Watched,
-    rest: &'a [Version],
+    source: Source<'a>,
+}
+
+/// The versions among which a walk looks: those of one key by the index of keys, where the watch is
+/// of one key, and else all.
+#[derive(Drop)]
+enum Source<'a> {
+    Key(KeyVersions<'a>),
+    All(&'a [Version]),
 }
 
 impl<'a> Model for Walk<'a> {
     ghost use Rattle.std.specs.Prelude.{List, filter};
     ghost use Rattle.kv_model.specs.declared.version.Version.{Version};
     ghost use Rattle.kv_model.specs.Events.{matches};
+    ghost use Rattle.watch_hub.specs.Walks.{left_in};
 
     ghost Value = { List Version };
 
-    ghost view = { λ w. filter (matches w.watched.now) w.rest.now };
+    ghost view = { λ w. filter (matches w.watched.now) (left_in w.source) };
 }
 
 impl<'a> Walk<'a> {
     /// A walk over the versions from a revision on. It begins by halving.
-    pub(crate) fn new(versions: &'a [Version], next: u64, watched: &'a Watched) -> Self
-        requires { IsRising versions.now }
-        ensures { result
-            ≡ filter (λ v. nat_le next v.rev.main && matches watched.now v) versions.now }
+    pub(crate) fn new(tables: &'a Tables, next: u64, watched: &'a Watched) -> Self
+        ensures value { result
+            ≡ filter (λ v. nat_le next v.rev.main && matches watched.now v) tables.now.versions }
+        ensures stored { IsStored tables.now }
     {
         Walk {
             watched,
-            rest: rest_from(versions, count_before(versions, next)),
+            source: source_of(tables, next, watched),
         }
     }
 
@@ -46,33 +59,70 @@ impl<'a> Walk<'a> {
         ensures { MatchOption result ((self.old ≡ []) × (self.new ≡ []))
             (λ v. self.old ≡ v.now ∷ self.new) }
     {
-        match next_match(self.watched, self.rest) {
-            Some((version, later)) => {
-                self.rest = later;
-                Some(version)
-            }
-            None => None,
-        }
+        next_match(self.watched, &mut self.source)
     }
 }
 
-/// The first of the versions that a watch matches, and those behind it.
-fn next_match<'a>(
-    watched: &Watched,
-    versions: &'a [Version],
-) -> Option<(&'a Version, &'a [Version])>
-    ensures { MatchOption result (filter (matches watched.now) versions.now ≡ [])
-        (λ found. filter (matches watched.now) versions.now
-        ≡ found.0.now ∷ filter (matches watched.now) found.1.now) }
+/// Where a walk looks for what a watch matches from a revision on.
+fn source_of<'a>(tables: &'a Tables, next: u64, watched: &Watched) -> Source<'a>
+    ensures matched { filter (matches watched.now) (left_in result)
+        ≡ filter (λ v. nat_le next v.rev.main && matches watched.now v) tables.now.versions }
+    ensures stored { IsStored tables.now }
 {
-    let mut rest = versions;
-    while let Some((version, later)) = rest.split_first() {
-        rest = later;
+    match watched.range.span() {
+        Span::Key(key) => Source::Key(tables.versions_of(key, next)),
+        _ => Source::All(all_from(tables, next)),
+    }
+}
+
+/// All versions from a revision on. It halves.
+fn all_from(tables: &Tables, next: u64) -> &[Version]
+    ensures from { (p : Version → Bool)
+        → filter p result.now ≡ filter (λ v. nat_le next v.rev.main && p v) tables.now.versions }
+    ensures stored { IsStored tables.now }
+{
+    let versions = tables.versions();
+    rest_from(versions, count_before(versions, next))
+}
+
+/// The first of the versions that are left that a watch matches. Those before it are passed over.
+fn next_match<'a>(watched: &Watched, source: &mut Source<'a>) -> Option<&'a Version>
+    ensures { MatchOption result ((filter (matches watched.now) (left_in source.old) ≡ [])
+        × (filter (matches watched.now) (left_in source.new) ≡ []))
+        (λ v. filter (matches watched.now) (left_in source.old)
+        ≡ v.now ∷ filter (matches watched.now) (left_in source.new)) }
+{
+    while let Some(version) = next_of(source) {
         if matches(watched, version) {
-            return Some((version, rest));
+            return Some(version);
         }
     }
     None
+}
+
+/// The next of the versions that are left.
+fn next_of<'a>(source: &mut Source<'a>) -> Option<&'a Version>
+    ensures { MatchOption result ((left_in source.old ≡ []) × (left_in source.new ≡ []))
+        (λ v. left_in source.old ≡ v.now ∷ left_in source.new) }
+{
+    match source {
+        Source::Key(versions) => versions.next(),
+        Source::All(rest) => take_first(rest),
+    }
+}
+
+/// Takes the first of the versions off.
+fn take_first<'a>(rest: &mut &'a [Version]) -> Option<&'a Version>
+    ensures { MatchOption result ((rest.old.now ≡ []) × (rest.new.now ≡ []))
+        (λ v. rest.old.now ≡ v.now ∷ rest.new.now) }
+{
+    match rest.split_first() {
+        Some((version, later)) => {
+            *rest = later;
+            Some(version)
+        }
+        None => None,
+    }
 }
 
 /// The versions from an index on.
@@ -95,14 +145,14 @@ pub(crate) fn first_main(walk: Walk<'_>) -> Option<u64>
     }
 }
 
-/// The main revision of the first of the versions, which rise, that is from a revision on and that
-/// a watch matches.
+/// The main revision of the first of the versions from a revision on that a watch matches.
 ///
-/// The time is logarithmic in the number of versions, and linear in that of those from the revision
-/// on up to the match.
-pub(crate) fn first_from(versions: &[Version], next: u64, watched: &Watched) -> Option<u64>
-    requires { IsRising versions.now }
-    ensures { result ≡ first_from versions.now next watched.now }
+/// For a range of one key the time is logarithmic in the number of keys and in that of the key's
+/// revisions, and for each of the key's versions from the revision on up to the match at most
+/// logarithmic in the number of versions. For any other it is logarithmic in the number of
+/// versions, and linear in that of those from the revision on up to the match.
+pub(crate) fn first_from(tables: &Tables, next: u64, watched: &Watched) -> Option<u64>
+    ensures { result ≡ first_from tables.now.versions next watched.now }
 {
-    first_main(Walk::new(versions, next, watched))
+    first_main(Walk::new(tables, next, watched))
 }

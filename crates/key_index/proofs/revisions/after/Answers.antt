@@ -6,5 +6,5 @@ use Rattle.key_index.proofs.revisions.after.Goals as goal
 
 pub returns : goal.returns
 returns c =
-    c.rev_at.ensures ∙ ap (slice_get c.args.revisions.now.items) c.count_up_to.ensures
+    c.rev_at.ensures.value ∙ ap (slice_get c.args.revisions.now.items) c.count_up_to.ensures
     ∙ sym (find-after c.args.place c.args.revisions.now.items)

@@ -13,4 +13,4 @@ returns-in-Some-clause-here c =
     let there : IsSome (get c.args.slab.now c.args.key) = subst (λ (o : Option Entry). IsSome o) (sym is) refl in
     ap (λ (o : Option Entry). option_map tracked_of o) (Updates-with_value c.args.slab.now c.args.key c.advance.new.self there).changed
     ∙ ap Some c.advance.ensures
-    ∙ ap (λ (o : Option Entry). option_map (told_to c.args.versions.now c.args.now c.args.last) (option_map tracked_of o)) (sym is)
+    ∙ ap (λ (o : Option Entry). option_map (told_to c.args.tables.now.versions c.args.tables.now.revision c.args.last) (option_map tracked_of o)) (sym is)

@@ -7,6 +7,6 @@ use Rattle.watch_hub.proofs.hub.WatchHub.advance.Goals as goal
 
 pub invariant_of-self : goal.invariant_of-self
 invariant_of-self c = subst (λ ts. AreUpTo c.self.inside.made ts) (sym c.advance.ensures)
-    (up-to-map c.self.inside.made (λ t. cond (has_number c.args.number t) (told_to c.versions.result.now c.revision.result c.args.last t) t)
-    (changed-number (told_to c.versions.result.now c.revision.result c.args.last) c.args.number
+    (up-to-map c.self.inside.made (λ t. cond (has_number c.args.number t) (told_to c.args.tables.now.versions c.args.tables.now.revision c.args.last t) t)
+    (changed-number (told_to c.args.tables.now.versions c.args.tables.now.revision c.args.last) c.args.number
     (λ t. refl)) c.self.inside.entries c.self.invariant)

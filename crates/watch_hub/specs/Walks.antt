@@ -1,0 +1,9 @@
+-- What is left of a walk.
+use Rattle.std.specs.Prelude.{List}
+use Rattle.kv_model.specs.declared.version.Version.{Version}
+use Rattle.watch_hub.specs.declared.walk.Source.{Source}
+use Rattle.watch_hub.specs.declared.walk.Source.TheVariants.{Key, All}
+
+abbrev pub left_in : Source → List Version
+left_in (Key vs) = vs
+left_in (All vs) = vs.now
