@@ -4,7 +4,7 @@ ghost use Rattle.std.specs.Prelude.{◌≡◌, ℕ, ◌<◌, ◌≤◌, ◌+◌,
 ghost use Rattle.std.specs.Prelude.{◌==◌, None, Some, OnOk, OnErr, MatchOption, slice_index_or, if◌then◌else◌};
 ghost use Rattle.kv_model.specs.declared.version.KeyRange.{KeyRange};
 ghost use Rattle.watch_hub.specs.declared.guards.Guard.{Guard};
-ghost use Rattle.watch_hub.specs.Guards.{is_past, range_at, AreBacks, AreInOrder, ArePast};
+ghost use Rattle.watch_hub.specs.Guards.{ends_by, is_past, range_at, AreBacks, AreInOrder, ArePast};
 ghost use Rattle.watch_hub.specs.Guards.{AreBegun, AreToCome, IsBack};
 
 use crate::bounds::{ends_by, first_key, has_begun, is_past};
@@ -13,7 +13,7 @@ use std::alloc::{AllocError, Global};
 use std::marker::Model;
 
 /// The range of a watch, and the place in the slab where the watch stands.
-#[derive(Debug, Drop)]
+#[derive(Drop)]
 pub(crate) struct Guard {
     range: KeyRange,
     place: usize,
@@ -23,7 +23,7 @@ pub(crate) struct Guard {
 ///
 /// Beside each stands an index: the ranges from there on up to it end no later than it does, so a
 /// key that is behind it is behind them too. Only `insert` takes memory.
-#[derive(Debug, Drop)]
+#[derive(Drop)]
 pub(crate) struct Guards {
     guards: Vec<Guard>,
     backs: Vec<usize>,
@@ -92,7 +92,8 @@ impl Guards {
         requires { count ≤ length self.now }
         ensures { MatchOption result (ArePast self.now key.now 0 count)
             (λ f. (f.0 < count) × ArePast self.now key.now (f.0 + 1) count
-            × ((d : Guard) → (slice_index_or self.now f.0 d).place ≡ f.1)) }
+            × ((d : Guard) → (slice_index_or self.now f.0 d).place ≡ f.1)
+            × ((d : Guard) → is_past (slice_index_or self.now f.0 d).range key.now ≡ false)) }
     {
         last_open(&self.guards, &self.backs, count, key)
     }
@@ -125,7 +126,10 @@ fn back_of(guards: &[Guard], backs: &[usize], index: usize) -> usize
     requires index { index < length guards.now }
     requires count { length backs.now ≡ length guards.now }
     requires backs { AreBacks guards.now backs.now index }
-    ensures { IsBack guards.now index result }
+    ensures back { IsBack guards.now index result }
+    ensures far { (last : ℕ) (d : Guard) → result ≡ last + 1
+        → ends_by (slice_index_or guards.now last d).range
+        (slice_index_or guards.now index d).range ≡ false }
 {
     let mut back = index;
     while back > 0 {
@@ -144,7 +148,8 @@ fn last_open(guards: &[Guard], backs: &[usize], count: usize, key: &[u8]) -> Opt
     requires backs { AreBacks guards.now backs.now (length guards.now) }
     ensures { MatchOption result (ArePast guards.now key.now 0 count)
         (λ f. (f.0 < count) × ArePast guards.now key.now (f.0 + 1) count
-        × ((d : Guard) → (slice_index_or guards.now f.0 d).place ≡ f.1)) }
+        × ((d : Guard) → (slice_index_or guards.now f.0 d).place ≡ f.1)
+        × ((d : Guard) → is_past (slice_index_or guards.now f.0 d).range key.now ≡ false)) }
 {
     let mut left = count;
     while left > 0 {

@@ -9,5 +9,5 @@ loop-index-preserved c =
     let i = c.loop-index.index in
     let count = c.loop-index.invariant.0 in (
       length-set bs i _ ∙ count,
-      backs-more c.args.guards.now bs i _ c.loop-index.invariant.1 c.back_of.ensures (subst (λ n. i < n) (sym count) c.loop-index-test.true),
+      backs-more c.args.guards.now bs i _ c.loop-index.invariant.1 c.back_of.ensures.back (subst (λ n. i < n) (sym count) c.loop-index-test.true),
     )
