@@ -1,6 +1,10 @@
 pub mod Halving
+pub mod Ends
+pub mod Guarding
 pub mod Finding
+pub mod Noted
 pub mod Placing
+pub mod Changing
 pub mod Matches
 pub mod Tallies
 pub mod Standing

@@ -1,12 +1,14 @@
 -- Watches at the places of a slab, by number.
-use Rattle.std.specs.Prelude.{◌≡◌, ℕ, suc, ◌<◌, ◌≤◌, pos, List, [], ◌∷◌, length, map, false, ◌==◌, Option, None, Some}
-use Rattle.std.specs.Prelude.{option_map, unwrap_or, if◌then◌else◌, ⊤}
+use Rattle.std.specs.Prelude.{◌≡◌, ℕ, suc, ◌<◌, ◌≤◌, pos, List, [], ◌∷◌, length, map, Bool, false, ◌==◌, Option, None, Some}
+use Rattle.std.specs.Prelude.{option_map, option_and_then, unwrap_or, if◌then◌else◌, ⊤}
 use Rattle.std.specs.List.{AllByRecursion}
 use Rattle.slab.specs.Slab.{Slab, get, slab_len}
 use Rattle.kv_model.specs.Events.{plain_watch}
 use Rattle.store_laws.specs.Stands.{Tracked}
 use Rattle.watch_hub.specs.declared.entry.Entry.{Entry}
 use Rattle.watch_hub.specs.declared.entries.Place.{Place}
+use Rattle.watch_hub.specs.declared.guards.Guard.{Guard}
+use Rattle.watch_hub.specs.Guards.{range_at}
 
 abbrev pub tracked_of : Entry → Tracked
 tracked_of e = record {
@@ -40,10 +42,20 @@ pub record ArePlaced (seen : ℕ → Option Tracked) (ps : List Place) : Type 0 
   pub ascending : AreAscending ps
   pub present : AllByRecursion (λ p. option_map (λ t. t.number) (seen p.key) ≡ Some p.number) ps
 
--- the places have the watches of their numbers, and the slab has no watch beside them
-pub record AreAll (s : Slab Entry) (ps : List Place) : Type 0 where
+-- each watch has a guard of its range, and there is no other guard
+abbrev pub AreGuarded : (ℕ → Option Tracked) → List Guard → Type 0
+AreGuarded seen gs = (place : ℕ) → range_at place gs ≡ option_map (λ t. t.watched.range) (seen place)
+
+-- no watch waits for a revision above the present one
+abbrev pub AreReached : (ℕ → Option Tracked) → Type 0
+AreReached seen = (place : ℕ) → option_and_then (λ t. t.ahead) (seen place) ≡ None
+
+-- the places have the watches of their numbers, the slab has no watch beside them, and the guards have their ranges
+pub record AreAll (s : Slab Entry) (ps : List Place) (gs : List Guard) (waiting : Bool) : Type 0 where
   pub placed : ArePlaced (seen_in s) ps
   pub count : slab_len s ≡ length ps
+  pub guarded : AreGuarded (seen_in s) gs
+  pub reached : waiting ≡ false → AreReached (seen_in s)
 
 -- the index of the place with a number, and its key
 abbrev pub index_of : ℕ → List Place → Option ℕ

@@ -1,4 +1,5 @@
 pub mod Hub
+pub mod Guards
 pub mod Entries
 pub mod Views
 pub mod Delivering

@@ -1,6 +1,6 @@
 //! The watches that stand, each at a place of a slab, found by number.
-ghost use Rattle.std.specs.Prelude.{◌≡◌, ◌≢◌, ℕ, ◌<◌, ◌≤◌, [], ◌∷◌, ◌++◌, length, map, is_some};
-ghost use Rattle.std.specs.Prelude.{option_map, option_copied, OnOk, OnErr, IfSome};
+ghost use Rattle.std.specs.Prelude.{◌≡◌, ◌≢◌, ℕ, ◌<◌, ◌≤◌, [], ◌∷◌, ◌++◌, ◌||◌, length, map, is_some};
+ghost use Rattle.std.specs.Prelude.{option_map, option_copied, OnOk, OnErr, IfOk, IfSome};
 ghost use Rattle.std.specs.List.{AllByRecursion, slice_get};
 ghost use Rattle.slab.specs.Slab.{get, slab_len};
 ghost use Rattle.store_laws.specs.Stands.{noted};
@@ -10,7 +10,9 @@ ghost use Rattle.watch_hub.specs.Hub.{without_tracked};
 ghost use Rattle.watch_hub.specs.Entries.{tracked_of, seen_in, AreAscending, index_of, key_of};
 
 use crate::entry::Entry;
-use kv_model::version::Version;
+use crate::guards::Guards;
+use crate::noting::note_each;
+use kv_model::version::{KeyRange, Version};
 use range_view::Tables;
 use slab::Slab;
 use std::alloc::{AllocError, Global};
@@ -29,6 +31,9 @@ pub(crate) struct Place {
 pub(crate) struct Entries {
     slab: Slab<Entry>,
     places: Vec<Place>,
+    guards: Guards,
+    /// Where this is false, no watch waits for a revision above the present one.
+    waiting: bool,
 }
 
 impl Model for Entries {
@@ -40,7 +45,7 @@ impl Model for Entries {
 
     ghost view = { λ e. listed (seen_in e.slab) e.places.items };
 
-    ghost invariant = { λ e. AreAll e.slab e.places.items };
+    ghost invariant = { λ e. AreAll e.slab e.places.items e.guards e.waiting };
 }
 
 impl Entries {
@@ -51,6 +56,8 @@ impl Entries {
         Entries {
             slab: Slab::new(alloc),
             places: Vec::new(alloc),
+            guards: Guards::new(alloc),
+            waiting: false,
         }
     }
 
@@ -79,8 +86,13 @@ impl Entries {
         ensures err { OnErr result (self.new ≡ self.old) }
     {
         self.places.reserve(1)?;
+        self.slab.reserve(1)?;
+        let range = copy_of(&entry.watched.range)?;
+        self.guards.insert(range, self.slab.vacant_key())?;
+        let waiting = either(self.waiting, entry.ahead.is_some());
+        self.waiting = waiting;
         let number = entry.number;
-        let key = self.slab.insert(entry)?;
+        let key = self.slab.insert_reserved(entry);
         self.places.push_reserved(Place { number, key });
         Ok(())
     }
@@ -95,6 +107,7 @@ impl Entries {
             Some(index) => {
                 let place = self.places.remove(index);
                 let _ = self.slab.try_remove(place.key);
+                self.guards.remove(place.key);
                 true
             }
             None => false,
@@ -105,7 +118,8 @@ impl Entries {
     pub(crate) fn note(&mut self, versions: &[Version], now: u64)
         ensures { self.new ≡ map (noted versions.now now) self.old }
     {
-        note_all(&mut self.slab, versions, now);
+        let waiting = note_each(&mut self.slab, &self.guards, self.waiting, versions, now);
+        self.waiting = waiting;
     }
 
     /// The watch of a number goes on behind a revision, by what is kept.
@@ -116,8 +130,27 @@ impl Entries {
     {
         if let Some(key) = key_of(&self.places, number) {
             advance_at(&mut self.slab, key, tables, last);
+            let waiting = either(self.waiting, tables.revision() <= last);
+            self.waiting = waiting;
         }
     }
+}
+
+/// Whether one of two is so.
+fn either(one: bool, other: bool) -> bool
+    ensures { result ≡ (one || other) }
+{
+    one || other
+}
+
+/// A range with the same keys, which are shared.
+fn copy_of(range: &KeyRange) -> Result<KeyRange, AllocError>
+    ensures { IfOk result (λ r. r ≡ range.now) }
+{
+    Ok(KeyRange {
+        key: range.key.clone()?,
+        end: range.end.clone()?,
+    })
 }
 
 /// The place at an index.
@@ -148,30 +181,6 @@ fn key_of(places: &[Place], number: u64) -> Option<usize>
     match index_of(places, number) {
         Some(index) => Some(places[index].key),
         None => None,
-    }
-}
-
-/// The watch under a key takes note.
-fn note_at(slab: &mut Slab<Entry>, key: usize, versions: &[Version], now: u64)
-    ensures here { seen_in slab.new key
-        ≡ option_map (noted versions.now now) (seen_in slab.old key) }
-    ensures others { (other : ℕ) → other ≢ key → get slab.new other ≡ get slab.old other }
-    ensures count { slab_len slab.new ≡ slab_len slab.old }
-{
-    if let Some(entry) = slab.get_mut(key) {
-        entry.note(versions, now);
-    }
-}
-
-/// The watch under each key takes note.
-fn note_all(slab: &mut Slab<Entry>, versions: &[Version], now: u64)
-    ensures each { (key : ℕ)
-        → seen_in slab.new key ≡ option_map (noted versions.now now) (seen_in slab.old key) }
-    ensures count { slab_len slab.new ≡ slab_len slab.old }
-{
-    let keys = slab.capacity();
-    for key in 0..keys {
-        note_at(slab, key, versions, now);
     }
 }
 

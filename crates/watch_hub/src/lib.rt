@@ -22,12 +22,15 @@
 //! The tests stand in the crate `store_tests`, in `src/watches.rt`.
 #![tactic(auto)]
 
+mod bounds;
 pub mod delivery;
 mod entries;
 mod entry;
+mod guards;
 pub mod hub;
 mod matching;
 pub mod message;
+mod noting;
 mod tally;
 mod walk;
 

@@ -5,6 +5,6 @@ use Rattle.watch_hub.proofs.Placing.{all-listed}
 use Rattle.watch_hub.proofs.entries.Entries.note.Goals as goal
 
 pub returns : goal.returns
-returns c = all-listed (seen_in c.self.inside.slab) (seen_in c.note_all.new.slab)
-    (noted c.args.versions.now c.args.now) c.self.inside.places.items c.note_all.ensures.each c.self.invariant.placed.present
+returns c = all-listed (seen_in c.self.inside.slab) (seen_in c.note_each-waiting.new.slab)
+    (noted c.args.versions.now c.args.now) c.self.inside.places.items c.note_each-waiting.ensures.each c.self.invariant.placed.present
     ∙ ap (map (noted c.args.versions.now c.args.now)) c.self.view_is

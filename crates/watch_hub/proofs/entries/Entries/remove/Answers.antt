@@ -1,13 +1,14 @@
-use Rattle.std.proofs.Common.{◌≡◌, ◌≢◌, ℕ, false, option_map, option_and_then, Option, None, Some, sym, ◌∙◌, ap, subst, arith, ◌+◌, ◌<◌}
+use Rattle.std.proofs.Common.{◌≡◌, false, option_map, option_and_then, Option, None, Some, sym, ◌∙◌, ap, subst, arith, ◌+◌, ◌<◌}
 use Rattle.std.proofs.Common.{length}
 use Rattle.std.specs.Prelude.{is_some}
 use Rattle.std.specs.List.{AllByRecursion, remove}
 use Rattle.std.proofs.lemmas.List.Edits.{length-remove}
-use Rattle.slab.specs.Slab.{get, slab_len}
+use Rattle.slab.specs.Slab.{slab_len}
 use Rattle.watch_hub.specs.declared.entry.Entry.{Entry}
 use Rattle.watch_hub.specs.declared.entries.Place.{Place}
 use Rattle.watch_hub.specs.Hub.{has_number, tracked_at, without_tracked}
-use Rattle.watch_hub.specs.Entries.{AreAll, tracked_of, seen_in, listed, index_of}
+use Rattle.watch_hub.specs.Entries.{AreAll, AreGuarded, tracked_of, seen_in, listed, index_of}
+use Rattle.watch_hub.proofs.Changing.{ahead_in, guarded-removed, reached-changed}
 use Rattle.watch_hub.proofs.Finding.{key-found, key-missed}
 use Rattle.watch_hub.proofs.Placing.{slab-change, number_of, found, some-found, key-number, where-there, within, removed, missed}
 use Rattle.watch_hub.proofs.Placing.{missed-left}
@@ -21,12 +22,14 @@ invariant_of-self c =
     let places = c.self.inside.places.items in
     let placed = c.self.invariant.placed in
     let place = c.remove-place.result in
+    let change = slab-change slab c.try_remove.new.self place.key c.try_remove.ensures.updates.others in
     let index : index_of n places ≡ Some i
     = ap (index_of n) (sym c.deref.ensures.value) ∙ sym c.index_of.ensures.index ∙ c.in-Some.is in
     let key = key-found n places i place index ∙ ap (λ (p : Place). Some p.key) (sym c.remove-place.ensures.value) in
-    subst (λ ps. AreAll c.try_remove.new.self ps) (sym c.remove-place.ensures.items) (record {
-      placed = (removed (slab-change slab c.try_remove.new.self place.key c.try_remove.ensures.updates.others)
-          n i places placed index key).1;
+    let gone : seen_in c.try_remove.new.self place.key ≡ None
+    = ap (λ (o : Option Entry). option_map tracked_of o) c.try_remove.ensures.updates.changed in
+    subst (λ ps. AreAll c.try_remove.new.self ps c.remove.new.self c.self.inside.waiting) (sym c.remove-place.ensures.items) (record {
+      placed = (removed change n i places placed index key).1;
       count =
           let bound : i < length places
           = subst (λ ps. i < length ps) c.deref.ensures.value (within c.index_of.result i _ c.in-Some.is c.index_of.ensures.bound) in
@@ -36,6 +39,9 @@ invariant_of-self c =
           ∙ key-number (seen_in slab) n places place.key placed.present key) c.try_remove.ensures.len in
           let all = c.self.invariant.count in
           omega arith;
+      guarded = subst (λ gs. AreGuarded (seen_in c.try_remove.new.self) gs) (sym c.remove.ensures)
+          (guarded-removed change c.self.inside.guards gone c.self.invariant.guarded);
+      reached = λ w. reached-changed change (ap ahead_in gone) (c.self.invariant.reached w);
     })
 
 pub returns-in-Some-clause-found : goal.returns-in-Some-clause-found
