@@ -42,7 +42,7 @@ pub record ArePlaced (seen : ℕ → Option Tracked) (ps : List Place) : Type 0 
   pub ascending : AreAscending ps
   pub present : AllByRecursion (λ p. option_map (λ t. t.number) (seen p.key) ≡ Some p.number) ps
 
--- each watch has a guard of its range, and there is no other guard
+-- the range that the guards have at a place is that of the watch there: none where no watch is
 abbrev pub AreGuarded : (ℕ → Option Tracked) → List Guard → Type 0
 AreGuarded seen gs = (place : ℕ) → range_at place gs ≡ option_map (λ t. t.watched.range) (seen place)
 

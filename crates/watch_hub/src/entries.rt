@@ -26,7 +26,7 @@ pub(crate) struct Place {
 }
 
 /// The watches that stand, in the order of their numbers. The slab has these and no other: one that
-/// ends leaves it. Only `push` takes memory.
+/// ends leaves it. Each has a guard of its range. Only `push` takes memory.
 #[derive(Drop)]
 pub(crate) struct Entries {
     slab: Slab<Entry>,
@@ -79,7 +79,7 @@ impl Entries {
         }
     }
 
-    /// Adds a watch, whose number is above all. The error is want of memory.
+    /// Adds a watch, whose number is above all. The error is want of memory. Linear time.
     pub(crate) fn push(&mut self, entry: Entry) -> Result<(), AllocError>
         requires { AllByRecursion (λ t. t.number < entry.number) self.old }
         ensures ok { OnOk result (self.new ≡ self.old ++ tracked_of entry ∷ []) }
@@ -98,7 +98,7 @@ impl Entries {
     }
 
     /// Takes out the watch of a number, and tells whether there was one. It is found in logarithmic
-    /// time; the places behind it move.
+    /// time; the places and guards behind it move, and the guards are walked.
     pub(crate) fn remove(&mut self, number: u64) -> bool
         ensures found { result ≡ is_some (tracked_at self.old number) }
         ensures left { self.new ≡ without_tracked number self.old }
@@ -114,7 +114,8 @@ impl Entries {
         }
     }
 
-    /// Each watch takes note of the versions of a new revision, which is now the present one.
+    /// Each watch takes note of the versions of a new revision, which is now the present one. The
+    /// guards find those that a version may concern, unless one may wait for a later revision.
     pub(crate) fn note(&mut self, versions: &[Version], now: u64)
         ensures { self.new ≡ map (noted versions.now now) self.old }
     {

@@ -87,7 +87,8 @@ impl Guards {
     }
 
     /// The last of the first so many ranges that a key is not behind, by its index, with the place
-    /// of its watch.
+    /// of its watch. Each step passes a range that ends before the key, with all before it that end
+    /// no later.
     pub(crate) fn last_open(&self, count: usize, key: &[u8]) -> Option<(usize, usize)>
         requires { count ≤ length self.now }
         ensures { MatchOption result (ArePast self.now key.now 0 count)

@@ -92,7 +92,7 @@ impl WatchHub {
     /// key's versions, and for each of the key's versions from the start up to the first match at
     /// most logarithmic in the number of versions; no version of another key is looked at. For any
     /// other range it is logarithmic in the number of versions, and linear in that of those from
-    /// the start up to the first match.
+    /// the start up to the first match. It is linear in the number of the watches that stand.
     pub fn create(
         &mut self,
         tables: &Tables,
@@ -143,9 +143,16 @@ impl WatchHub {
     /// that is caught up and matches one of them is then behind; those that are behind already are
     /// passed over. Takes no memory.
     ///
-    /// The time is linear in the room that the slab has, which is for as many watches as stood at
-    /// once, at most 1,024, and as much again by the way that lists grow; and for each watch that
-    /// is caught up in the number of the versions.
+    /// For each version the time is logarithmic in the number of the watches, and linear in that of
+    /// those that have its key in their range. Of the others, one that ends before the key is
+    /// passed in one step with all that begin before it and end no later: keys and prefixes that
+    /// lie apart cost one step together, and ranges that lie within one another at most one each.
+    ///
+    /// Where a watch may wait for a revision above the present one, as each does that was made from
+    /// the next revision on, or was told of all, since the last call, all watches are walked: the
+    /// time is then linear in the room of the slab, which is for as many watches as stood at once,
+    /// at most 1,024, and as much again by the way that lists grow; and for each watch that is
+    /// caught up in the number of the versions.
     pub fn note(&mut self, versions: &[Version], now: u64)
         ensures { self.new
             ≡ record self.old { watches = map (noted versions.now now) self.old.watches } }
@@ -191,7 +198,8 @@ impl WatchHub {
     /// Ends the watch of a number. `NoWatch` comes where no watch has the number, and then nothing
     /// changes. Takes no memory.
     ///
-    /// It is found in logarithmic time; the places of those that were made later move.
+    /// It is found in logarithmic time. Then the time is linear in the number of the watches: the
+    /// places of those that were made later move, and their ranges are ordered anew.
     pub fn cancel(&mut self, number: u64) -> Result<(), Refusal>
         ensures found { is_ok result ≡ is_some (tracked_at self.old.watches number) }
         ensures missing { IfErr result (λ e. e ≡ NoWatch) }
