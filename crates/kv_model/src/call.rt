@@ -121,13 +121,23 @@ pub enum Command {
         id: i64,
     },
     /// Grants a lease of `ttl` seconds under an ID, where 0 asks for a free one.
-    Grant { ttl: i64, id: i64 },
+    Grant {
+        ttl: i64,
+        id: i64,
+    },
     /// Revokes a lease and deletes its keys.
-    Revoke { id: i64 },
+    Revoke {
+        id: i64,
+    },
     /// Renews a lease.
-    KeepAlive { id: i64 },
+    KeepAlive {
+        id: i64,
+    },
     /// Asks how long a lease still has and, where `keys` says so, for its keys.
-    TimeToLive { id: i64, keys: bool },
+    TimeToLive {
+        id: i64,
+        keys: bool,
+    },
     /// Asks for the IDs of all leases.
     Leases,
 }
