@@ -23,7 +23,7 @@ use Rattle.store_laws.proofs.GoodLaws.{good-value_at}
 use Rattle.store_laws.proofs.KeyLaws.{same-refl}
 use Rattle.store_laws.proofs.RevOrder.{ranked, rev_lt-self}
 use Rattle.store_laws.proofs.TrimLaws.{Precedes, AreRising, rising-dress, rising-part, rising-mid, Sits}
-use Rattle.store_laws.proofs.TrimLaws.{sit-part, superseded-mid, low, last_seen}
+use Rattle.store_laws.proofs.TrimLaws.{before-mid, sit-part, superseded-mid, low, last_seen}
 use Rattle.store_laws.proofs.StepLaws.{settles}
 
 -- ---- elements
@@ -195,7 +195,7 @@ unfolding value_at
 last-shown r xs v ys h number l e =
     ap (option_and_then key_value) (latest-out xs v ys (end_of r) v.key true (λ i. same-refl v.key i && rev_le-end v.rev r l number i)
     ∙ ap (λ o. option_or (option_or o (Some v)) (latest xs (end_of r) v.key)) (last_seen r v ys (rising-mid xs v ys h).1
-    (sym (superseded-mid xs v ys r h) ∙ e)))
+    (sym (superseded-mid xs v ys r (before-mid xs v ys h)) ∙ e)))
 
 not-first : (a b : Bool) → (true && (a || b)) ≡ false → a ≡ false
 not-first true b e = cc
@@ -208,7 +208,7 @@ not-replaced c xs v ys h left = by (ranked v.rev.main c)
   where
     itself : (b : Bool) → is_superseded (xs ++ v ∷ ys) v.rev.main v ≡ b → b ≡ false
     itself true e = let below : v.rev.main < v.rev.main = low v.rev.main v ys (rising-mid xs v ys h).1
-        (sym (superseded-mid xs v ys v.rev.main h) ∙ e) in absurd (omega arith)
+        (sym (superseded-mid xs v ys v.rev.main (before-mid xs v ys h)) ∙ e) in absurd (omega arith)
     itself false e = refl
 
     by : (v.rev.main ≤ c) ⊎ (c < v.rev.main) → is_superseded (xs ++ v ∷ ys) (max v.rev.main c) v ≡ false

@@ -1,23 +1,22 @@
 -- A certificate that passes its check: each listed version has its claimed need in the list, which is so the least of itself.
 use Rattle.std.proofs.Common.{◌≡◌, ◌≤◌, ◌<◌, ◌≢◌, ℕ, ◌^◌, suc, List, [], ◌∷◌, length, filter, find, Bool, true, false, not, ◌&&◌, cond}
 use Rattle.std.proofs.Common.{Option, None, Some, refl, sym, ◌∙◌, ap, subst, inl, inr, arith}
-use Rattle.std.specs.Prelude.{⊤, option_map, nat_lt, nat_le, ◌==◌}
+use Rattle.std.specs.Prelude.{⊤, option_map, nat_le, ◌==◌}
 use Rattle.std.proofs.lemmas.Bool.{leb-true, eq-eqb, eqb-true, ltb-false}
 use Rattle.std.specs.Option.{option_or}
 use Rattle.std.specs.List.{AllByRecursion}
 use Rattle.std.proofs.lemmas.List.Sums.{length-filter}
-use Rattle.kv_model.specs.declared.version.Rev.{Rev}
 use Rattle.kv_model.specs.declared.version.Version.{Version}
 use Rattle.kv_model.specs.Lists.{IsPart, IsIn, is_empty}
 use Rattle.kv_model.specs.Keys.{same_key}
 use Rattle.kv_model.specs.History.{value_at, key_value, end_of, rev_lt}
-use Rattle.kv_model.specs.Questions.{Question, IsQuestion, IsKept, answered_by, IsGoodBy}
+use Rattle.kv_model.specs.Questions.{IsQuestion, IsKept, answered_by}
 use Rattle.kv_model.specs.Needs.{question_of, HasNeedBy}
-use Rattle.kv_model.specs.Trimming.{is_tombstone, is_superseded, is_at}
+use Rattle.kv_model.specs.Trimming.{is_tombstone, is_superseded}
 use Rattle.kv_model.specs.Certificates.{NeedFault, is_asked, is_met, fall_after, first_fall, is_double, first_double}
 use Rattle.kv_model.specs.Certificates.{claims_fault, first_fault, AreNeedsBy}
 use Rattle.kv_model.specs.Dumps.{Dump, Claim, Need}
-use Rattle.store_laws.specs.TrimmingLaws.{IsLeastOfItself, PassingIsLeast}
+use Rattle.store_laws.specs.TrimmingLaws.{PassingIsLeast}
 use Rattle.store_laws.proofs.PartLaws.{part_length}
 use Rattle.store_laws.proofs.PlaceLaws.{each-map}
 use Rattle.store_laws.proofs.GoodLaws.{or-none, or-none-first}

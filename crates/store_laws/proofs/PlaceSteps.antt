@@ -7,11 +7,8 @@ use Rattle.std.specs.List.{AllByRecursion}
 use Rattle.kv_model.specs.declared.version.Rev.{Rev}
 use Rattle.kv_model.specs.declared.version.Version.{Version}
 use Rattle.kv_model.specs.History.{rev_lt}
-use Rattle.kv_model.specs.Trimming.{without_rev, place_after}
-use Rattle.store_laws.proofs.PlaceLaws.{each-map}
+use Rattle.kv_model.specs.Trimming.{place_after}
 use Rattle.store_laws.proofs.RevOrder.{ranked, rev_lt-mains, rev_lt-subs, below-cases}
-use Rattle.store_laws.proofs.Rising.{others-middle}
-use Rattle.store_laws.proofs.TrimLaws.{Precedes, AreRising, rising-mid}
 
 -- ---- places
 
@@ -122,13 +119,3 @@ pub ahead-same : (p q : Rev) (c : ℕ) (vs : List Version) → AllByRecursion (�
 ahead-same p q c [] g h = refl
 ahead-same p q c (v ∷ vs) g h = λ i. cond (not ((g.0 ∙ sym h.0) i) && nat_le v.rev.main c) (v
     ∷ ahead-same p q c vs g.1 h.1 i) (ahead-same p q c vs g.1 h.1 i)
-
--- ---- taking one out
-
-pub without-mid : (xs : List Version) (v : Version) (ys : List Version) → AreRising (xs ++ v ∷ ys)
-    → without_rev (Some v.rev) (xs ++ v ∷ ys) ≡ xs ++ ys
-without-mid xs v ys h =
-    let mid = rising-mid xs v ys h in
-    others-middle (λ u. u.rev) xs v ys
-    (each-map (λ u. Precedes u v) (λ u. rev_lt u.rev v.rev ≡ true) (λ u a. a.0) xs mid.0)
-    (each-map (Precedes v) (λ u. rev_lt v.rev u.rev ≡ true) (λ u a. a.0) ys mid.1)

@@ -1,11 +1,8 @@
 -- What is planned for a transaction that passes its check is what the model does.
-use Rattle.std.proofs.Common.{◌≡◌, ◌+◌, [], Bool, None, refl, sym, ◌∙◌, ap}
-use Rattle.kv_model.specs.Calls.{Ops}
-use Rattle.kv_model.specs.Leases.{is_granted}
-use Rattle.kv_model.specs.Txns.{static_fault, path_of, effect, run_refusal}
-use Rattle.kv_model.specs.World.{World, revision, versions}
-use Rattle.store_laws.specs.PlanLaws.{PlanIsEffect, PlanRefusesFirst, PlansAs, StorePlansTxn}
-use Rattle.store_laws.specs.Stands.{Store, StandsFor}
+use Rattle.std.proofs.Common.{◌≡◌, ◌+◌, [], sym, ◌∙◌, ap}
+use Rattle.kv_model.specs.Txns.{path_of}
+use Rattle.kv_model.specs.World.{revision, versions}
+use Rattle.store_laws.specs.PlanLaws.{PlanIsEffect, PlanRefusesFirst, StorePlansTxn}
 use Rattle.store_laws.specs.Stores.{path_in, changes_of_path, refusal_of_path}
 use Rattle.store_laws.proofs.PlanLaws.{effect-planned, refusal-planned}
 use Rattle.store_laws.proofs.PathLaws.{path-checked}

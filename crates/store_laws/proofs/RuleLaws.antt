@@ -1,9 +1,8 @@
 -- A trimming step by the rule is one that a run may make.
-use Rattle.std.proofs.Common.{◌≡◌, ◌≤◌, ◌<◌, ◌⊎◌, ℕ, ◌^◌, List, [], ◌∷◌, ◌++◌, length, find, filter, Bool, true, false, not, ◌&&◌, cond}
-use Rattle.std.proofs.Common.{Option, None, Some, refl, sym, ◌∙◌, ap, subst, inl, inr, arith}
+use Rattle.std.proofs.Common.{◌≡◌, ◌≤◌, ◌<◌, ◌⊎◌, ◌^◌, List, [], ◌∷◌, ◌++◌, length, find, filter, Bool, true, false, not, ◌&&◌, cond}
+use Rattle.std.proofs.Common.{Option, None, Some, refl, sym, ◌∙◌, ap, subst, inl, inr}
 use Rattle.std.specs.Prelude.{⊤, nat_le, MatchOption}
-use Rattle.std.proofs.lemmas.Bool.{leb-true, le-leb, leb-false}
-use Rattle.std.proofs.lemmas.List.Elements.{filter-append}
+use Rattle.std.proofs.lemmas.Bool.{leb-true, leb-false}
 use Rattle.std.specs.List.{AllByRecursion}
 use Rattle.kv_model.specs.declared.version.Rev.{Rev}
 use Rattle.kv_model.specs.declared.version.Version.{Version}
@@ -19,30 +18,16 @@ use Rattle.kv_model.specs.Kept.{Keeping, IsInLeast, IsTrimmed, IsCertificate, Tr
 use Rattle.kv_model.specs.Dumps.{Claim}
 use Rattle.store_laws.specs.TrimmingLaws.{keeping, trim_told, IsOwn, StepsWell, TrimmedStepsWell, DoneIsTrimmed}
 use Rattle.store_laws.proofs.PartLaws.{in_whole}
-use Rattle.store_laws.proofs.HistoryLaws.{AllByRecursion-split}
-use Rattle.store_laws.proofs.PlaceLaws.{each-map, each-append}
-use Rattle.store_laws.proofs.RevOrder.{rev_lt-main, rev_lt-self, rev_lt-trans, not-before}
-use Rattle.store_laws.proofs.TrimLaws.{Precedes, AreRising, rising-dress, rising-part, rising-mid, Sits, AllSit, sit-part, AreLeft}
-use Rattle.store_laws.proofs.StepLaws.{settles, fewer, step-good}
+use Rattle.store_laws.proofs.RevOrder.{rev_lt-self}
+use Rattle.store_laws.proofs.TrimLaws.{Precedes, AreRising, rising-dress, rising-part, rising-mid, sit-numbers, sit-part, AreLeft}
+use Rattle.store_laws.proofs.StepLaws.{settles, step-good}
 use Rattle.store_laws.proofs.LeastLaws.{each-in, IsLeft, stays-in, settled-least, least-settled}
-use Rattle.store_laws.proofs.PlaceSteps.{after-self, after-next, First, first-from, none-from, is_ahead}
-use Rattle.store_laws.proofs.PlaceSteps.{ahead-none, ahead-above, ahead-same, without-mid}
+use Rattle.store_laws.proofs.PlaceSteps.{First, first-from, none-from, is_ahead, ahead-none}
+use Rattle.store_laws.proofs.Visits.{IsOrderly, to_visit, rising-revs, left-before, visit-next, visit-kept, visit-removed, taken-out}
+use Rattle.store_laws.proofs.Visits.{up_to-removed, up_to-kept, none-ahead, settled-from}
 use Rattle.store_laws.proofs.CertificateLaws.{settled-certified}
 
 -- ---- done
-
--- where nothing is ahead, what is not left to take out before the place is not left at all
-settled-from : (vs : List Version) (p : Rev) (c : ℕ) (us : List Version) → filter (is_ahead p c) us ≡ []
-    → AllByRecursion (λ v. (rev_lt v.rev p && (nat_le v.rev.main c && is_trimmed vs c v)) ≡ false) us → AreLeft vs c us
-settled-from vs p c [] e h = tt
-settled-from vs p c (u ∷ us) e h = by (rev_lt u.rev p) refl (nat_le u.rev.main c) refl e h.0 (λ f. settled-from vs p c us f h.1)
-  where
-    by : (a : Bool) → rev_lt u.rev p ≡ a → (b : Bool) → nat_le u.rev.main c ≡ b
-        → cond (not a && b) (u ∷ filter (is_ahead p c) us) (filter (is_ahead p c) us) ≡ []
-        → (a && (b && is_trimmed vs c u)) ≡ false → (filter (is_ahead p c) us ≡ [] → AreLeft vs c us) → AreLeft vs c (u ∷ us)
-    by true d b f e l rest = (ap (λ t. t && is_trimmed vs c u) f ∙ l, rest e)
-    by false d true f e l rest = cc
-    by false d false f e l rest = (ap (λ t. t && is_trimmed vs c u) f, rest e)
 
 own-certificate : (w : World) (vs : List Version) (certificate : Option (List Claim)) → IsSound w → IsGood vs w.mutations w.compacted
     → IsSettled vs w.compacted → IsOwn w vs certificate
@@ -94,66 +79,34 @@ module _ (w : World) (xs : List Version) (v : Version) (ys : List Version) (p : 
   rising : AreRising (xs ++ v ∷ ys)
   rising = rising-part g.part (rising-dress w.mutations sound.history)
 
-  sit : AllSit (now w.mutations) (xs ++ v ∷ ys)
-  sit = sit-part (xs ++ v ∷ ys) w.mutations g.part sound.history
+  orderly : IsOrderly w.compacted (xs ++ v ∷ ys)
+  orderly = record {
+    rising = rising-revs (xs ++ v ∷ ys) rising;
+    numbers = sit-numbers (now w.mutations) (xs ++ v ∷ ys) (sit-part (xs ++ v ∷ ys) w.mutations g.part sound.history);
+    small = small;
+  }
 
-  sit-parts : AllSit (now w.mutations) xs × AllSit (now w.mutations) (v ∷ ys)
-  sit-parts = AllByRecursion-split (λ u. Sits (now w.mutations) u.rev u.key) xs (v ∷ ys) sit
+  -- nothing before it goes
+  left : AreLeft (xs ++ v ∷ ys) w.compacted xs
+  left = left-before w.compacted xs v ys p orderly to all_before from low
 
   next : Rev
   next = place_after v.rev
 
-  to-parts : AllByRecursion (λ u. (rev_lt u.rev p && (nat_le u.rev.main w.compacted && is_trimmed (xs ++ v ∷ ys) w.compacted u)) ≡ false) xs
-      × AllByRecursion (λ u. (rev_lt u.rev p && (nat_le u.rev.main w.compacted && is_trimmed (xs ++ v ∷ ys) w.compacted u)) ≡ false) (v
-      ∷ ys)
-  to-parts = AllByRecursion-split (λ u. (rev_lt u.rev p && (nat_le u.rev.main w.compacted && is_trimmed (xs ++ v ∷ ys) w.compacted u))
-      ≡ false) xs (v ∷ ys) to
-
-  -- nothing before it goes
-  left : AreLeft (xs ++ v ∷ ys) w.compacted xs
-  left = settled-from (xs ++ v ∷ ys) p w.compacted xs (ahead-none p w.compacted xs all_before) to-parts.0
-
-  self-before : rev_lt v.rev next ≡ true
-  unfolding next
-  self-before = after-self v.rev (omega arith) sit-parts.1.0.number
-
-  xs-before : AllByRecursion (λ u. rev_lt u.rev next ≡ true) xs
-  xs-before = each-map (λ u. Precedes u v) (λ u. rev_lt u.rev next ≡ true) (λ u a. rev_lt-trans u.rev v.rev next a.0 self-before) xs
-      (rising-mid xs v ys rising).0
-
-  ys-after : (us : List Version) → AllByRecursion (Precedes v) us → AllSit (now w.mutations) us → AllByRecursion (λ u. rev_lt u.rev next
-      ≡ false) us
-  unfolding next
-  ys-after [] h s = tt
-  ys-after (u ∷ us) h s = (after-next v.rev u.rev (omega arith) sit-parts.1.0.number s.0.number h.0.0, ys-after us h.1 s.1)
-
-  ys-behind : AllByRecursion (λ u. rev_lt u.rev next ≡ false) ys
-  ys-behind = ys-after ys (rising-mid xs v ys rising).1 sit-parts.1.1
-
-  ys-from : AllByRecursion (λ u. rev_lt u.rev p ≡ false) ys
-  ys-from = each-map (Precedes v) (λ u. rev_lt u.rev p ≡ false) (λ u a. not-before v.rev u.rev p from a.0) ys (rising-mid xs v ys rising).1
-
   rest : List Version
-  rest = filter (is_ahead p w.compacted) ys
+  rest = to_visit ys p w.compacted
 
-  ahead-is : filter (is_ahead p w.compacted) (xs ++ v ∷ ys) ≡ v ∷ rest
+  ahead-is : to_visit (xs ++ v ∷ ys) p w.compacted ≡ v ∷ rest
   unfolding rest
-  ahead-is = filter-append (is_ahead p w.compacted) xs (v ∷ ys)
-      ∙ (λ i. ahead-none p w.compacted xs all_before i ++ cond (not (from i) && le-leb v.rev.main w.compacted low i) (v
-      ∷ filter (is_ahead p w.compacted) ys) (filter (is_ahead p w.compacted) ys))
+  ahead-is = visit-next w.compacted xs v ys p orderly to all_before from low
 
-  ahead-kept : filter (is_ahead next w.compacted) (xs ++ v ∷ ys) ≡ rest
-  unfolding rest
-  ahead-kept = filter-append (is_ahead next w.compacted) xs (v ∷ ys)
-      ∙ (λ i. ahead-none next w.compacted xs xs-before i ++ cond (not (self-before i) && nat_le v.rev.main w.compacted) (v
-      ∷ filter (is_ahead next w.compacted) ys) (filter (is_ahead next w.compacted) ys))
-      ∙ sym (ahead-same p next w.compacted ys ys-from ys-behind)
+  ahead-kept : to_visit (xs ++ v ∷ ys) next w.compacted ≡ rest
+  unfolding rest next
+  ahead-kept = visit-kept w.compacted xs v ys p orderly to all_before from low
 
-  ahead-removed : filter (is_ahead next w.compacted) (xs ++ ys) ≡ rest
-  unfolding rest
-  ahead-removed = filter-append (is_ahead next w.compacted) xs ys
-      ∙ (λ i. ahead-none next w.compacted xs xs-before i ++ filter (is_ahead next w.compacted) ys)
-      ∙ sym (ahead-same p next w.compacted ys ys-from ys-behind)
+  ahead-removed : to_visit (xs ++ ys) next w.compacted ≡ rest
+  unfolding rest next
+  ahead-removed = visit-removed w.compacted xs v ys p orderly to all_before from low
 
   -- it goes, and no least list has it
   removes : is_trimmed (xs ++ v ∷ ys) w.compacted v ≡ true
@@ -170,23 +123,13 @@ module _ (w : World) (xs : List Version) (v : Version) (ys : List Version) (p : 
   }
     where
       out : without_rev (Some v.rev) (xs ++ v ∷ ys) ≡ xs ++ ys
-      out = without-mid xs v ys rising
+      out = taken-out w.compacted xs v ys p orderly to all_before from low
 
       good : IsGood (xs ++ ys) w.mutations w.compacted
       good = step-good w.mutations w.compacted xs v ys sound.history g left e
 
-      and-false : (b : Bool) → (b && false) ≡ false
-      and-false true = refl
-      and-false false = refl
-
       up_to : IsTrimmedTo (xs ++ ys) next w.compacted
-      up_to = each-append (λ u. (rev_lt u.rev next && (nat_le u.rev.main w.compacted && is_trimmed (xs ++ ys) w.compacted u)) ≡ false) xs ys
-          (each-map (λ u. (nat_le u.rev.main w.compacted && is_trimmed (xs ++ v ∷ ys) w.compacted u) ≡ false) (λ u. (rev_lt u.rev next
-          && (nat_le u.rev.main w.compacted && is_trimmed (xs ++ ys) w.compacted u)) ≡ false)
-          (λ u l. ap (λ b. rev_lt u.rev next && b) (fewer xs v ys w.compacted u l) ∙ and-false (rev_lt u.rev next)) xs left)
-          (each-map (λ u. rev_lt u.rev next ≡ false) (λ u. (rev_lt u.rev next && (nat_le u.rev.main w.compacted
-          && is_trimmed (xs ++ ys) w.compacted u)) ≡ false)
-          (λ u l. ap (λ b. b && (nat_le u.rev.main w.compacted && is_trimmed (xs ++ ys) w.compacted u)) l) ys ys-behind)
+      up_to = up_to-removed w.compacted xs v ys p orderly to all_before from low
 
       none : IsInLeast w v → ⊥
       none h =
@@ -221,20 +164,8 @@ module _ (w : World) (xs : List Version) (v : Version) (ys : List Version) (p : 
       here : IsLeft (xs ++ v ∷ ys) w.compacted v
       here = ap (λ b. nat_le v.rev.main w.compacted && b) e ∙ and-false (nat_le v.rev.main w.compacted)
 
-      drop_first : (u : Version) → IsLeft (xs ++ v ∷ ys) w.compacted u → (rev_lt u.rev next && (nat_le u.rev.main w.compacted
-          && is_trimmed (xs ++ v ∷ ys) w.compacted u)) ≡ false
-      drop_first u l = ap (λ b. rev_lt u.rev next && b) l ∙ and-false (rev_lt u.rev next)
-
       up_to : IsTrimmedTo (xs ++ v ∷ ys) next w.compacted
-      up_to = each-append (λ u. (rev_lt u.rev next && (nat_le u.rev.main w.compacted && is_trimmed (xs ++ v ∷ ys) w.compacted u))
-          ≡ false) xs (v ∷ ys)
-          (each-map (IsLeft (xs ++ v ∷ ys) w.compacted) (λ u. (rev_lt u.rev next && (nat_le u.rev.main w.compacted
-          && is_trimmed (xs ++ v ∷ ys) w.compacted u)) ≡ false) drop_first xs left) (
-            drop_first v here,
-            each-map (λ u. rev_lt u.rev next ≡ false) (λ u. (rev_lt u.rev next && (nat_le u.rev.main w.compacted
-                && is_trimmed (xs ++ v ∷ ys) w.compacted u)) ≡ false)
-                (λ u l. ap (λ b. b && (nat_le u.rev.main w.compacted && is_trimmed (xs ++ v ∷ ys) w.compacted u)) l) ys ys-behind,
-          )
+      up_to = up_to-kept w.compacted xs v ys p orderly to all_before from low e
 
       some : IsInLeast w v
       some =
@@ -268,12 +199,6 @@ module _ (w : World) (xs : List Version) (v : Version) (ys : List Version) (p : 
 
 -- ---- the step
 
--- what stands from a version above the compaction on is not to be visited
-none-ahead : (xs : List Version) (v : Version) (ys : List Version) (p : Rev) (c : ℕ) → AreRising (xs ++ v ∷ ys)
-    → AllByRecursion (λ u. rev_lt u.rev p ≡ true) xs → c < v.rev.main → filter (is_ahead p c) (xs ++ v ∷ ys) ≡ []
-none-ahead xs v ys p c h before high = filter-append (is_ahead p c) xs (v ∷ ys)
-    ∙ (λ i. ahead-none p c xs before i ++ ahead-above p c (v ∷ ys) (high, each-map (Precedes v) (λ u. c < u.rev.main) (λ u a. let l : v.rev.main ≤ u.rev.main = rev_lt-main v.rev u.rev a.0 in omega arith) ys (rising-mid xs v ys h).1) i)
-
 pub steps-well : TrimmedStepsWell
 unfolding trimmed
 steps-well w vs p certificate sound small g to own = by (find (λ u. not (rev_lt u.rev p)) vs) refl
@@ -284,8 +209,8 @@ steps-well w vs p certificate sound small g to own = by (find (λ u. not (rev_lt
         (visits w f.before v f.after p certificate sound small (subst (λ us. IsGood us w.mutations w.compacted) f.is g)
         (subst (λ us. IsTrimmedTo us p w.compacted) f.is to) f.all_before f.from (leb-true v.rev.main w.compacted e))
     looked v f false e = finishes w vs p certificate sound g to own (subst (λ us. filter (is_ahead p w.compacted) us ≡ []) (sym f.is)
-        (none-ahead f.before v f.after p w.compacted (subst AreRising f.is (rising-part g.part (rising-dress w.mutations sound.history)))
-        f.all_before (leb-false v.rev.main w.compacted e)))
+        (none-ahead f.before v f.after p w.compacted (rising-revs (f.before ++ v ∷ f.after)
+        (subst AreRising f.is (rising-part g.part (rising-dress w.mutations sound.history)))) f.all_before (leb-false v.rev.main w.compacted e)))
 
     by : (o : Option Version) → find (λ u. not (rev_lt u.rev p)) vs ≡ o → StepsWell w vs p certificate (trimmed_next vs p w.compacted o)
     by None e = finishes w vs p certificate sound g to own (ahead-none p w.compacted vs (none-from p vs e))

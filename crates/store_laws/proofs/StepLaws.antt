@@ -1,5 +1,5 @@
 -- What a trimming step leaves is good, and steps come to an end where nothing is left to take out.
-use Rattle.std.proofs.Common.{append_assoc, ◌≡◌, ◌≤◌, ◌<◌, ℕ, ◌-◌, List, [], ◌∷◌, ◌++◌, map, filter, Bool, true, false, ◌&&◌, ◌||◌, cond}
+use Rattle.std.proofs.Common.{append_assoc, ◌≡◌, ◌≤◌, ◌<◌, ℕ, ◌-◌, ◌^◌, List, [], ◌∷◌, ◌++◌, map, filter, Bool, true, false, ◌&&◌, ◌||◌, cond}
 use Rattle.std.proofs.Common.{None, refl, sym, ◌∙◌, ap, subst, arith}
 use Rattle.std.specs.Prelude.{nat_lt, nat_le, ◌==◌}
 use Rattle.std.proofs.lemmas.Bool.{ltb-true, eqb-true}
@@ -16,7 +16,9 @@ use Rattle.kv_model.specs.Questions.{Question, IsQuestion, Answered, answered, I
 use Rattle.kv_model.specs.Trimming.{is_superseded, is_tombstone, is_trimmed, IsSettled}
 use Rattle.store_laws.proofs.Compacting.{same_ranges}
 use Rattle.store_laws.proofs.PlaceLaws.{each-map, each-append}
-use Rattle.store_laws.proofs.TrimLaws.{AreRising, rising-dress, rising-part, sit-part, AreLeft, Goes, goes-of, out-values, replaces}
+use Rattle.store_laws.proofs.HistoryLaws.{AllByRecursion-split}
+use Rattle.store_laws.proofs.TrimLaws.{AreRising, rising-dress, rising-part, before-mid, AreNumbered, sit-numbers, sit-part, AreLeft}
+use Rattle.store_laws.proofs.TrimLaws.{GoesNext, goes-below, out-values, replaces}
 
 pub part-trans : {X : Type 0} {xs ys zs : List X} → IsPart xs ys → IsPart ys zs → IsPart xs zs
 part-trans p nothing = p
@@ -80,18 +82,30 @@ step-good ms c xs v ys h g left e = record { part = part-trans (part-without xs 
     rising : AreRising (xs ++ v ∷ ys)
     rising = rising-part g.part (rising-dress ms h)
 
-    goes : Goes (xs ++ v ∷ ys) c v
-    goes = goes-of xs v ys c rising e
+    below : v.rev.main < c
+    below = goes-below xs v ys c rising e
+
+    numbers : AreNumbered (xs ++ v ∷ ys)
+    numbers = sit-numbers (now ms) (xs ++ v ∷ ys) (sit-part (xs ++ v ∷ ys) ms g.part h)
+
+    next : GoesNext c xs v ys
+    next = record {
+      by = omega (arith, below);
+      goes = e;
+      before = before-mid xs v ys rising;
+      left = left;
+      numbers = (AllByRecursion-split (λ u. u.rev.sub < 2 ^ 64) xs (v ∷ ys) numbers).1.1;
+    }
 
     same : (r : ℕ) (k : List ℕ) → c ≤ r → value_at (xs ++ ys) (end_of r) k ≡ value_at (xs ++ v ∷ ys) (end_of r) k
-    same r k l = sym (out-values (now ms) c r xs v ys k l rising (sit-part (xs ++ v ∷ ys) ms g.part h) left goes)
+    same r k l = sym (out-values c r xs v ys k l next)
 
     answers : (q : Question) → IsQuestion c (now ms) q → answered (xs ++ ys) c (now ms) q ≡ answered (dress ms) c (now ms) q
     answers (Question.range q) a =
         ap Answered.range (same_ranges (xs ++ ys) (xs ++ v ∷ ys) c (now ms) a.revision (end_of (now ms)) q a.kept.first a.is
         (λ k. same a.revision k a.kept.kept)) ∙ g.answers (Question.range q) a
     answers (Question.watch w r) a =
-        ap Answered.watch (events-out xs v ys c r w (let b : v.rev.main < c = goes.below in let d : c ≤ r = a.kept in omega arith) same)
+        ap Answered.watch (events-out xs v ys c r w (let d : c ≤ r = a.kept in omega (arith, below)) same)
         ∙ g.answers (Question.watch w r) a
 
 -- ---- steps to the end

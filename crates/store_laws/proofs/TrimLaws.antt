@@ -68,6 +68,16 @@ pub rising-mid : (xs : List Version) (v : Version) (ys : List Version) → AreRi
 rising-mid [] v ys h = (tt, h.0)
 rising-mid (x ∷ xs) v ys h = let r = rising-mid xs v ys h.1 in (((AllByRecursion-split (Precedes x) xs (v ∷ ys) h.0).1.0, r.0), r.1)
 
+-- versions that stand before another, and numbers within a revision that fit 64 bits
+abbrev pub AreBefore : Version → List Version → Type 0
+AreBefore v us = AllByRecursion (λ u. rev_lt u.rev v.rev ≡ true) us
+
+abbrev pub AreNumbered : List Version → Type 0
+AreNumbered vs = AllByRecursion (λ v. v.rev.sub < 2 ^ 64) vs
+
+pub before-mid : (xs : List Version) (v : Version) (ys : List Version) → AreRising (xs ++ v ∷ ys) → AreBefore v xs
+before-mid xs v ys h = each-map (λ u. Precedes u v) (λ u. rev_lt u.rev v.rev ≡ true) (λ u a. a.0) xs (rising-mid xs v ys h).0
+
 -- where a version of a history that comes to a revision stands
 pub record Sits (n : ℕ) (p : Rev) (k : List ℕ) : Type 0 where
   pub above : 1 < p.main
@@ -82,6 +92,9 @@ all-sit : (n : ℕ) (ms : List Mutation) → AllByRecursion IsChange ms → AllB
     → AllByRecursion (λ m. Sits n m.rev m.key) ms
 all-sit n [] h g = tt
 all-sit n (m ∷ ms) h g = (record { above = h.0.behind; number = h.0.number; by = g.0; has_key = h.0.has_key }, all-sit n ms h.1 g.1)
+
+pub sit-numbers : (n : ℕ) (vs : List Version) → AllSit n vs → AreNumbered vs
+sit-numbers n vs s = each-map (λ v. Sits n v.rev v.key) (λ v. v.rev.sub < 2 ^ 64) (λ v a. a.number) vs s
 
 pub sit-part : (vs : List Version) (ms : List Mutation) → IsPart vs (dress ms) → IsHistory ms → AllSit (now ms) vs
 sit-part vs ms p h = each-part (λ v. Sits (now ms) v.rev v.key) p (each-dressed (Sits (now ms)) ms (all-sit (now ms) ms (each-change ms h)
@@ -119,16 +132,16 @@ replaces-not r v u h = by (replaces r v u) refl
     by false e = refl
 
 -- none before it does, nor it itself
-none-before : (r : ℕ) (v : Version) (xs : List Version) → AllByRecursion (λ u. Precedes u v) xs → list_any (replaces r v) xs ≡ false
+none-before : (r : ℕ) (v : Version) (xs : List Version) → AreBefore v xs → list_any (replaces r v) xs ≡ false
 none-before r v [] h = refl
-none-before r v (x ∷ xs) h = λ i. replaces-not r v x (λ p. let e : true ≡ false = sym p.later ∙ rev_lt-turn x.rev v.rev h.0.0 in cc) i
+none-before r v (x ∷ xs) h = λ i. replaces-not r v x (λ p. let e : true ≡ false = sym p.later ∙ rev_lt-turn x.rev v.rev h.0 in cc) i
     || none-before r v xs h.1 i
 
-pub superseded-mid : (xs : List Version) (v : Version) (ys : List Version) (r : ℕ) → AreRising (xs ++ v ∷ ys) → is_superseded (xs ++ v
-    ∷ ys) r v ≡ list_any (replaces r v) ys
+pub superseded-mid : (xs : List Version) (v : Version) (ys : List Version) (r : ℕ) → AreBefore v xs
+    → is_superseded (xs ++ v ∷ ys) r v ≡ list_any (replaces r v) ys
 unfolding is_superseded
 superseded-mid xs v ys r h = list_any-append (replaces r v) xs (v ∷ ys)
-    ∙ λ i. none-before r v xs (rising-mid xs v ys h).0 i || (replaces-not r v v (λ p. let e : true ≡ false = sym p.later ∙ rev_lt-self v.rev
+    ∙ λ i. none-before r v xs h i || (replaces-not r v v (λ p. let e : true ≡ false = sym p.later ∙ rev_lt-self v.rev
     in cc) i || list_any (replaces r v) ys)
 
 -- what is replaced is below
@@ -148,14 +161,14 @@ low r v (u ∷ ys) h e = by (replaces r v u) refl (low r v ys h.1) e
     by false f rest e = rest e
 
 -- what replaces it is seen at the end of any later revision
-pub seen : (n c r : ℕ) (v : Version) (k : List ℕ) (ys : List Version) → c ≤ r → v.key ≡ k → AllSit n ys → list_any (replaces c v) ys ≡ true
+pub seen : (c r : ℕ) (v : Version) (k : List ℕ) (ys : List Version) → c ≤ r → v.key ≡ k → AreNumbered ys → list_any (replaces c v) ys ≡ true
     → is_some (latest ys (end_of r) k) ≡ true
-seen n c r v k [] l d s e = cc
-seen n c r v k (u ∷ ys) l d s e = by (replaces c v u) refl (seen n c r v k ys l d s.1) e
+seen c r v k [] l d s e = cc
+seen c r v k (u ∷ ys) l d s e = by (replaces c v u) refl (seen c r v k ys l d s.1) e
   where
     test : Replaces c v u → (same_key u.key k && rev_le u.rev (end_of r)) ≡ true
     test p = λ i. (ap (λ j. same_key j k) (p.key ∙ d) ∙ same-refl k) i && rev_le-end u.rev r (let f : u.rev.main ≤ c = p.by
-        in omega arith) s.0.number i
+        in omega arith) s.0 i
 
     here : (o : Option Version) → is_some (option_or o (Some u)) ≡ true
     here None = refl
@@ -205,52 +218,57 @@ last_seen r v (u ∷ ys) h e = by (replaces r v u) refl (last_seen r v ys h.1) e
 abbrev pub AreLeft : List Version → ℕ → List Version → Type 0
 AreLeft vs c us = AllByRecursion (λ u. (nat_le u.rev.main c && is_trimmed vs c u) ≡ false) us
 
--- a version that goes is replaced, or it is a tombstone, and it is below the compaction
-pub record Goes (vs : List Version) (c : ℕ) (v : Version) : Type 0 where
-  pub below : v.rev.main < c
-  pub why : (is_superseded vs c v ≡ true) ⊎ (v.body ≡ Gone)
-
 gone-body : (b : Body) → is_tombstone b ≡ true → b ≡ Gone
 gone-body (Put create version lease value) e = cc
 gone-body Gone e = refl
 
-pub goes-of : (xs : List Version) (v : Version) (ys : List Version) (c : ℕ) → AreRising (xs ++ v ∷ ys) → is_trimmed (xs ++ v ∷ ys) c v
-    ≡ true → Goes (xs ++ v ∷ ys) c v
-goes-of xs v ys c h e = by (is_superseded (xs ++ v ∷ ys) c v) refl e
+-- a version that goes is replaced, or it is a tombstone
+why-goes : (vs : List Version) (c : ℕ) (v : Version) → is_trimmed vs c v ≡ true → (is_superseded vs c v ≡ true) ⊎ (v.body ≡ Gone)
+why-goes vs c v e = by (is_superseded vs c v) refl e
   where
-    by : (b : Bool) → is_superseded (xs ++ v ∷ ys) c v ≡ b → (b || (is_tombstone v.body && nat_lt v.rev.main c)) ≡ true
-        → Goes (xs ++ v ∷ ys) c v
-    by true f e = record { below = low c v ys (rising-mid xs v ys h).1 (sym (superseded-mid xs v ys c h) ∙ f); why = inl f }
-    by false f e = let both = both-true (is_tombstone v.body) (nat_lt v.rev.main c) e in record {
-      below = ltb-true v.rev.main c both.1;
-      why = inr (gone-body v.body both.0);
-    }
+    by : (b : Bool) → is_superseded vs c v ≡ b → (b || (is_tombstone v.body && nat_lt v.rev.main c)) ≡ true
+        → (is_superseded vs c v ≡ true) ⊎ (v.body ≡ Gone)
+    by true f e = inl f
+    by false f e = inr (gone-body v.body (both-true (is_tombstone v.body) (nat_lt v.rev.main c) e).0)
+
+-- and where no key stands twice at a revision, it is below the compaction
+pub goes-below : (xs : List Version) (v : Version) (ys : List Version) (c : ℕ) → AreRising (xs ++ v ∷ ys)
+    → is_trimmed (xs ++ v ∷ ys) c v ≡ true → v.rev.main < c
+goes-below xs v ys c h e = by (is_superseded (xs ++ v ∷ ys) c v) refl e
+  where
+    by : (b : Bool) → is_superseded (xs ++ v ∷ ys) c v ≡ b → (b || (is_tombstone v.body && nat_lt v.rev.main c)) ≡ true → v.rev.main < c
+    by true f e = low c v ys (rising-mid xs v ys h).1 (sym (superseded-mid xs v ys c (before-mid xs v ys h)) ∙ f)
+    by false f e = ltb-true v.rev.main c (both-true (is_tombstone v.body) (nat_lt v.rev.main c) e).1
+
+-- a version at or below the compaction goes, and nothing that stands before it does
+pub record GoesNext (c : ℕ) (xs : List Version) (v : Version) (ys : List Version) : Type 0 where
+  pub by : v.rev.main ≤ c
+  pub goes : is_trimmed (xs ++ v ∷ ys) c v ≡ true
+  pub before : AreBefore v xs
+  pub left : AreLeft (xs ++ v ∷ ys) c xs
+  pub numbers : AreNumbered ys
 
 -- where nothing before a tombstone goes, no version before it has its key
 no-earlier : (vs : List Version) (c : ℕ) (v : Version) (us : List Version) → v.rev.main ≤ c → ((u : Version) → replaces c u v ≡ true
     → is_superseded vs c u ≡ true)
-    → AreLeft vs c us → AllByRecursion (λ u. Precedes u v) us → AllByRecursion (λ u. same_key u.key v.key ≡ false) us
+    → AreLeft vs c us → AreBefore v us → AllByRecursion (λ u. same_key u.key v.key ≡ false) us
 no-earlier vs c v [] l f h g = tt
 no-earlier vs c v (u ∷ us) l f h g = (by (same_key u.key v.key) refl, no-earlier vs c v us l f h.1 g.1)
   where
     by : (b : Bool) → same_key u.key v.key ≡ b → b ≡ false
     by true e =
-        let p : Replaces c u v = record { key = sym (same_key-eq u.key v.key e); later = g.0.0; by = l } in
-        let m : u.rev.main ≤ v.rev.main = rev_lt-main u.rev v.rev g.0.0 in
+        let p : Replaces c u v = record { key = sym (same_key-eq u.key v.key e); later = g.0; by = l } in
+        let m : u.rev.main ≤ v.rev.main = rev_lt-main u.rev v.rev g.0 in
         let x : true ≡ false = (λ i. sym (le-leb u.rev.main c (omega arith)) i && (sym (f u (replaces-as c u v p)) i
         || (is_tombstone u.body && nat_lt u.rev.main c))) ∙ h.0 in cc
     by false e = refl
 
 -- what goes is not missed at the end of a revision from the compaction on
-pub out-values : (n c r : ℕ) (xs : List Version) (v : Version) (ys : List Version) (k : List ℕ) → c ≤ r → AreRising (xs ++ v ∷ ys)
-    → AllSit n (xs ++ v ∷ ys)
-    → AreLeft (xs ++ v ∷ ys) c xs → Goes (xs ++ v ∷ ys) c v → value_at (xs ++ v ∷ ys) (end_of r) k ≡ value_at (xs ++ ys) (end_of r) k
+pub out-values : (c r : ℕ) (xs : List Version) (v : Version) (ys : List Version) (k : List ℕ) → c ≤ r → GoesNext c xs v ys
+    → value_at (xs ++ v ∷ ys) (end_of r) k ≡ value_at (xs ++ ys) (end_of r) k
 unfolding is_superseded
-out-values n c r xs v ys k l h s left goes = by goes.why
+out-values c r xs v ys k l h = by (why-goes (xs ++ v ∷ ys) c v h.goes)
   where
-    sits : AllSit n ys
-    sits = (AllByRecursion-split (λ u. Sits n u.rev u.key) xs (v ∷ ys) s).1.1
-
     keyed : (a b : Bool) → same_key v.key k ≡ a → (a && b) ≡ true → v.key ≡ k
     keyed true b d e = same_key-eq v.key k d
     keyed false b d e = cc
@@ -264,7 +282,7 @@ out-values n c r xs v ys k l h s left goes = by goes.why
         or-true false = refl
 
     earlier : AllByRecursion (λ u. same_key u.key v.key ≡ false) xs
-    earlier = no-earlier (xs ++ v ∷ ys) c v xs (let b : v.rev.main < c = goes.below in omega arith) has left (rising-mid xs v ys h).0
+    earlier = no-earlier (xs ++ v ∷ ys) c v xs h.by has h.left h.before
 
     absent : v.key ≡ k → latest xs (end_of r) k ≡ None
     absent d = last_that-none (λ u. same_key u.key k && rev_le u.rev (end_of r)) xs
@@ -273,6 +291,6 @@ out-values n c r xs v ys k l h s left goes = by goes.why
 
     by : (is_superseded (xs ++ v ∷ ys) c v ≡ true) ⊎ (v.body ≡ Gone) → value_at (xs ++ v ∷ ys) (end_of r) k
         ≡ value_at (xs ++ ys) (end_of r) k
-    by (inl f) = superseded-out xs v ys (end_of r) k (λ e. seen n c r v k ys l (keyed (same_key v.key k) (rev_le v.rev (end_of r)) refl e)
-        sits (sym (superseded-mid xs v ys c h) ∙ f))
+    by (inl f) = superseded-out xs v ys (end_of r) k (λ e. seen c r v k ys l (keyed (same_key v.key k) (rev_le v.rev (end_of r)) refl e)
+        h.numbers (sym (superseded-mid xs v ys c h.before) ∙ f))
     by (inr f) = tombstone-out xs v ys (end_of r) k f (λ e. absent (keyed (same_key v.key k) (rev_le v.rev (end_of r)) refl e))

@@ -28,18 +28,18 @@ first-append (u ∷ us) vs = refl
 
 -- what a watch waits for is reached by versions of the next revision just where they are not before it
 reached : (n next main : ℕ) → main ≡ n + 1 → is_reached (ahead_of n next) main ≡ nat_le next main
-reached n next main e = by (nat_lt n next) refl
+reached n next main e = by (nat_lt (n + 1) next) refl
   where
-    by : (b : Bool) → nat_lt n next ≡ b → is_reached (cond b (Some next) None) main ≡ nat_le next main
+    by : (b : Bool) → nat_lt (n + 1) next ≡ b → is_reached (cond b (Some next) None) main ≡ nat_le next main
     by true f = refl
     by false f = grind (arith, nat_tests)
 
 ahead-after : (n m next : ℕ) → n ≤ m → still_ahead m (ahead_of n next) ≡ ahead_of m next
-ahead-after n m next l = by (nat_lt n next) refl
+ahead-after n m next l = by (nat_lt (n + 1) next) refl
   where
-    by : (b : Bool) → nat_lt n next ≡ b → still_ahead m (cond b (Some next) None) ≡ ahead_of m next
+    by : (b : Bool) → nat_lt (n + 1) next ≡ b → still_ahead m (cond b (Some next) None) ≡ ahead_of m next
     by true f = refl
-    by false f = let g : nat_lt m next ≡ false = grind (arith, nat_tests) in sym (ap (λ c. cond c (Some next) None) g)
+    by false f = let g : nat_lt (m + 1) next ≡ false = grind (arith, nat_tests) in sym (ap (λ c. cond c (Some next) None) g)
 
 module _ (ds new : List Version) (n m : ℕ) (at : AllByRecursion (λ v. v.rev.main ≡ n + 1) new) (l : n ≤ m) where
   next-noted : (t : Tracked) (w : Watch) → t.watched ≡ w.watched → TracksNext ds n t w

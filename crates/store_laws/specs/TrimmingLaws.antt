@@ -1,5 +1,5 @@
 -- Laws of trimming: its rule takes out what no least list needs, and ends at the one least.
-use Rattle.std.specs.Prelude.{◌≡◌, ℕ, ◌≤◌, ◌<◌, ◌^◌, List, ◌++◌, filter, Bool, not, ◌&&◌, nat_le, Option, None}
+use Rattle.std.specs.Prelude.{◌≡◌, ℕ, ◌≤◌, ◌<◌, ◌^◌, List, [], ◌∷◌, ◌++◌, filter, Bool, not, ◌&&◌, nat_le, Option, None}
 use Rattle.std.specs.Prelude.{MatchOption, ⊤}
 use Rattle.std.specs.List.{AllByRecursion}
 use Rattle.kv_model.specs.declared.version.Rev.{Rev}
@@ -44,6 +44,13 @@ PassingIsLeast = (has_before : ℕ → ℕ → Bool) (d : Dump) (claims : List C
 -- what is kept, where trimming has come to a place: those at or below c from there on are to be visited
 abbrev pub keeping : List Version → Rev → ℕ → Keeping
 keeping vs p c = record { kept = vs; ahead = filter (λ v. not (rev_lt v.rev p) && nat_le v.rev.main c) vs }
+
+-- a step that is told so visits the next version, and without a next one it is done: what was to be visited before it,
+-- and what is afterwards
+abbrev pub IsVisit : Trimmed → List Version → List Version → Type 0
+IsVisit (Trimmed.removed q) before after = (v : Version) × (q ≡ v.rev) × (before ≡ v ∷ after)
+IsVisit (Trimmed.kept q) before after = (v : Version) × (q ≡ v.rev) × (before ≡ v ∷ after)
+IsVisit (Trimmed.done n) before after = (before ≡ []) × (after ≡ [])
 
 -- a step, as it is told in a run
 abbrev pub trim_told : Trimmed → Option (List Claim) → WireTold
