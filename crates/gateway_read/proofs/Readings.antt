@@ -15,8 +15,8 @@ use Rattle.kv_model.specs.Keys.{same_key}
 use Rattle.kv_model.specs.Ranges.{plain_range}
 use Rattle.kv_model.specs.Requests.{Read, ◌>>=◌, truth_field, integer_field}
 use Rattle.gateway_read.specs.declared.requests.Request.{Request}
-use Rattle.gateway_read.specs.declared.requests.Request.TheVariants.{Range, Put, Delete, Txn, Watch, Grant, Revoke, KeepAlive}
-use Rattle.gateway_read.specs.declared.requests.Request.TheVariants.{TimeToLive, Leases}
+use Rattle.gateway_read.specs.declared.requests.Request.TheVariants.{Range, Put, Delete, Txn, Compact, Watch, Grant, Revoke}
+use Rattle.gateway_read.specs.declared.requests.Request.TheVariants.{KeepAlive, TimeToLive, Leases}
 use Rattle.gateway_read.specs.declared.requests.Flags.{Flags}
 use Rattle.gateway_read.specs.declared.requests.Bounds.{Bounds}
 use Rattle.gateway_read.specs.Options.{flags_of, bounds_of, with_options}
@@ -86,8 +86,8 @@ named_value-map f (e ∷ table) name = ap (cond (same_key e.0 name) (Some (f e.1
 -- what each path asks for
 abbrev pub known_paths : List (List ℕ × Request)
 known_paths = (codes "/v3/kv/range", Range) ∷ (codes "/v3/kv/put", Put) ∷ (codes "/v3/kv/deleterange", Delete) ∷ (codes "/v3/kv/txn", Txn)
-    ∷ (codes "/v3/watch", Watch) ∷ (codes "/v3/lease/grant", Grant) ∷ (codes "/v3/lease/revoke", Revoke) ∷ (codes "/v3/kv/lease/revoke", Revoke)
-    ∷ (codes "/v3/lease/keepalive", KeepAlive)
+    ∷ (codes "/v3/kv/compaction", Compact) ∷ (codes "/v3/watch", Watch) ∷ (codes "/v3/lease/grant", Grant)
+    ∷ (codes "/v3/lease/revoke", Revoke) ∷ (codes "/v3/kv/lease/revoke", Revoke) ∷ (codes "/v3/lease/keepalive", KeepAlive)
     ∷ (codes "/v3/lease/timetolive", TimeToLive) ∷ (codes "/v3/kv/lease/timetolive", TimeToLive)
     ∷ (codes "/v3/lease/leases", Leases) ∷ (codes "/v3/kv/lease/leases", Leases) ∷ []
 

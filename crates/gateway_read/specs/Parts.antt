@@ -4,11 +4,12 @@ use Rattle.serde_json.specs.Data.{Members}
 use Rattle.kv_model.specs.declared.call.RangeQuery.{RangeQuery}
 use Rattle.kv_model.specs.Calls.{Call, as_call}
 use Rattle.kv_model.specs.Requests.{Read, ◌>>=◌, range_query, put_request, delete_request, txn_request}
-use Rattle.kv_model.specs.Requests.{most_nested, watch_request, grant_request, id_request, time_to_live_request}
+use Rattle.kv_model.specs.Requests.{most_nested, compact_request, watch_request, grant_request, id_request}
+use Rattle.kv_model.specs.Requests.{time_to_live_request}
 use Rattle.gateway_read.specs.Options.{flags_of, bounds_of, with_options}
 use Rattle.gateway_read.specs.declared.requests.Request.{Request}
-use Rattle.gateway_read.specs.declared.requests.Request.TheVariants.{Range, Put, Delete, Txn, Watch, Grant}
-use Rattle.gateway_read.specs.declared.requests.Request.TheVariants.{Revoke, KeepAlive, TimeToLive, Leases}
+use Rattle.gateway_read.specs.declared.requests.Request.TheVariants.{Range, Put, Delete, Txn, Compact, Watch}
+use Rattle.gateway_read.specs.declared.requests.Request.TheVariants.{Grant, Revoke, KeepAlive, TimeToLive, Leases}
 
 -- a query with what is left to read of a Range
 unfoldable pub completed : RangeQuery → Members → Read RangeQuery
@@ -20,6 +21,7 @@ call_read Range ms = range_query ms >>= λ q. Ok (Call.range q)
 call_read Put ms = put_request ms >>= λ p. Ok (Call.put p)
 call_read Delete ms = delete_request ms >>= λ d. Ok (Call.delete d)
 call_read Txn ms = txn_request most_nested ms >>= λ t. Ok (as_call t)
+call_read Compact ms = compact_request ms
 call_read Watch ms = watch_request ms
 call_read Grant ms = grant_request ms
 call_read Revoke ms = id_request Call.revoke ms

@@ -2,7 +2,8 @@
 //!
 //! The one contract is that of [`read`]: what it gives is `request_of` of `kv_model`, a command or
 //! the first fault in the order of the fields, and want of memory says nothing. `json_gateway`
-//! calls it for each request. For example,
+//! calls it for each request. Ranges, puts, deletions, transactions, compactions, watches and what
+//! is asked of leases have a path each, or two of one meaning. For example,
 //!
 //! ```text
 //! POST /v3/kv/range  {"key":"YQ==","rangeEnd":"Yg==","limit":"2","sort_order":"DESCEND","x":1}
@@ -34,6 +35,7 @@ use std::alloc::Global;
 
 pub mod bad;
 mod body;
+mod compacting;
 pub mod comparing;
 mod deleting;
 pub mod field;
@@ -47,11 +49,12 @@ mod symbols;
 mod transacting;
 mod watching;
 
-const PATHS: [(&str, Request); 13] = [
+const PATHS: [(&str, Request); 14] = [
     ("/v3/kv/range", Request::Range),
     ("/v3/kv/put", Request::Put),
     ("/v3/kv/deleterange", Request::Delete),
     ("/v3/kv/txn", Request::Txn),
+    ("/v3/kv/compaction", Request::Compact),
     ("/v3/watch", Request::Watch),
     ("/v3/lease/grant", Request::Grant),
     ("/v3/lease/revoke", Request::Revoke),

@@ -8,6 +8,7 @@ ghost use Rattle.gateway_read.specs.Objects.{seen};
 ghost use Rattle.gateway_read.specs.Reading.{Gives};
 
 use crate::bad::Bad;
+use crate::compacting::compact_request;
 use crate::deleting::delete_request;
 use crate::field::Field;
 use crate::leasing::{grant_request, keep_alive_request, revoke_request, time_to_live_request};
@@ -27,6 +28,7 @@ pub(crate) enum Request {
     Put,
     Delete,
     Txn,
+    Compact,
     Watch,
     Grant,
     Revoke,
@@ -44,6 +46,7 @@ pub(crate) fn command(alloc: Global, request: Request, object: &Object<'_>) -> R
         Request::Put => Ok(Command::Put(put_request(alloc, object)?)),
         Request::Delete => Ok(Command::Delete(delete_request(alloc, object)?)),
         Request::Txn => Ok(Command::Txn(txn_request(alloc, object)?)),
+        Request::Compact => compact_request(object),
         Request::Watch => watch_request(alloc, object),
         Request::Grant => grant_request(object),
         Request::Revoke => revoke_request(object),

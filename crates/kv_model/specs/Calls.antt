@@ -78,6 +78,7 @@ call_of (command.Range q) = Call.range q
 call_of (command.Put p) = Call.put p
 call_of (command.Delete d) = Call.delete d
 call_of (command.Txn t) = as_call (txn_view t)
+call_of (command.Compact revision physical) = Call.compact revision physical
 call_of (command.Watch watched start id) = Call.watch watched start id
 call_of (command.Grant ttl id) = Call.grant ttl id
 call_of (command.Revoke id) = Call.revoke id

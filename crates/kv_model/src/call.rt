@@ -113,6 +113,12 @@ pub enum Command {
     Delete(DeleteRequest),
     /// Compares, and does one of two lists of operations as one change.
     Txn(Txn),
+    /// Forgets the history before a revision, for which no read of an earlier one is answered from
+    /// then on. Where `physical` says so, the answer waits until trimming is done.
+    Compact {
+        revision: i64,
+        physical: bool,
+    },
     /// Makes a watch from the revision `start` on, where 0 and below mean the next one. `id` is the
     /// client's number for it.
     Watch {
