@@ -1,6 +1,6 @@
 -- What an index holds as pairs and versions come, and as a lease goes.
-use Rattle.std.proofs.Common.{◌≡◌, ◌<◌, ℕ, ℤ, suc, List, [], ◌∷◌, ◌++◌, length, take, get_or, Bool, true, false, ◌||◌, ◌&&◌, cond, Option}
-use Rattle.std.proofs.Common.{None, Some, option_and_then, refl, sym, ◌∙◌, ap}
+use Rattle.std.proofs.Common.{◌≡◌, ◌<◌, ℕ, ℤ, suc, List, [], ◌∷◌, ◌++◌, length, take, get_or, Bool, true, false, ◌||◌, ◌&&◌, not, cond}
+use Rattle.std.proofs.Common.{Option, None, Some, is_none, option_map, option_and_then, refl, sym, ◌∙◌, ap}
 use Rattle.std.specs.List.{list_any}
 use Rattle.std.specs.Option.{option_or}
 use Rattle.std.specs.Ordering.{int_eq}
@@ -16,9 +16,11 @@ use Rattle.kv_model.specs.Keys.{key_cmp, same_key}
 use Rattle.kv_model.specs.History.{KeyValue, shown, key_value, value_now}
 use Rattle.store_laws.proofs.HistoryLaws.{last_that-append}
 use Rattle.store_laws.proofs.DeleteLaws.{last_that-passes}
-use Rattle.lease_keys.specs.Pairs.{Pairs, keys_at, has_pair, AreAdded, AreForgotten}
+use Rattle.lease_keys.specs.Pairs.{Pairs, keys_at, has_pair, without_key, AreAdded, AreRemoved, AreForgotten}
 use Rattle.lease_keys.specs.Holding.{is_lease, is_of, lease_of, puts_pair, ArePut, Holds, AreNotUnder, IsWithin}
-use Rattle.store_laws.proofs.KeyLaws.{has_key}
+use Rattle.lease_keys.specs.Holding.{under, is_unused, IsUnusedDropped}
+use Rattle.store_laws.proofs.HistoryLaws.{same_key-eq}
+use Rattle.store_laws.proofs.KeyLaws.{has_key, has_key-filter}
 use Rattle.lease_keys.proofs.Sets.{inserted-has}
 
 or_false : (b : Bool) → (b || false) ≡ b
@@ -122,3 +124,56 @@ pub holds-forgotten : (l : ℤ) (old new : Pairs) (held : List ℕ → Option Ke
     → Holds old held → Holds new held
 holds-forgotten l old new held gone none h k kv e n =
     ap (has_key k) (gone kv.lease ∙ ap (λ b. cond b [] (keys_at kv.lease old)) (other-lease kv.lease l (none k kv e))) ∙ h k kv e n
+
+-- ---- a pair that is not used goes
+
+and_true : (b : Bool) → (b && true) ≡ b
+and_true true = refl
+and_true false = refl
+
+and_false : (b : Bool) → (b && false) ≡ false
+and_false true = refl
+and_false false = refl
+
+pub mapped-none : {X Y : Type 0} (f : X → Y) (o : Option X) → is_none (option_map f o) ≡ is_none o
+mapped-none f None = refl
+mapped-none f (Some x) = refl
+
+module _ (v : Version) (held : List ℕ → Option KeyValue) (old : Pairs) where
+  pub unused-none : lease_of v.body ≡ None → IsUnusedDropped v held old old
+  unused-none e l k = sym (ap (λ o. has_pair l k old && not ((is_of l o && same_key v.key k) && is_none (under l (held k)))) e
+      ∙ and_true (has_pair l k old))
+
+  pub unused-kept : (m : ℤ) → lease_of v.body ≡ Some m → is_none (under m (held v.key)) ≡ false → IsUnusedDropped v held old old
+  unused-kept m e n l k = sym (ap (λ o. has_pair l k old && not ((is_of l o && same_key v.key k) && is_none (under l (held k)))) e
+      ∙ ap (λ b. has_pair l k old && not b) (by (int_eq m l) refl (same_key v.key k) refl) ∙ and_true (has_pair l k old))
+    where
+      by : (b : Bool) → int_eq m l ≡ b → (s : Bool) → same_key v.key k ≡ s → ((b && s) && is_none (under l (held k))) ≡ false
+      by true f true g = sym (λ i. is_none (under (same-lease m l f i) (held (same_key-eq v.key k g i)))) ∙ n
+      by true f false g = refl
+      by false f s g = refl
+
+  pub unused-removed : (m : ℤ) (new : Pairs) → lease_of v.body ≡ Some m → is_none (under m (held v.key)) ≡ true
+      → AreRemoved m v.key old new → IsUnusedDropped v held old new
+  unused-removed m new e n removed l k = ap (has_key k) (removed l) ∙ by (int_eq m l) refl
+      ∙ sym (ap (λ o. has_pair l k old && not ((is_of l o && same_key v.key k) && is_none (under l (held k)))) e)
+    where
+      of : int_eq m l ≡ true → (s : Bool) → same_key v.key k ≡ s
+          → (not s && has_pair m k old) ≡ (has_pair l k old && not (s && is_none (under l (held k))))
+      of f true g = sym (ap (λ b. has_pair l k old && not b)
+          (sym (λ i. is_none (under (same-lease m l f i) (held (same_key-eq v.key k g i)))) ∙ n) ∙ and_false (has_pair l k old))
+      of f false g = ap (λ q. has_pair q k old) (same-lease m l f) ∙ sym (and_true (has_pair l k old))
+
+      by : (b : Bool) → int_eq m l ≡ b → has_key k (cond b (without_key v.key (keys_at m old)) (keys_at l old))
+          ≡ (has_pair l k old && not ((b && same_key v.key k) && is_none (under l (held k))))
+      by true f = has_key-filter (λ j. not (same_key v.key j)) k (keys_at m old) ∙ of f (same_key v.key k) refl
+      by false f = sym (and_true (has_pair l k old))
+
+pub holds-used : (v : Version) (old new : Pairs) (held : List ℕ → Option KeyValue) → IsUnusedDropped v held old new
+    → Holds old held → Holds new held
+holds-used v old new held dropped h k kv e n =
+    let mine : Bool = is_of kv.lease (lease_of v.body) && same_key v.key k in
+    dropped kv.lease k ∙ ap (λ b. b && not (is_unused v held kv.lease k)) (h k kv e n)
+    ∙ ap (λ o. not (mine && is_none (under kv.lease o))) e
+    ∙ ap (λ b. not (mine && is_none (cond b (Some kv) None))) (lease-itself kv.lease)
+    ∙ ap not (and_false mine)

@@ -1,5 +1,6 @@
 -- Pairs as they change.
-use Rattle.std.proofs.Common.{◌≡◌, ◌≢◌, ℕ, ℤ, List, [], ◌∷◌, Bool, true, false, cond, Option, Some, unwrap_or, Result, Ok, Err, OnOk, OnErr}
+use Rattle.std.proofs.Common.{◌≡◌, ◌≢◌, ℕ, ℤ, List, [], ◌∷◌, Bool, true, false, cond, Option, None, Some}
+use Rattle.std.proofs.Common.{unwrap_or, Result, Ok, Err, OnOk, OnErr}
 use Rattle.std.proofs.Common.{refl, sym, ◌∙◌, ap, subst}
 use Rattle.std.specs.Prelude.{IsSome}
 use Rattle.std.specs.Map.{lookup, set_value, remove_entry}
@@ -9,8 +10,10 @@ use Rattle.std.specs.Ordering.{int_cmp, int_eq, match_ordering}
 use Rattle.std.specs.BTreeMap.{insert_entry, is_at}
 use Rattle.std.specs.BTreeSet.{insert_key}
 use Rattle.std.proofs.lemmas.Map.Steps.{set_value_same}
+use Rattle.std.proofs.lemmas.Bool.Decides.{Decides-int_eq}
+use Rattle.kv_model.specs.Lists.{is_empty}
 use Rattle.kv_model.specs.Keys.{key_cmp}
-use Rattle.lease_keys.specs.Pairs.{Pairs, HaveKeys, keys_at, AreSet, AreAdded}
+use Rattle.lease_keys.specs.Pairs.{Pairs, HaveKeys, keys_at, without_key, AreSet, AreAdded, AreRemoved}
 
 abbrev pub found : ℤ → Pairs → Option (List (List ℕ))
 found l ps = lookup (is_at (int_cmp l)) ps
@@ -23,13 +26,47 @@ updated l ks old new h q = ap (λ o. unwrap_or o []) (h q) ∙ by (int_eq l q)
     by true = refl
     by false = refl
 
+-- a change of the keys that a lease has
+pub changed-through : (f : List (List ℕ) → List (List ℕ)) (l : ℤ) (old new : Pairs) (ks more : List (List ℕ)) → Some ks ≡ found l old
+    → (IsSome (found l old) → (q : ℤ) → found q new ≡ cond (int_eq l q) (Some more) (found q old)) → more ≡ f ks
+    → AreSet l (f (keys_at l old)) old new
+changed-through f l old new ks more here writes e =
+    subst (λ js. AreSet l js old new) (e ∙ ap (λ o. f (unwrap_or o [])) here)
+    (updated l more old new (writes (subst IsSome here refl)))
+
 -- a key that is added to the keys that a lease has
 pub added-through : (l : ℤ) (k : List ℕ) (old new : Pairs) (ks more : List (List ℕ)) → Some ks ≡ found l old
     → (IsSome (found l old) → (q : ℤ) → found q new ≡ cond (int_eq l q) (Some more) (found q old)) → more ≡ insert_key key_cmp ks k
     → AreAdded l k old new
-added-through l k old new ks more here writes e =
-    subst (λ js. AreSet l js old new) (e ∙ ap (λ o. insert_key key_cmp (unwrap_or o []) k) here)
-    (updated l more old new (writes (subst IsSome here refl)))
+added-through l k = changed-through (λ ks. insert_key key_cmp ks k) l
+
+-- a lease that has no key to take out
+pub removed-absent : (l : ℤ) (k : List ℕ) (ps : Pairs) → None ≡ found l ps → AreRemoved l k ps ps
+removed-absent l k ps e q = by (int_eq l q) refl
+  where
+    by : (b : Bool) → int_eq l q ≡ b → keys_at q ps ≡ cond b (without_key k (keys_at l ps)) (keys_at q ps)
+    by true f = sym (ap (λ m. keys_at m ps) ((Decides-int_eq l q).0 f)) ∙ sym (ap (λ o. unwrap_or o []) e)
+        ∙ ap (λ o. without_key k (unwrap_or o [])) e
+    by false f = refl
+
+empty-nil : (ks : List (List ℕ)) → is_empty ks ≡ true → ks ≡ []
+empty-nil [] e = refl
+empty-nil (k ∷ ks) e = cc
+
+-- the last key that a lease has goes, and its entry
+pub removed-last : (l : ℤ) (k : List ℕ) (old mid new : Pairs) (ks more : List (List ℕ)) → Some ks ≡ found l old
+    → (IsSome (found l old) → (q : ℤ) → found q mid ≡ cond (int_eq l q) (Some more) (found q old)) → more ≡ without_key k ks
+    → is_empty more ≡ true → ((q : ℤ) → found q new ≡ cond (int_eq l q) None (found q mid)) → AreRemoved l k old new
+removed-last l k old mid new ks more here writes e bare gone q =
+    ap (λ o. unwrap_or o []) (gone q) ∙ by (int_eq l q) (writes (subst IsSome here refl) q)
+  where
+    none : [] ≡ without_key k (keys_at l old)
+    none = sym (empty-nil more bare) ∙ e ∙ ap (λ o. without_key k (unwrap_or o [])) here
+
+    by : (b : Bool) → found q mid ≡ cond b (Some more) (found q old)
+        → unwrap_or (cond b None (found q mid)) [] ≡ cond b (without_key k (keys_at l old)) (keys_at q old)
+    by true g = none
+    by false g = ap (λ o. unwrap_or o []) g
 
 -- ---- no lease is without keys
 
@@ -81,3 +118,23 @@ have-more (Ok u) l k old new ks more here e ok err h =
     subst HaveKeys (sym (e ∙ ap (set_value (is_at (int_cmp l)) old) ok)) (have-set l (insert_key key_cmp ks k) (inserted-there ks k) old h)
 have-more (Err u) l k old new ks more here e ok err h =
     subst HaveKeys (sym (e ∙ ap (set_value (is_at (int_cmp l)) old) err ∙ set_value_same (is_at (int_cmp l)) old ks (sym here))) h
+
+-- a key less, where others are left
+pub have-left : (l : ℤ) (ks : List (List ℕ)) (ps : Pairs) → is_empty ks ≡ false → HaveKeys ps
+    → HaveKeys (set_value (is_at (int_cmp l)) ps ks)
+have-left l ks ps e h = have-set l ks (λ f. let bad : false ≡ true = sym e ∙ ap is_empty f in cc) ps h
+
+-- and where none is
+pub have-bared : (l : ℤ) (ks : List (List ℕ)) (ps : Pairs) → HaveKeys ps
+    → HaveKeys (remove_entry (is_at (int_cmp l)) (set_value (is_at (int_cmp l)) ps ks))
+have-bared l ks [] h = tt
+have-bared l ks (p ∷ ps) h = by (is_at (int_cmp l) p.0) refl (have-bared l ks ps h.1)
+  where
+    test : ℤ → Bool
+    test m = is_at (int_cmp l) m
+
+    by : (b : Bool) → test p.0 ≡ b → HaveKeys (remove_entry test (set_value test ps ks))
+        → HaveKeys (remove_entry test (cond b ((p.0, ks) ∷ ps) (p ∷ set_value test ps ks)))
+    by true e rest = subst (λ b. HaveKeys (cond b ps ((p.0, ks) ∷ remove_entry test ps))) (sym e) h.1
+    by false e rest =
+        subst (λ b. HaveKeys (cond b (set_value test ps ks) (p ∷ remove_entry test (set_value test ps ks)))) (sym e) (h.0, rest)

@@ -1,5 +1,5 @@
 -- Which pairs an index has to have, so that the keys of a lease are found by it.
-use Rattle.std.specs.Prelude.{◌≡◌, ℕ, ℤ, pos, List, Bool, true, false, ◌&&◌, ◌||◌, not, Option, None, Some}
+use Rattle.std.specs.Prelude.{◌≡◌, ℕ, ℤ, pos, List, Bool, true, false, ◌&&◌, ◌||◌, not, Option, None, Some, is_none}
 use Rattle.std.specs.Prelude.{if◌then◌else◌}
 use Rattle.std.specs.List.{list_any}
 use Rattle.std.specs.Ordering.{int_eq}
@@ -48,3 +48,12 @@ ArePut vs old new = (l : ℤ) (k : List ℕ) → has_pair l k new ≡ (puts_pair
 abbrev pub under : ℤ → Option KeyValue → Option KeyValue
 under l None = None
 under l (Some kv) = if int_eq kv.lease l then Some kv else None
+
+-- the pair is the one that the version puts, and its key does not hold what was put under that lease
+abbrev pub is_unused : Version → (List ℕ → Option KeyValue) → ℤ → List ℕ → Bool
+is_unused v held l k = is_of l (lease_of v.body) && same_key v.key k && is_none (under l (held k))
+
+-- the pair of a version goes where it is unused, and each other pair stays
+abbrev pub IsUnusedDropped : Version → (List ℕ → Option KeyValue) → Pairs → Pairs → Type 0
+IsUnusedDropped v held old new = (l : ℤ) (k : List ℕ)
+    → has_pair l k new ≡ (has_pair l k old && not (is_unused v held l k))

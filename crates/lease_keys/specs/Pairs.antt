@@ -1,5 +1,5 @@
 -- Pairs of a lease and a key, by leases.
-use Rattle.std.specs.Prelude.{◌≡◌, ◌≢◌, ℕ, ℤ, List, [], Bool, unwrap_or, if◌then◌else◌}
+use Rattle.std.specs.Prelude.{◌≡◌, ◌≢◌, ℕ, ℤ, List, [], Bool, not, filter, unwrap_or, if◌then◌else◌}
 use Rattle.std.specs.List.{AllByRecursion, list_any}
 use Rattle.std.specs.Map.{lookup}
 use Rattle.std.specs.Ordering.{int_cmp, int_eq}
@@ -33,3 +33,10 @@ AreAdded l k old new = AreSet l (insert_key key_cmp (keys_at l old) k) old new
 -- a lease has no key any more
 abbrev pub AreForgotten : ℤ → Pairs → Pairs → Type 0
 AreForgotten l old new = AreSet l [] old new
+
+abbrev pub without_key : List ℕ → List (List ℕ) → List (List ℕ)
+without_key k ks = filter (λ j. not (same_key k j)) ks
+
+-- a key goes from those of a lease
+abbrev pub AreRemoved : ℤ → List ℕ → Pairs → Pairs → Type 0
+AreRemoved l k old new = AreSet l (without_key k (keys_at l old)) old new

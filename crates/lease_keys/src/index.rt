@@ -2,7 +2,7 @@
 ghost use Rattle.std.specs.Prelude.{◌≡◌, ℕ, [], ◌∷◌, map, take, IfOk, OnOk, OnErr};
 ghost use Rattle.store_laws.specs.Laws.{IsStrictlyAscending};
 ghost use Rattle.lease_keys.specs.Holding.{ArePut, lease_of};
-ghost use Rattle.lease_keys.specs.Pairs.{AreAdded, HaveKeys, keys_at};
+ghost use Rattle.lease_keys.specs.Pairs.{AreAdded, AreRemoved, HaveKeys, keys_at};
 
 use crate::set::KeySet;
 use bytes::Bytes;
@@ -79,6 +79,17 @@ impl LeaseKeys {
         }
     }
 
+    /// Takes a key out of those of a lease, where it is there. A lease that is left without keys
+    /// has no entry any more.
+    ///
+    /// Takes no memory. The time is logarithmic in the number of leases and in that of the lease's
+    /// keys.
+    pub fn remove(&mut self, lease: i64, key: &Bytes)
+        ensures { AreRemoved lease key.now self.old self.new }
+    {
+        remove(self.alloc, &mut self.leases, lease, key);
+    }
+
     /// Takes all keys of a lease out. Takes no memory. The time is logarithmic in the number of
     /// leases, and linear in that of the lease's keys.
     pub fn forget(&mut self, lease: i64)
@@ -103,7 +114,7 @@ impl LeaseKeys {
 }
 
 /// The lease that a put names, where it names one.
-fn lease_of(body: &Body) -> Option<i64>
+pub(crate) fn lease_of(body: &Body) -> Option<i64>
     ensures { result ≡ lease_of body.now }
 {
     match body {
@@ -129,4 +140,17 @@ fn add(
     let keys = KeySet::one(key)?;
     leases.insert(lease, keys)?;
     Ok(())
+}
+
+/// Takes a key out of those of a lease. A lease that is left without keys goes.
+fn remove(alloc: Global, leases: &mut BTreeMap<i64, KeySet>, lease: i64, key: &Bytes)
+    ensures removed { AreRemoved lease key.now leases.old.entries leases.new.entries }
+    ensures kept { HaveKeys leases.old.entries → HaveKeys leases.new.entries }
+{
+    let Some(keys) = leases.get_mut(&lease) else {
+        return;
+    };
+    if keys.remove(alloc, key) {
+        leases.remove(&lease);
+    }
 }

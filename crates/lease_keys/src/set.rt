@@ -2,15 +2,17 @@
 ghost use Rattle.std.specs.Prelude.{◌≡◌, [], ◌∷◌, map, IfOk, OnOk, OnErr};
 ghost use Rattle.std.specs.BTreeSet.{insert_key};
 ghost use Rattle.kv_model.specs.Keys.{key_cmp};
+ghost use Rattle.kv_model.specs.Lists.{is_empty};
 ghost use Rattle.store_laws.specs.Laws.{IsStrictlyAscending};
+ghost use Rattle.lease_keys.specs.Pairs.{without_key};
 
 use bytes::Bytes;
 use std::alloc::{AllocError, Global};
 use std::collections::BTreeSet;
 use std::marker::Model;
 
-/// The keys of one lease. A single one, as most leases have, takes no memory of its own; more stand
-/// in an ordered set of the standard library.
+/// The keys of one lease. A single one, as most leases have, takes no memory of its own; more, and
+/// none at all, stand in an ordered set of the standard library.
 #[derive(Debug, Drop)]
 pub(crate) struct KeySet {
     held: Held,
@@ -56,6 +58,26 @@ impl KeySet {
             }
         }
         Ok(())
+    }
+
+    /// Takes a key out, where it is there. Answers whether no key is left. Takes no memory.
+    pub(crate) fn remove(&mut self, alloc: Global, key: &Bytes) -> bool
+        ensures keys { self.new ≡ without_key key.now self.old }
+        ensures left { result ≡ is_empty self.new }
+    {
+        match &mut self.held {
+            Held::One(one) => {
+                let last = key == one;
+                if last {
+                    self.held = Held::Many(BTreeSet::new(alloc));
+                }
+                last
+            }
+            Held::Many(keys) => {
+                keys.remove(key);
+                keys.is_empty()
+            }
+        }
     }
 
     /// The keys, ascending.

@@ -81,7 +81,7 @@ fn held_by<'a>(
 }
 
 /// What a key holds, where it was last put under the lease.
-fn held<'a>(view: &View<'a>, key: &Bytes, lease: i64) -> Option<KvRef<'a>>
+pub(crate) fn held<'a>(view: &View<'a>, key: &Bytes, lease: i64) -> Option<KvRef<'a>>
     ensures { option_map kv_view result
         ≡ under lease (value_at view.now.versions view.now.place key.now) }
 {

@@ -9,7 +9,8 @@ ghost use Rattle.version_table.specs.Rising.{retracted};
 ghost use Rattle.range_view.specs.Stored.{IsStored, appended, blank, blank_at, compacted_at};
 ghost use Rattle.range_view.specs.Stored.{goes_on, is_next, retracted_to, seen_at};
 ghost use Rattle.range_view.specs.Stored.{trim_of, trimmed_once};
-ghost use Rattle.trim_core.specs.Steps.{told_of};
+ghost use Rattle.trim_core.specs.Steps.{next_version, told_of};
+ghost use Rattle.std.specs.Prelude.{option_copied};
 
 use crate::growth::{add_all, take_back};
 use crate::key_versions::KeyVersions;
@@ -20,7 +21,8 @@ use key_index::KeyIndex;
 use kv_model::version::{Rev, Version};
 use std::alloc::{AllocError, Global};
 use std::marker::Model;
-use trim_core::{Trim, Trimmer};
+pub use trim_core::Trim;
+use trim_core::Trimmer;
 use version_table::VersionTable;
 
 /// The versions that are kept with the index of their keys, the revision of the last compaction,
@@ -266,6 +268,16 @@ impl Tables {
         self.trimmer.restart();
     }
 
+    /// The version that a trimming step would visit next, lent from the table; none where trimming
+    /// is done. Takes no memory, and time logarithmic in the number of versions.
+    pub fn next_visited(&self) -> Option<&Version>
+        ensures value { option_copied result
+            ≡ next_version self.now.versions self.now.place self.now.compacted }
+        ensures stored { IsStored self.now }
+    {
+        self.trimmer.next(&self.table, self.compacted)
+    }
+
     /// Makes one trimming step: the next version at or below the last compaction is visited, the
     /// oldest first, and taken out where a later version of its key is at or below the compaction,
     /// or where it is a tombstone below it. Where none is left to visit, nothing changes, and the
@@ -274,6 +286,7 @@ impl Tables {
     /// Takes no memory. The time is logarithmic in the number of versions and of keys, but for the
     /// versions behind the one that goes, which move one place.
     pub fn trim_step(&mut self) -> Trim
+        ensures stored { IsStored self.old }
         ensures told { told_of result ≡ (trim_of self.old).told }
         ensures kept { self.new ≡ trimmed_once self.old }
     {

@@ -2,11 +2,12 @@
 ghost use Rattle.std.specs.Prelude.{◌≡◌};
 ghost use Rattle.kv_model.specs.Trimming.{oldest_place, trimmed};
 ghost use Rattle.key_index.specs.Agrees.{Agrees};
-ghost use Rattle.trim_core.specs.Steps.{step_of};
+ghost use Rattle.std.specs.Prelude.{option_copied};
+ghost use Rattle.trim_core.specs.Steps.{next_version, step_of};
 
 use crate::rule::{is_trimmed, next_version, place_after};
 use key_index::KeyIndex;
-use kv_model::version::Rev;
+use kv_model::version::{Rev, Version};
 use std::marker::Model;
 use version_table::VersionTable;
 
@@ -58,6 +59,14 @@ impl Trimmer {
         ensures { self.new ≡ oldest_place }
     {
         self.place = Rev { main: 0, sub: 0 };
+    }
+
+    /// The version that a step would visit next, of those at or below `compacted`, lent from the
+    /// table. Takes no memory, and time logarithmic in the number of versions.
+    pub fn next<'a>(&self, table: &'a VersionTable, compacted: u64) -> Option<&'a Version>
+        ensures { option_copied result ≡ next_version table.now self.now compacted }
+    {
+        next_version(table, self.place, compacted)
     }
 
     /// Visits the next version at or below `compacted`, the revision of the last compaction, the
