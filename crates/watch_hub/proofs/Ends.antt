@@ -55,7 +55,7 @@ lt-le a b h = by (key_cmp a b) h
     by Equal f = cc
     by Greater f = cc
 
-le-not_lt : (a b : List ℕ) → key_le a b ≡ true → key_lt b a ≡ false
+pub le-not_lt : (a b : List ℕ) → key_le a b ≡ true → key_lt b a ≡ false
 le-not_lt a b h = by (key_cmp a b) h (nat_list_cmp_total.antisymm b a)
   where
     by : (o : Ordering) → is_le o ≡ true → key_cmp b a ≡ ordering_reverse o → key_lt b a ≡ false
@@ -85,7 +85,7 @@ and-false false b h = refl
 
 -- ---- before a range, and behind it
 
-empty_first : (k : List ℕ) → key_le [] k ≡ true
+pub empty_first : (k : List ℕ) → key_le [] k ≡ true
 empty_first [] = refl
 empty_first (x ∷ k) = refl
 

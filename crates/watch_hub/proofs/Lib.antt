@@ -1,5 +1,6 @@
 pub mod Halving
 pub mod Ends
+pub mod Endless
 pub mod Guarding
 pub mod Finding
 pub mod Noted

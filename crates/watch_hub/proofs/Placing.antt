@@ -1,5 +1,5 @@
 -- Watches at places: what is listed, and how the list changes.
-use Rattle.std.proofs.Common.{◌≡◌, ◌≢◌, ℕ, zero, suc, ◌+◌, ◌<◌, ◌≤◌, List, [], ◌∷◌, ◌++◌, map, filter, get_or, Bool, true, false, not, ◌&&◌}
+use Rattle.std.proofs.Common.{◌≡◌, ◌≢◌, ℕ, zero, suc, ◌+◌, ◌<◌, ◌≤◌, List, [], ◌∷◌, ◌++◌, map, filter, Bool, true, false, not, ◌&&◌}
 use Rattle.std.proofs.Common.{◌==◌, cond, Option, None, Some, option_map, option_and_then, refl, sym, ◌∙◌, ap, subst, arith}
 use Rattle.std.specs.Prelude.{unwrap_or, is_some, IfSome, OnSome}
 use Rattle.std.specs.List.{AllByRecursion, remove}
@@ -8,7 +8,7 @@ use Rattle.kv_model.specs.declared.version.Version.{Version}
 use Rattle.store_laws.specs.Stands.{Tracked, noted, first_main_of, still_ahead, is_reached}
 use Rattle.kv_model.specs.Events.{matches}
 use Rattle.std.specs.Option.{option_or}
-use Rattle.slab.specs.Slab.{Slab, get, slab_len}
+use Rattle.slab.specs.Slab.{Slab, get}
 use Rattle.watch_hub.specs.declared.entry.Entry.{Entry}
 use Rattle.watch_hub.specs.declared.entries.Place.{Place}
 use Rattle.watch_hub.specs.Hub.{NumbersAscend, has_number, tracked_at, without_tracked}

@@ -46,7 +46,7 @@ pub record ArePlaced (seen : ℕ → Option Tracked) (ps : List Place) : Type 0 
 abbrev pub AreGuarded : (ℕ → Option Tracked) → List Guard → Type 0
 AreGuarded seen gs = (place : ℕ) → range_at place gs ≡ option_map (λ t. t.watched.range) (seen place)
 
--- no watch waits for a revision above the present one
+-- no watch waits for a revision above the next one
 abbrev pub AreReached : (ℕ → Option Tracked) → Type 0
 AreReached seen = (place : ℕ) → option_and_then (λ t. t.ahead) (seen place) ≡ None
 

@@ -3,14 +3,19 @@ ghost use Rattle.std.specs.Prelude.{◌≡◌};
 ghost use Rattle.kv_model.specs.Keys.{same_key, zero_byte};
 ghost use Rattle.watch_hub.specs.Guards.{ends_at, ends_by, first_key, has_begun, is_past};
 
-use bytes::Bytes;
+use kv_model::span::Span;
 use kv_model::version::KeyRange;
 
-/// Whether a key is the single byte 0.
-fn is_zero_byte(key: &Bytes) -> bool
-    ensures { result ≡ same_key key.now zero_byte }
+/// Whether a range has all keys from one on.
+fn is_endless(range: &KeyRange) -> bool
+    ensures { result ≡ same_key range.now.end zero_byte }
 {
-    key.as_slice() == [0].as_slice()
+    match range.span() {
+        Span::All => true,
+        Span::From(_) => true,
+        Span::Key(_) => false,
+        Span::Interval { .. } => false,
+    }
 }
 
 /// The key from which on a range may have keys. The range of all keys begins with the key of no
@@ -18,10 +23,12 @@ fn is_zero_byte(key: &Bytes) -> bool
 pub(crate) fn first_key(range: &KeyRange) -> &[u8]
     ensures { result.now ≡ first_key range.now }
 {
-    if is_zero_byte(&range.end) && is_zero_byte(&range.key) {
-        return &[];
+    match range.span() {
+        Span::All => &[],
+        Span::From(from) => from.as_slice(),
+        Span::Key(_) => range.key.as_slice(),
+        Span::Interval { .. } => range.key.as_slice(),
     }
-    range.key.as_slice()
 }
 
 /// Whether a range begins with this key or before it.
@@ -38,7 +45,7 @@ pub(crate) fn is_past(range: &KeyRange, key: &[u8]) -> bool
     if range.end.is_empty() {
         return range.key.as_slice().cmp(key).is_lt();
     }
-    if is_zero_byte(&range.end) {
+    if is_endless(range) {
         return false;
     }
     range.end.as_slice().cmp(key).is_le()
@@ -61,7 +68,7 @@ pub(crate) fn ends_by(range: &KeyRange, other: &KeyRange) -> bool
     if other.end.is_empty() {
         return ends_at(range, other.key.as_slice());
     }
-    if is_zero_byte(&other.end) {
+    if is_endless(other) {
         return true;
     }
     is_past(range, other.end.as_slice())

@@ -32,7 +32,7 @@ pub(crate) struct Entries {
     slab: Slab<Entry>,
     places: Vec<Place>,
     guards: Guards,
-    /// Where this is false, no watch waits for a revision above the present one.
+    /// Where this is false, no watch waits for a revision above the next one.
     waiting: bool,
 }
 
@@ -131,7 +131,7 @@ impl Entries {
     {
         if let Some(key) = key_of(&self.places, number) {
             advance_at(&mut self.slab, key, tables, last);
-            let waiting = either(self.waiting, tables.revision() <= last);
+            let waiting = either(self.waiting, tables.revision() < last);
             self.waiting = waiting;
         }
     }
@@ -145,7 +145,7 @@ fn either(one: bool, other: bool) -> bool
 }
 
 /// A range with the same keys, which are shared.
-fn copy_of(range: &KeyRange) -> Result<KeyRange, AllocError>
+pub(crate) fn copy_of(range: &KeyRange) -> Result<KeyRange, AllocError>
     ensures { IfOk result (λ r. r ≡ range.now) }
 {
     Ok(KeyRange {

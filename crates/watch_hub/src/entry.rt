@@ -18,7 +18,7 @@ pub(crate) struct Entry {
     pub(crate) late: bool,
     /// The main revision of its first undelivered match, while it is behind.
     pub(crate) first: Option<u64>,
-    /// The revision that it waits for, while that is above the present one.
+    /// The revision that it waits for, while that is above the next one.
     pub(crate) ahead: Option<u64>,
 }
 

@@ -2,7 +2,6 @@
 ghost use Rattle.std.specs.Prelude.{◌≡◌, ◌⊎◌, ◌+◌, ◌<◌, ◌≤◌, Some, None, [], map, is_ok, is_some};
 ghost use Rattle.std.specs.Prelude.{option_map, IfOk, IfErr, OnOk, OnErr};
 ghost use Rattle.kv_model.specs.declared.refusal.Refusal.TheVariants.{Memory, NoWatch};
-ghost use Rattle.kv_model.specs.Lists as lists;
 ghost use Rattle.store_laws.specs.Stands.{noted};
 ghost use Rattle.kv_model.specs.Step.{last_main, start_of, watched_range};
 ghost use Rattle.store_laws.specs.Stores.{refusal_of_watch, tracked_made};
@@ -11,14 +10,14 @@ ghost use Rattle.watch_hub.specs.Hub.{with_watch, without_tracked, NumbersAscend
 ghost use Rattle.watch_hub.specs.Entries.{tracked_of};
 ghost use Rattle.watch_hub.specs.Views.{pending_view};
 
-use crate::entries::Entries;
+use crate::entries::{Entries, copy_of};
 use crate::entry::Entry;
 use crate::matching::ahead_of;
 use crate::walk::first_from;
 use bytes::Bytes;
 use kv_model::call::Watched;
 use kv_model::refusal::Refusal;
-use kv_model::version::{KeyRange, Version};
+use kv_model::version::Version;
 use range_view::Tables;
 use std::alloc::{AllocError, Global};
 use std::marker::Model;
@@ -148,11 +147,11 @@ impl WatchHub {
     /// passed in one step with all that begin before it and end no later: keys and prefixes that
     /// lie apart cost one step together, and ranges that lie within one another at most one each.
     ///
-    /// Where a watch may wait for a revision above the present one, as each does that was made from
-    /// the next revision on, or was told of all, since the last call, all watches are walked: the
-    /// time is then linear in the room of the slab, which is for as many watches as stood at once,
-    /// at most 1,024, and as much again by the way that lists grow; and for each watch that is
-    /// caught up in the number of the versions.
+    /// Where a watch waits for a revision above `now`, be it one that ended since the last call,
+    /// all watches are walked: the time is then linear in the room of the slab, which is for as
+    /// many watches as stood at once, at most 1,024, and as much again by the way that lists grow;
+    /// and for each watch that is caught up in the number of the versions. A watch from the next
+    /// revision on does not wait, nor does one that was told of all.
     pub fn note(&mut self, versions: &[Version], now: u64)
         ensures { self.new
             ≡ record self.old { watches = map (noted versions.now now) self.old.watches } }
@@ -251,32 +250,14 @@ fn watched_of(watched: &Watched) -> Result<Watched, AllocError>
     ensures { IfOk result (λ w. w
         ≡ record watched.now { range = watched_range watched.now.range }) }
 {
+    let mut range = copy_of(&watched.range)?;
+    if range.key.is_empty() {
+        range.key = Bytes::from_static(b"\0");
+    }
     Ok(Watched {
-        range: range_of(&watched.range)?,
+        range,
         no_put: watched.no_put,
         no_delete: watched.no_delete,
         prev_kv: watched.prev_kv,
     })
-}
-
-/// A range, where an empty key counts as the byte 0.
-fn range_of(range: &KeyRange) -> Result<KeyRange, AllocError>
-    ensures { IfOk result (λ r. r ≡ watched_range range.now) }
-{
-    let key = if is_empty(&range.key) {
-        Bytes::from_static(b"\0")
-    } else {
-        range.key.clone()?
-    };
-    Ok(KeyRange {
-        key,
-        end: range.end.clone()?,
-    })
-}
-
-/// Whether there is no byte.
-fn is_empty(bytes: &Bytes) -> bool
-    ensures { result ≡ lists.is_empty bytes.now }
-{
-    bytes.is_empty()
 }

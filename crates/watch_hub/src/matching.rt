@@ -78,14 +78,19 @@ pub(crate) fn count_before(versions: &[Version], next: u64) -> usize
     versions.partition_point(|v| v.rev.main < next)
 }
 
-/// The revision that a watch waits for, where it is above the present one.
+/// The revision that a watch waits for, where it is above the next one: what is added is of the
+/// next one.
 pub(crate) fn ahead_of(now: u64, next: u64) -> Option<u64>
     ensures { result ≡ ahead_of now next }
 {
-    if now < next { Some(next) } else { None }
+    if next > now && next - now > 1 {
+        Some(next)
+    } else {
+        None
+    }
 }
 
-/// The revision that a watch waits for, where it is still above the present one.
+/// The revision that a watch waits for, where it is still above the next one.
 pub(crate) fn still_ahead(now: u64, ahead: Option<u64>) -> Option<u64>
     ensures { result ≡ still_ahead now ahead }
 {

@@ -12,8 +12,8 @@ use slab::Slab;
 use std::slice;
 
 /// Each watch takes note of the versions of a new revision, which is now the present one. Where one
-/// may wait for a revision that is to come, all are walked. Else a version is noted by the watches
-/// that have its key in their range, which the guards find. The answer is whether a watch waits.
+/// may wait for a later revision, all are walked. Else a version is noted by the watches that have
+/// its key in their range, which the guards find. The answer is whether a watch waits.
 pub(crate) fn note_each(
     slab: &mut Slab<Entry>,
     guards: &Guards,
@@ -60,7 +60,7 @@ fn note_all(slab: &mut Slab<Entry>, versions: &[Version], now: u64)
     }
 }
 
-/// Whether the watch at a place waits for a revision that is to come.
+/// Whether the watch at a place waits for a revision above the next one.
 fn is_ahead(slab: &Slab<Entry>, place: usize) -> bool
     ensures { result ≡ is_some (option_and_then (λ t. t.ahead) (seen_in slab.now place)) }
 {
@@ -70,7 +70,7 @@ fn is_ahead(slab: &Slab<Entry>, place: usize) -> bool
     }
 }
 
-/// Whether a watch waits for a revision that is to come.
+/// Whether a watch waits for a revision above the next one.
 fn is_any_ahead(slab: &Slab<Entry>) -> bool
     ensures { result ≡ false → AreReached (seen_in slab.now) }
 {

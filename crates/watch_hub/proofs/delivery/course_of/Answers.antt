@@ -1,10 +1,9 @@
 -- By the versions from the first match on.
-use Rattle.std.proofs.Common.{◌≡◌, ◌&&◌, ◌∙◌, ◌≤◌, ℕ, List, filter, sym, ap, subst}
+use Rattle.std.proofs.Common.{◌&&◌, ◌∙◌, List, filter, sym, ap, subst}
 use Rattle.std.specs.Prelude.{nat_le}
 use Rattle.kv_model.specs.declared.version.Version.{Version}
 use Rattle.kv_model.specs.Events.{matches}
 use Rattle.kv_model.specs.Watches.{last_revision}
-use Rattle.range_view.specs.Stored.{IsUpTo}
 use Rattle.version_table.specs.Rising.{IsRising}
 use Rattle.watch_hub.specs.Delivering.{Course}
 use Rattle.watch_hub.specs.Views.{pending_view}

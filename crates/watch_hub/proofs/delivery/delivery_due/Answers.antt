@@ -1,5 +1,5 @@
 -- By the versions from the first match on.
-use Rattle.std.proofs.Common.{◌≡◌, ◌&&◌, ◌∙◌, ℕ, List, map, filter, sym, ap, subst}
+use Rattle.std.proofs.Common.{◌&&◌, ◌∙◌, List, filter, sym, ap, subst}
 use Rattle.std.specs.Prelude.{nat_le}
 use Rattle.kv_model.specs.declared.version.Version.{Version}
 use Rattle.kv_model.specs.Events.{matches}

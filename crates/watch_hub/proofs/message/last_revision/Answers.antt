@@ -1,6 +1,5 @@
 -- Behind the first version.
-use Rattle.std.proofs.Common.{◌≡◌, ◌∙◌, ◌∷◌, [], List, sym, ap, subst}
-use Rattle.kv_model.specs.declared.version.Version.{Version}
+use Rattle.std.proofs.Common.{◌∙◌, sym, ap, subst}
 use Rattle.kv_model.specs.Watches.{last_revision}
 use Rattle.version_table.specs.Rising.{IsRising}
 use Rattle.watch_hub.proofs.Tallies.{tallied-last}

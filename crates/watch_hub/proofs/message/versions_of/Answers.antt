@@ -1,5 +1,5 @@
 -- Those that were found, up to the last revision of the message.
-use Rattle.std.proofs.Common.{◌≡◌, ◌∙◌, ◌∷◌, ◌++◌, [], List, Bool, map, filter, cond, true, false, refl, sym, ap, subst, rules, Bor}
+use Rattle.std.proofs.Common.{◌≡◌, ◌∙◌, ◌∷◌, ◌++◌, [], List, map, filter, sym, ap, subst, rules, Bor}
 use Rattle.std.specs.Prelude.{nat_le}
 use Rattle.std.proofs.lemmas.Fn.{filter_same}
 use Rattle.kv_model.specs.declared.version.Version.{Version}
