@@ -1,5 +1,5 @@
 -- What is kept stays counted as it grows, and what a put and a delete add are the versions of the next revision.
-use Rattle.std.proofs.Common.{◌≡◌, ◌≢◌, ℕ, zero, suc, ◌+◌, ◌<◌, ◌≤◌, ◌^◌, ◌&&◌, List, [], ◌∷◌, ◌++◌, length, map, take, get_or, true, Option, None, Some, option_and_then, refl, sym, ap, subst, arith, eq-eqb, lt-ltb}
+use Rattle.std.proofs.Common.{◌≡◌, ◌≢◌, ℕ, zero, suc, ◌+◌, ◌<◌, ◌≤◌, ◌^◌, ◌&&◌, ◌==◌, List, [], ◌∷◌, ◌++◌, length, map, take, get_or, true, Option, None, Some, option_and_then, refl, sym, ap, subst, arith, eq-eqb, eqb-true, lt-ltb}
 use Rattle.std.specs.Option.{MatchOption}
 use Rattle.std.specs.List.{AllByRecursion}
 use Rattle.kv_model.specs.declared.version.Rev.{Rev}
@@ -18,7 +18,8 @@ use Rattle.range_view.specs.declared.reply.KvRef.{KvRef}
 use Rattle.lease_book.specs.Book.{Book}
 use Rattle.range_view.specs.Replies.{kv_view}
 use Rattle.range_view.specs.Stored.{Stored, goes_on, appended}
-use Rattle.range_view.proofs.Growing.{next-revision}
+use Rattle.range_view.proofs.Growing.{next-of, next-revision}
+use Rattle.store_laws.proofs.BetweenSteps as between
 use Rattle.txn_core.specs.KeyWrites.{CanCount, IsCountedTo, put_version, tombstone}
 use Rattle.txn_core.proofs.PutCounts.{last_that-holds}
 use Rattle.request_core.specs.Writing.{IsHeldTo, AreNext, next_rev, tombstones}
@@ -129,8 +130,16 @@ sound-appended t vs h room n = subst (λ r. IsSound (record t { versions = t.ver
   fits = omega arith;
   places = each-append (λ v. v.rev.sub < 2 ^ 64) t.versions vs h.places n.places;
   counted = each-append (λ v. IsCountedTo (t.revision + 1) v.body) t.versions vs
-      (each-map (λ v. IsCountedTo t.revision v.body) (λ v. IsCountedTo (t.revision + 1) v.body) (λ v c. counted-more t.revision v.body c) t.versions h.counted) n.counted;
+      (each-map (λ v. IsCountedTo t.revision v.body) (λ v. IsCountedTo (t.revision + 1) v.body)
+      (λ v c. counted-more t.revision v.body c) t.versions h.counted) n.counted;
+  floor = omega (arith, h.floor);
+  trimmed = (between.goes_on t.versions vs t.place t.compacted high h.trimmed).up_to;
 })
+  where
+    high : AllByRecursion (λ v. t.compacted < v.rev.main) vs
+    high = each-map (λ v. (v.rev.main == t.revision + 1) ≡ true) (λ v. t.compacted < v.rev.main)
+        (λ v e. let same : v.rev.main ≡ t.revision + 1 = eqb-true v.rev.main (t.revision + 1) e in omega (arith, h.floor)) vs
+        (next-of t.revision vs n.next)
 
 -- a core whose tables grew
 pub grown-state : (t : Stored) (b : Book) (h : Hub) (vs : List Version) (stamp : ℕ) → AreNext t.revision vs

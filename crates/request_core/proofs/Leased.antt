@@ -1,5 +1,5 @@
 -- The keys of a lease: that the index has them, and that none is left once they are deleted.
-use Rattle.std.proofs.Common.{◌≡◌, ◌≤◌, ◌<◌, ◌^◌, ℕ, ℤ, suc, ◌+◌, List, [], ◌∷◌, ◌++◌, Bool, true, false, ◌||◌, cond, Option, None, Some, is_some, is_err, Result, Ok, Err, OnOk, option_and_then, refl, sym, ◌∙◌, ap, subst, append-nil}
+use Rattle.std.proofs.Common.{◌≡◌, ◌≤◌, ◌<◌, ◌^◌, ℕ, ℤ, suc, ◌+◌, List, [], ◌∷◌, ◌++◌, Bool, true, false, ◌||◌, cond, Option, None, Some, is_some, is_err, Result, Ok, Err, OnOk, option_and_then, refl, sym, ◌∙◌, ap, subst, append-nil, arith}
 use Rattle.std.specs.Option.{option_or, MatchOption}
 use Rattle.std.specs.List.{AllByRecursion}
 use Rattle.std.specs.Ordering.{int_eq}
@@ -45,7 +45,7 @@ holds-seen ps t stored sound h k kv e = h k kv (sym (value_at-by t.versions (end
 -- before the first version there is nothing to have
 pub blank-sound : (r : ℕ) (ps : Pairs) → r ≤ last_main → IsSound (blank_at r) × Holds ps (value_now (blank_at r).versions)
 unfolding value_now
-blank-sound r ps h = (record { fits = h; places = tt; counted = tt }, λ k kv e n. cc)
+blank-sound r ps h = (record { fits = h; places = tt; counted = tt; floor = omega arith; trimmed = tt }, λ k kv e n. cc)
 
 -- ---- a lease without keys
 

@@ -1,3 +1,4 @@
+pub mod Compacting
 pub mod Deletes
 pub mod Kept
 pub mod Leased
@@ -7,6 +8,7 @@ pub mod Puts
 pub mod Ranges
 pub mod Revokes
 pub mod Starting
+pub mod Trimming
 pub mod Txns
 pub mod Worlds
 pub mod Watching

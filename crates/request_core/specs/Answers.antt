@@ -51,6 +51,7 @@ answer_view (answer.TimeToLive revision id left keys) = record {
   revision = revision;
 }
 answer_view (answer.Leases revision ids) = record { reply = Reply.leases ids.items; revision = revision }
+answer_view (answer.Compact revision) = record { reply = Reply.compact; revision = revision }
 answer_view (answer.Watch revision id number) = record { reply = Reply.watch id number; revision = revision }
 
 -- what is read of a store for an answer at the revision
@@ -67,6 +68,7 @@ reply_left todo.Revoke s revision = Reply.revoke
 reply_left (todo.KeepAlive id ttl) s revision = Reply.keep_alive id (unwrap_or ttl 0)
 reply_left (todo.TimeToLive id asked) s revision = reply_of_time_to_live s id asked (lease_at s.leases id)
 reply_left todo.Leases s revision = reply_of_leases s
+reply_left todo.Compact s revision = Reply.compact
 reply_left (todo.Watch id number) s revision = Reply.watch id number
 
 -- the answer that a receipt stands for, on the state that it left
@@ -78,6 +80,7 @@ abbrev pub is_beside : Todo → Bool
 is_beside (todo.Grant id ttl) = true
 is_beside todo.Revoke = true
 is_beside (todo.KeepAlive id ttl) = is_some ttl
+is_beside todo.Compact = true
 is_beside (todo.Watch id number) = true
 is_beside _ = false
 
@@ -95,6 +98,7 @@ is_free (todo.Put key asked) = true
 is_free (todo.Grant id ttl) = true
 is_free todo.Revoke = true
 is_free (todo.KeepAlive id ttl) = true
+is_free todo.Compact = true
 is_free (todo.Watch id number) = true
 is_free _ = false
 

@@ -5,14 +5,19 @@ use Rattle.kv_model.specs.declared.refusal.Refusal.{Refusal}
 use Rattle.kv_model.specs.declared.refusal.Refusal.TheVariants.{RevisionsSpent}
 use Rattle.kv_model.specs.Calls.{Call}
 use Rattle.kv_model.specs.Step.{made_in, perform, expire}
-use Rattle.kv_model.specs.Told.{Reply, Answer, Expiry as ModelExpiry}
+use Rattle.kv_model.specs.Told.{Reply, Answer, Trimmed, Expiry as ModelExpiry}
 use Rattle.kv_model.specs.Wire.{raised, number_made, changes_beside}
 use Rattle.kv_model.specs.World.{World}
+use Rattle.kv_model.specs.Kept.{Trims}
+use Rattle.store_laws.specs.TrimmingLaws.{IsVisit, trim_told}
+use Rattle.trim_core.specs.declared.trimmer.Trim.{Trim}
+use Rattle.trim_core.specs.Steps.{told_of}
 use Rattle.store_laws.specs.Stands.{Store, StandsFor}
 use Rattle.request_core.specs.declared.answer.Expiry.{Expiry}
 use Rattle.request_core.specs.declared.answer.Receipt.{Receipt}
 use Rattle.request_core.specs.declared.answer.Todo.{Todo}
 use Rattle.request_core.specs.State.{CoreState, counted, raised_from, stamp_after}
+use Rattle.request_core.specs.State.{has_removed, keeping_of, trim_of, trimmed_by}
 use Rattle.request_core.specs.Answers.{IsAllowed, IsReadable, IsRefusal, answer_of, has_changed, is_beside, is_memory}
 use Rattle.request_core.specs.Answers.{expiry_view, has_expired, reply_left, watch_of}
 
@@ -51,6 +56,7 @@ first_refusal (Err e) = Some e
 -- doing the command may want memory
 abbrev pub takes_memory : Call → Bool
 takes_memory (Call.range q) = false
+takes_memory (Call.compact r physical) = false
 takes_memory (Call.keep_alive id) = false
 takes_memory (Call.time_to_live id asked) = false
 takes_memory Call.leases = false
@@ -83,6 +89,31 @@ pub record RefusesExpiry (old new : CoreState) (e : Refusal) : Type 0 where
       ((e ≡ RevisionsSpent) × ((w : World) → StandsFor old.store w → (expire w).0 ≡ ModelExpiry.spent))
   -- the core is as it was
   pub kept : new ≡ old
+
+-- ---- a trimming step
+
+-- what a trimming step did with a core that stood for this world
+pub record MayTrim (w : World) (old new : CoreState) (told : Trimmed) : Type 0 where
+  -- no answer has changed: it stands for the same world
+  pub stands : StandsFor new.store w
+  -- the step is one that a run may make: what goes no least list has, and what stays some least list has
+  pub may : Trims w (keeping_of old) (keeping_of old).ahead (trim_told told None) (keeping_of new)
+
+-- and whatever world it stood for
+pub record TrimsOnce (old new : CoreState) (t : Trim) : Type 0 where
+  -- it tells what the rule tells, and leaves what the rule leaves, counted where a version went
+  pub told : told_of t ≡ (trim_of old).told
+  pub left : new ≡ counted (has_removed (told_of t)) (trimmed_by old (trim_of old))
+  -- it visits the next version, and it is done where there is none
+  pub visit : IsVisit (told_of t) (keeping_of old).ahead (keeping_of new).ahead
+  pub trims : (w : World) → StandsFor old.store w → MayTrim w old new (told_of t)
+
+-- a step, before it is counted
+pub record LeavesBy (old new : CoreState) (t : Trimmed) : Type 0 where
+  pub told : t ≡ (trim_of old).told
+  pub left : new ≡ trimmed_by old (trim_of old)
+  pub visit : IsVisit t (keeping_of old).ahead (keeping_of new).ahead
+  pub trims : (w : World) → StandsFor old.store w → MayTrim w old new t
 
 -- ---- on the way to a receipt
 

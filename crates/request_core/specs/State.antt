@@ -1,10 +1,11 @@
 -- What a core holds, and how a command changes it.
 use Rattle.std.specs.Prelude.{◌≡◌, ℕ, ℤ, pos, ◌+◌, ◌<◌, ◌≤◌, ◌%◌, ◌^◌, List, [], ◌∷◌, ◌++◌, map, drop, Bool}
-use Rattle.std.specs.Prelude.{true, not, ◌&&◌}
+use Rattle.std.specs.Prelude.{true, false, not, ◌&&◌}
 use Rattle.std.specs.Prelude.{nat_lt, filter, Option, None, Some, option_map, if◌then◌else◌}
 use Rattle.std.specs.Option.{option_or}
 use Rattle.std.specs.List.{AllByRecursion}
 use Rattle.std.specs.Ordering.{int_eq}
+use Rattle.kv_model.specs.declared.version.Rev.{Rev}
 use Rattle.kv_model.specs.declared.version.Version.{Version}
 use Rattle.kv_model.specs.declared.version.KeyRange.{KeyRange}
 use Rattle.kv_model.specs.declared.call.PutRequest.{PutRequest}
@@ -22,20 +23,26 @@ use Rattle.kv_model.specs.Txns.{put_fault, static_fault}
 use Rattle.kv_model.specs.Txns as txns
 use Rattle.kv_model.specs.World.{World, opening}
 use Rattle.kv_model.specs.History.{Mutation, KeyValue, put, value_at, end_of, rev_le}
-use Rattle.kv_model.specs.Step.{last_main}
+use Rattle.kv_model.specs.Step.{last_main, at_least_zero}
+use Rattle.kv_model.specs.Kept.{Keeping}
+use Rattle.kv_model.specs.Told.{Trimmed}
+use Rattle.kv_model.specs.Trimming.{TrimStep, trimmed, oldest_place, IsTrimmedTo}
+use Rattle.store_laws.specs.TrimmingLaws.{keeping}
 use Rattle.store_laws.specs.Stands.{Store, Tracked, noted}
 use Rattle.watch_hub.specs.Hub.{Hub}
 use Rattle.store_laws.specs.Stores.{path_in, refusal_of_path, changes_of_path, refusal_of_delete, with_leases}
 use Rattle.store_laws.specs.Stores.{granted_lease, refusal_of_revoke, renewed_leases, at_store_moment}
-use Rattle.store_laws.specs.Stores.{tracked_made, with_watch}
+use Rattle.store_laws.specs.Stores.{tracked_made, with_floor, with_watch}
 use Rattle.lease_book.specs.Book.{Book}
 use Rattle.range_view.specs.Stored.{Stored}
 use Rattle.txn_core.specs.KeyWrites.{held_refusal, put_version, IsCountedTo}
 use Rattle.request_core.specs.Writing.{next_rev, tombstones}
 
--- what clauses see of a core: what is kept, and how many changing calls came, wrapping
+-- what clauses see of a core: what is kept, the first place that trimming has not looked at, and how many changing calls
+-- came, wrapping
 pub record CoreState : Type 0 where
   pub store : Store
+  pub place : Rev
   pub stamp : ℕ
 
 -- the store that tables, a book and a hub keep
@@ -51,7 +58,7 @@ store_kept t b h = record {
 }
 
 abbrev pub core_state : Stored → Book → Hub → ℕ → CoreState
-core_state t b h stamp = record { store = store_kept t b h; stamp = stamp }
+core_state t b h stamp = record { store = store_kept t b h; place = t.place; stamp = stamp }
 
 -- before the first watch
 abbrev pub no_watches : Hub
@@ -62,6 +69,9 @@ pub record IsSound (t : Stored) : Type 0 where
   pub fits : t.revision ≤ last_main
   pub places : AllByRecursion (λ v. v.rev.sub < 2 ^ 64) t.versions
   pub counted : AllByRecursion (λ v. IsCountedTo t.revision v.body) t.versions
+  -- what is compacted has happened, and nothing that goes was left behind the place of trimming
+  pub floor : t.compacted ≤ t.revision
+  pub trimmed : IsTrimmedTo t.versions t.place t.compacted
 
 -- what a key holds at the store's revision, and what the keys of a range hold
 abbrev pub held_in : Store → List ℕ → Option KeyValue
@@ -172,6 +182,30 @@ added_by_txn s ops = map (txns.next_version s.versions) (changes_of_path s (path
 -- what an accepted transaction leaves: nothing has changed where it changes no key
 abbrev pub after_txn : CoreState → Ops → CoreState
 after_txn s ops = with_any s (added_by_txn s.store ops)
+
+-- ---- Compact and trimming
+
+-- what an accepted Compact leaves: trimming begins again at the oldest version
+abbrev pub after_compact : CoreState → ℤ → CoreState
+after_compact s r = record s { store = with_floor s.store (at_least_zero r); place = oldest_place }
+
+-- a trimming step over what is kept
+abbrev pub trim_of : CoreState → TrimStep
+trim_of s = trimmed s.store.versions s.place s.store.compacted
+
+-- what a step leaves, before it is counted
+abbrev pub trimmed_by : CoreState → TrimStep → CoreState
+trimmed_by s t = record s { store = record s.store { versions = t.versions }; place = t.place }
+
+-- a version went
+abbrev pub has_removed : Trimmed → Bool
+has_removed (Trimmed.removed p) = true
+has_removed (Trimmed.kept p) = false
+has_removed (Trimmed.done n) = false
+
+-- what is kept, and what of it trimming has still to visit
+abbrev pub keeping_of : CoreState → Keeping
+keeping_of s = keeping s.store.versions s.place s.store.compacted
 
 -- ---- watches
 

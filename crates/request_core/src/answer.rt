@@ -78,6 +78,8 @@ pub enum Todo<'c> {
     },
     /// The IDs of all leases.
     Leases,
+    /// What comes before a revision is compacted.
+    Compact,
     /// A watch that is made, with the client's number for it and the store's.
     Watch {
         id: i64,
@@ -93,7 +95,7 @@ impl Todo<'_> {
         ensures { result ≡ is_beside self.now }
     {
         match self {
-            Todo::Grant { .. } | Todo::Revoke | Todo::Watch { .. } => true,
+            Todo::Grant { .. } | Todo::Revoke | Todo::Compact | Todo::Watch { .. } => true,
             Todo::KeepAlive { ttl, .. } => ttl.is_some(),
             _ => false,
         }
@@ -161,6 +163,9 @@ pub enum Answer<'a> {
         revision: u64,
         /// The IDs of the granted leases, ascending.
         ids: Vec<i64>,
+    },
+    Compact {
+        revision: u64,
     },
     Watch {
         revision: u64,

@@ -6,6 +6,7 @@ ghost use Rattle.std.specs.Prelude.{◌≡◌, [], true, is_ok, option_map, ◌�
 ghost use Rattle.std.specs.Prelude.{IfOk, IfErr, OnOk, OnErr};
 
 mod appending;
+mod compacting;
 mod deleting;
 mod expiring;
 mod leasing;
@@ -16,6 +17,7 @@ mod revoking;
 #[cfg(test)]
 pub(crate) mod starting;
 mod transacting;
+mod trimming;
 mod watching;
 
 use self::leasing::{granted, renewed};
@@ -136,11 +138,12 @@ impl Core {
     /// keeps what it also gives, `KeyMissing` where it keeps what is not there, and `LeaseMissing`
     /// where it names a lease that is not granted; of a grant, `TtlTooLarge` above 9,000,000,000
     /// seconds, `LeaseExists` for an ID in use and `TooManyLeases` where 65,536 are granted; of a
-    /// revoke, `LeaseMissing`; of a watch, `TooManyWatches` where 1,024 stand or 2^63 - 1 were made;
+    /// revoke, `LeaseMissing`; of a Compact, `Compacted` where its revision is 0 or below, or not above
+    /// that of the last one, and `Future` where it is above the present one; of a watch, `TooManyWatches` where 1,024 stand or 2^63 - 1 were made;
     /// and last `RevisionsSpent` where a change would need a revision above the greatest. `Memory`
     /// comes where a list, a copy or the place of a lease or a watch found none, and may come in
-    /// place of `RevisionsSpent`; a Range, a keepalive, a time to live and the list of leases take
-    /// none here.
+    /// place of `RevisionsSpent`; a Range, a Compact, a keepalive, a time to live and the list of
+    /// leases take none here.
     ///
     /// A Txn is first refused for what hangs on it alone, also in branches that do not run, and a
     /// transaction before its parts: `TooDeep` where it lies in eight others, `TooManyOps` where it
@@ -157,7 +160,9 @@ impl Core {
     /// the time of a read or a write by itself; all its changes stand in one revision. All this is
     /// but for the growth of a list. A grant and a keepalive are logarithmic in the number of
     /// leases. A revoke looks up the keys that were put under the lease, each in such time, and
-    /// deletes those that still are in one revision. A watch takes the time of
+    /// deletes those that still are in one revision. A Compact takes constant time: what it leaves over
+    /// goes step by step (`trim_step`), and where it is `physical`, its caller makes the steps before
+    /// it answers. A watch takes the time of
     /// `WatchHub::create`.
     pub fn apply<'c>(&mut self, command: &'c Command) -> Result<Receipt<'c>, Refusal>
         ensures done { IfOk result (λ r. Does self.old self.new (call_of command.now) r) }
@@ -203,6 +208,7 @@ impl Core {
             Command::Put(request) => self.apply_put(request, sink),
             Command::Delete(request) => self.apply_delete(request, sink),
             Command::Txn(txn) => self.apply_txn(txn, sink),
+            Command::Compact { revision, physical } => self.apply_compact(*revision, *physical),
             Command::Watch { watched, start, id } => self.apply_watch(watched, *start, *id),
             Command::Grant { ttl, id } => self.apply_grant(*ttl, *id),
             Command::Revoke { id } => self.apply_revoke(*id, sink),
@@ -216,7 +222,7 @@ impl Core {
     /// and copies none.
     ///
     /// `AllocError` comes where the list of an answer, or the sort of a Range, found no memory; so
-    /// never to a Put, a grant, a revoke, a keepalive or a watch. What a delete showed is read at the end of
+    /// never to a Put, a Compact, a grant, a revoke, a keepalive or a watch. What a delete showed is read at the end of
     /// the revision before its own, and each operation of a transaction is read before its own
     /// changes. The keys of a lease are found by an index, and no others are walked but those that
     /// were put under it.
@@ -258,6 +264,9 @@ impl Core {
             Todo::Leases => Ok(Answer::Leases {
                 revision: receipt.revision,
                 ids: self.book.ids()?,
+            }),
+            Todo::Compact => Ok(Answer::Compact {
+                revision: receipt.revision,
             }),
             Todo::Watch { id, number } => Ok(Answer::Watch {
                 revision: receipt.revision,
