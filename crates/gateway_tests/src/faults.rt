@@ -1,5 +1,5 @@
 //! Why a request is not read: the first fault of each body, and what a refusal is called.
-use crate::reading::{Case, PUT, RANGE, TXN, WATCH, first_wrong, is_text, refusal};
+use crate::reading::{COMPACTION, Case, PUT, RANGE, TXN, WATCH, first_wrong, is_text, refusal};
 use gateway_read::bad::Bad;
 use gateway_read::field::Field;
 use std::alloc::{AllocError, Global};
@@ -79,9 +79,10 @@ fn refusal_of_blanks(alloc: Global, path: &str, count: usize) -> Result<Option<B
     Ok(refusal(alloc, path, &body))
 }
 
-const FIRST_FAULTS: [(&str, &[u8], Bad); 7] = [
+const FIRST_FAULTS: [(&str, &[u8], Bad); 8] = [
     ("", b"{}", Bad::NoPath),
     ("/v3/kv/range/", b"{}", Bad::NoPath),
+    ("/v3/kv/compact", b"{}", Bad::NoPath),
     (PUT, b"{\"key\":\"\xff\"}", Bad::NotJson),
     (
         PUT,
@@ -179,8 +180,10 @@ fn names_of_fields(rt: HostRuntime) {
             "requestDeleteRange",
         ),
         is_named(Field::Id, "ID", "ID"),
+        is_named(Field::Revision, "revision", "revision"),
+        is_named(Field::Physical, "physical", "physical"),
     ];
-    assert_eq!(rt; are, [true; 5]);
+    assert_eq!(rt; are, [true; 7]);
 }
 
 fn is_shown_as(alloc: Global, bad: Bad, expected: &str) -> bool {
@@ -233,6 +236,29 @@ const TRANSACTIONS: [Case; 6] = [
     ),
 ];
 
+const COMPACTIONS: [Case; 8] = [
+    ("{}", None),
+    ("{\"revision\":9223372036854775807}", None),
+    (
+        "{\"revision\":9223372036854775808}",
+        Some(Bad::BadField(Field::Revision)),
+    ),
+    ("{\"revision\":true}", Some(Bad::BadField(Field::Revision))),
+    (
+        "{\"physical\":\"true\"}",
+        Some(Bad::BadField(Field::Physical)),
+    ),
+    ("{\"physical\":1}", Some(Bad::BadField(Field::Physical))),
+    (
+        "{\"physical\":1,\"revision\":\"\"}",
+        Some(Bad::BadField(Field::Revision)),
+    ),
+    (
+        "{\"physical\":1,\"revision\":\"-1\"}",
+        Some(Bad::BadField(Field::Physical)),
+    ),
+];
+
 const WATCHES: [Case; 12] = [
     ("{}", Some(Bad::BadField(Field::CreateRequest))),
     (
@@ -281,7 +307,7 @@ const WATCHES: [Case; 12] = [
     ),
 ];
 
-/// The bodies of ranges, of transactions and of watches, each with its first fault.
+/// The bodies of ranges, transactions, compactions and watches, each with its first fault.
 #[test]
 fn bodies_with_one_fault(rt: HostRuntime) {
     let wrong = [
@@ -289,7 +315,8 @@ fn bodies_with_one_fault(rt: HostRuntime) {
         first_wrong(rt.alloc(), RANGE, NAMES_AND_TEXTS.as_slice()),
         first_wrong(rt.alloc(), RANGE, NUMBERS_AND_WORDS.as_slice()),
         first_wrong(rt.alloc(), TXN, TRANSACTIONS.as_slice()),
+        first_wrong(rt.alloc(), COMPACTION, COMPACTIONS.as_slice()),
         first_wrong(rt.alloc(), WATCH, WATCHES.as_slice()),
     ];
-    assert_eq!(rt; wrong, [None; 5]);
+    assert_eq!(rt; wrong, [None; 6]);
 }

@@ -12,6 +12,8 @@ pub(crate) const PUT: &str = "/v3/kv/put";
 
 pub(crate) const TXN: &str = "/v3/kv/txn";
 
+pub(crate) const COMPACTION: &str = "/v3/kv/compaction";
+
 pub(crate) const WATCH: &str = "/v3/watch";
 
 pub(crate) fn command(alloc: Global, path: &str, body: &str) -> Result<Command, Bad> {

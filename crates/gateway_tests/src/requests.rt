@@ -1,5 +1,5 @@
 //! Worked requests: the command that each is read as, with each of its fields.
-use crate::reading::{PUT, RANGE, TXN, WATCH, is_read_as};
+use crate::reading::{COMPACTION, PUT, RANGE, TXN, WATCH, is_read_as};
 
 #[test]
 fn ranges_are_read(rt: HostRuntime) {
@@ -37,6 +37,30 @@ fn writes_are_read(rt: HostRuntime) {
         ),
     ] {
         assert!(rt; is_read_as(rt.alloc(), path, body, expected), "of {body}");
+    }
+}
+
+#[test]
+fn compactions_are_read(rt: HostRuntime) {
+    for (body, expected) in [
+        (
+            "{\"physical\":true,\"revision\":\"5\",\"start_revision\":2}",
+            "Compact { revision: 5, physical: true }",
+        ),
+        (
+            "{\"revision\":-3,\"physical\":false,\"Physical\":1}",
+            "Compact { revision: -3, physical: false }",
+        ),
+        (
+            "{\"revision\":null,\"Revision\":9,\"physical\":null}",
+            "Compact { revision: 0, physical: false }",
+        ),
+        ("", "Compact { revision: 0, physical: false }"),
+    ] {
+        assert!(rt;
+            is_read_as(rt.alloc(), COMPACTION, body, expected),
+            "of {body}"
+        );
     }
 }
 

@@ -1,3 +1,4 @@
 pub mod Accepted
 pub mod Deliveries
 pub mod Events
+pub mod Trims

@@ -4,6 +4,7 @@ use Rattle.kv_model.specs.declared.refusal.Refusal.TheVariants as refusal
 use Rattle.kv_model.specs.Answers.{Response, Fault, refused, fault_of, fault_of_bad}
 use Rattle.kv_model.specs.Requests as requests
 use Rattle.kv_model.specs.Calls.{Call}
+use Rattle.kv_model.specs.Told.{Trimmed}
 use Rattle.kv_model.specs.World.{World, revision}
 use Rattle.kv_model.specs.Step.{Made, made_in}
 use Rattle.kv_model.specs.Wire.{Loss, raised, number_made, changes_beside}
@@ -25,6 +26,17 @@ is_change w call (Err e) = false
 abbrev pub is_change_by : World → Result Call requests.Bad → Bool
 is_change_by w (Ok call) = is_change w call (made_in w call)
 is_change_by w (Err e) = false
+
+-- a trimming step found nothing to visit
+abbrev pub is_done : Trimmed → Bool
+is_done (Trimmed.removed p) = false
+is_done (Trimmed.kept p) = false
+is_done (Trimmed.done n) = true
+
+-- a Compact, where it is accepted, is answered once trimming is done
+abbrev pub is_physical : Call → Bool
+is_physical (Call.compact r physical) = physical
+is_physical _ = false
 
 -- a change is one changing call, and where nothing has changed the core is as it was
 abbrev pub IsCounted : Bool → CoreState → CoreState → Type 0

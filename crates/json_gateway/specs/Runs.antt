@@ -1,5 +1,5 @@
 -- What events and outcomes of a run say, in the definitions' terms.
-use Rattle.std.specs.Prelude.{ℕ, Option, Result, Ok, Err, ⊤}
+use Rattle.std.specs.Prelude.{ℕ, Option, None, Result, Ok, Err, ⊤}
 use Rattle.std.specs.declared.alloc.AllocError.{AllocError}
 use Rattle.kv_model.specs.Told as told
 use Rattle.kv_model.specs.Follows as follows
@@ -19,6 +19,8 @@ use Rattle.json_gateway.specs.declared.wire.WireOutcome.TheVariants as outcome
 use Rattle.json_gateway.specs.declared.wire.Unexpired.{Unexpired}
 use Rattle.json_gateway.specs.declared.wire.Unexpired.TheVariants as unexpired
 use Rattle.json_gateway.specs.Outcomes.{response_of, IsBare}
+use Rattle.store_laws.specs.TrimmingLaws.{trim_told}
+use Rattle.trim_core.specs.Steps.{told_of}
 
 abbrev pub event_view : WireEvent → model.WireEvent
 event_view (event.Moment m) = model.WireEvent.moment m
@@ -26,6 +28,7 @@ event_view (event.Post path body) = model.WireEvent.post path.now body.now
 event_view event.Expire = model.WireEvent.expire
 event_view (event.Deliver n) = model.WireEvent.deliver n
 event_view (event.Close n) = model.WireEvent.close n
+event_view event.Trim = model.WireEvent.trim
 
 -- how a request ended, with the new revision where it rose and the number of a watch made
 abbrev pub ending_view : Settled → Option ℕ → Option ℕ → model.WireOutcome
@@ -70,6 +73,7 @@ outcome_view (outcome.Clock clock) = follows.Outcome.said (WireTold.clock clock)
 outcome_view (outcome.Expiry made) = expiry_outcome made
 outcome_view (outcome.Delivered made) = delivery_outcome made
 outcome_view (outcome.Closed stood) = follows.Outcome.said (WireTold.closed stood)
+outcome_view (outcome.Trimmed t) = follows.Outcome.said (trim_told (told_of t) None)
 
 -- where a request was not accepted, no revision rose and no watch was made
 abbrev pub IsBareIn : WireOutcome → Type 0

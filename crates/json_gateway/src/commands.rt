@@ -1,17 +1,18 @@
 //! One command or one request on a core, from bytes to bytes.
-ghost use Rattle.std.specs.Prelude.{◌≡◌, true, false, None, map, IfOk};
+ghost use Rattle.std.specs.Prelude.{◌≡◌, ◌&&◌, true, false, None, Ok, map, IfOk};
 ghost use Rattle.kv_model.specs.Answers.{Response, answered, fault_of, response_to};
 ghost use Rattle.kv_model.specs.Calls.{call_of};
 ghost use Rattle.kv_model.specs.Requests.{request_of};
 ghost use Rattle.store_laws.specs.Stands.{StandsFor};
 ghost use Rattle.kv_model.specs.Step.{made_in, perform as perform_in};
-ghost use Rattle.kv_model.specs.Wire.{IsChange, IsChangeBy, reply_to};
+ghost use Rattle.kv_model.specs.Wire.{IsChange, IsChangeBy, is_physical_call, reply_to};
+ghost use Rattle.kv_model.specs.Told.{compact as CompactReply};
 ghost use Rattle.kv_model.specs.World.{World};
 ghost use Rattle.gateway_text.specs.Views.{wording_view};
 ghost use Rattle.request_core.specs.Answers.{IsReadable, answer_of, answer_view, has_changed};
 ghost use Rattle.request_core.specs.Answers.{is_memory, time_left_view};
 ghost use Rattle.json_gateway.specs.Endings.{Ends, IsCounted, Refuses, Settles};
-ghost use Rattle.json_gateway.specs.Endings.{fault_of_reading, is_change, is_change_by, is_want};
+ghost use Rattle.json_gateway.specs.Endings.{fault_of_reading, is_change, is_change_by, is_physical, is_want};
 ghost use Rattle.json_gateway.specs.Outcomes.{IsBare, is_accepted};
 
 use crate::outcome::{Outcome, Reply, Settled};
@@ -46,17 +47,22 @@ pub fn perform(alloc: Global, core: &mut Core, command: &Command, ids: &Ids) -> 
     ensures counted { (w : World) → StandsFor core.old.store w → is_accepted result.settled ≡ true
         → IsCounted (is_change w (call_of command.now) (made_in w (call_of command.now)))
         core.old core.new }
+    ensures ready { is_accepted result.settled ≡ false → result.waits ≡ false }
+    ensures waits { (w : World) → StandsFor core.old.store w → is_accepted result.settled ≡ true
+        → result.waits ≡ is_physical_call w (Ok (call_of command.now)) }
 {
     match core.apply(command) {
         Ok(receipt) => Outcome {
             settled: settled(alloc, core, &receipt, ids),
             raised: receipt.raised,
             watch: receipt.watch,
+            waits: waits(command, &receipt),
         },
         Err(refusal) => Outcome {
             settled: declined(alloc, refusal),
             raised: None,
             watch: None,
+            waits: false,
         },
     }
 }
@@ -71,6 +77,9 @@ pub fn post(alloc: Global, core: &mut Core, path: &[u8], body: &[u8], ids: &Ids)
     ensures bare { IsBare result }
     ensures counted { (w : World) → StandsFor core.old.store w → is_accepted result.settled ≡ true
         → IsCounted (is_change_by w (request_of path.now body.now)) core.old core.new }
+    ensures ready { is_accepted result.settled ≡ false → result.waits ≡ false }
+    ensures waits { (w : World) → StandsFor core.old.store w → is_accepted result.settled ≡ true
+        → result.waits ≡ is_physical_call w (request_of path.now body.now) }
 {
     match read(alloc, path, body) {
         Ok(command) => perform(alloc, core, &command, ids),
@@ -78,8 +87,26 @@ pub fn post(alloc: Global, core: &mut Core, path: &[u8], body: &[u8], ids: &Ids)
             settled: dismissed(alloc, bad),
             raised: None,
             watch: None,
+            waits: false,
         },
     }
+}
+
+/// Whether a command, where it is accepted, is answered once trimming is done.
+fn is_physical(command: &Command) -> bool
+    ensures { result ≡ is_physical (call_of command.now) }
+{
+    match command {
+        Command::Compact { physical, .. } => *physical,
+        _ => false,
+    }
+}
+
+/// Whether the answer to an accepted command waits until trimming is done: it is a physical Compact.
+fn waits(command: &Command, receipt: &Receipt<'_>) -> bool
+    ensures { result ≡ (is_physical (call_of command.now) && has_changed receipt.now) }
+{
+    is_physical(command) && receipt.has_changed()
 }
 
 /// How an accepted command ends.
@@ -156,8 +183,18 @@ pub fn text(alloc: Global, answer: &Answer<'_>, ids: &Ids) -> Result<Vec<u8>, Al
             revision,
             ids: leases,
         } => leases_text(alloc, *revision, leases, ids),
+        Answer::Compact { revision } => compacted_text(alloc, *revision, ids),
         Answer::Watch { revision, id, .. } => created_text(alloc, *revision, *id, ids),
     }
+}
+
+/// The text of a Compact's answer, with the revision after it: the header alone, as of a revoke.
+#[tactic(auto, unfolding(kv_model::specs::Answers::reply_text))]
+fn compacted_text(alloc: Global, revision: u64, ids: &Ids) -> Result<Vec<u8>, AllocError>
+    ensures { IfOk result (λ v. v.items ≡ (answered ids.now
+        (record { reply = CompactReply; revision = revision })).body) }
+{
+    revoked_text(alloc, revision, ids)
 }
 
 /// The text of a time to live: whether the lease is granted, and what it still has.

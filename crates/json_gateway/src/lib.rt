@@ -44,5 +44,6 @@ pub use kv_model::ids::Ids;
 pub use kv_model::refusal::Refusal;
 pub use messages::message;
 pub use outcome::{Message, Outcome, Reply, Settled};
+pub use range_view::tables::Trim;
 pub use request_core::answer::Expiry;
 pub use wire::{Unexpired, WireEvent, WireOutcome, WireRun, run_wire};

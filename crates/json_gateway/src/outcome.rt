@@ -27,6 +27,10 @@ pub struct Outcome {
     pub raised: Option<u64>,
     /// The number of a watch that was made.
     pub watch: Option<u64>,
+    /// It is an accepted Compact whose answer waits until trimming is done (the etcd
+    /// documentation's CompactionRequest: physical). Whoever hands the answer on makes the steps
+    /// first, by `Core::trim_step`, as a run does.
+    pub waits: bool,
 }
 
 /// What a watch was told.

@@ -6,6 +6,9 @@ ghost use Rattle.request_core.specs.Answers.{is_memory};
 ghost use Rattle.store_laws.specs.Stands.{StandsFor};
 ghost use Rattle.kv_model.specs.Wire.{Follows, close as model_close, deliver as model_deliver};
 ghost use Rattle.kv_model.specs.Wire.{expire as model_expire, post as model_post};
+ghost use Rattle.kv_model.specs.Wire.{trim as model_trim};
+ghost use Rattle.json_gateway.specs.Endings.{is_done};
+ghost use Rattle.trim_core.specs.Steps.{told_of};
 ghost use Rattle.kv_model.specs.World.{World};
 
 use crate::commands::post;
@@ -13,6 +16,7 @@ use crate::messages::message;
 use crate::outcome::{Message, Outcome};
 use kv_model::ids::Ids;
 use kv_model::refusal::Refusal;
+use range_view::tables::Trim;
 use request_core::answer::Expiry;
 use request_core::store::Core;
 use std::alloc::{AllocError, Global};
@@ -30,6 +34,8 @@ pub enum WireEvent<'a> {
     Deliver(u64),
     /// The watch of this number ends.
     Close(u64),
+    /// One trimming step is made.
+    Trim,
 }
 
 /// What an event was answered.
@@ -45,6 +51,8 @@ pub enum WireOutcome {
     Delivered(Result<Message, AllocError>),
     /// Whether a watch that had the number was closed.
     Closed(bool),
+    /// What a trimming step did.
+    Trimmed(Trim),
 }
 
 /// Why a lease that is due was not revoked. Nothing has changed then.
@@ -69,7 +77,8 @@ ghost use Rattle.json_gateway.specs.Steps.{Steps};
 /// history**, whatever the events are: `Follows` of the model says so.
 ///
 /// An event that found no memory counts as not made, and an answer may be lost only where its
-/// change stands; a moment and the close of a watch find their memory always. An outcome without
+/// change stands; a moment, a trimming step and the close of a watch find their memory always.
+/// A Compact that is `physical` is answered once trimming is done. An outcome without
 /// an answer, and a refusal, tell neither a revision nor a watch. `AllocError` comes before the
 /// first event, where there is no room for the outcomes.
 pub fn run_wire(alloc: Global, events: &[WireEvent<'_>], ids: &Ids) -> Result<WireRun, AllocError>
@@ -98,6 +107,7 @@ fn step(alloc: Global, core: &mut Core, event: &WireEvent<'_>, ids: &Ids) -> Wir
         WireEvent::Expire => step_expire(core),
         WireEvent::Deliver(number) => step_deliver(alloc, core, *number, ids),
         WireEvent::Close(number) => step_close(core, *number),
+        WireEvent::Trim => step_trim(core),
     }
 }
 
@@ -107,7 +117,39 @@ fn step_post(alloc: Global, core: &mut Core, path: &[u8], body: &[u8], ids: &Ids
     ensures steps { (w : World) → StandsFor core.old.store w
         → Steps ids.now w (model_post path.now body.now) (outcome_view result) core.new }
 {
-    WireOutcome::Posted(post(alloc, core, path, body, ids))
+    let outcome = post(alloc, core, path, body, ids);
+    trim_where(core, outcome.waits);
+    WireOutcome::Posted(outcome)
+}
+
+/// Makes trimming steps until one is done, where an answer waits for it.
+fn trim_where(core: &mut Core, waits: bool)
+    ensures { (w : World) → StandsFor core.old.store w → StandsFor core.new.store w }
+{
+    if waits {
+        trim_all(core);
+    }
+}
+
+/// Makes trimming steps until one is done.
+fn trim_all(core: &mut Core)
+    ensures { (w : World) → StandsFor core.old.store w → StandsFor core.new.store w }
+{
+    loop {
+        if is_done(core.trim_step()) {
+            return;
+        }
+    }
+}
+
+/// Whether a trimming step found nothing to visit.
+fn is_done(trim: Trim) -> bool
+    ensures { result ≡ is_done (told_of trim) }
+{
+    match trim {
+        Trim::Done(_) => true,
+        Trim::Removed(_) | Trim::Kept(_) => false,
+    }
 }
 
 /// A step of expiry on a core, as an event of a run.
@@ -138,6 +180,15 @@ fn step_close(core: &mut Core, number: u64) -> WireOutcome
         → Steps ids w (model_close number) (outcome_view result) core.new }
 {
     WireOutcome::Closed(core.cancel(number).is_ok())
+}
+
+/// A trimming step on a core, as an event of a run.
+fn step_trim(core: &mut Core) -> WireOutcome
+    ensures bare { IsBareIn result }
+    ensures steps { (ids : Ids) (w : World) → StandsFor core.old.store w
+        → Steps ids w model_trim (outcome_view result) core.new }
+{
+    WireOutcome::Trimmed(core.trim_step())
 }
 
 /// Why a lease was not revoked, by the core's refusal, which is one of these two.

@@ -1,7 +1,20 @@
 use Rattle.kv_model.specs.Calls.{call_of}
+use Rattle.std.proofs.Common.{refl, ◌∙◌}
+use Rattle.kv_model.specs.Answers.{answered}
+use Rattle.request_core.specs.Answers.{answer_of, has_changed}
+use Rattle.json_gateway.specs.Endings.{is_physical}
 use Rattle.json_gateway.proofs.Accepted.{accepted_counted}
+use Rattle.json_gateway.proofs.Trims.{does_wait, none_waits}
 use Rattle.json_gateway.proofs.commands.perform.Goals as goal
 
 pub returns-in-Ok-clause-counted : goal.returns-in-Ok-clause-counted
 returns-in-Ok-clause-counted c = λ w h is.
     accepted_counted c.args.core.now c.apply.new.self c.in-Ok.receipt (call_of c.args.command.now) c.in-Ok.ensures.done w h
+
+pub returns-in-Ok-clause-ready : goal.returns-in-Ok-clause-ready
+returns-in-Ok-clause-ready c = λ no. c.waits.ensures ∙ none_waits c.settled.result (answered c.args.ids.now (answer_of c.in-Ok.receipt c.apply.new.self))
+    (has_changed c.in-Ok.receipt) (is_physical (call_of c.args.command.now)) c.in-Ok.receipt.revision c.settled.ensures refl no
+
+pub returns-in-Ok-clause-waits : goal.returns-in-Ok-clause-waits
+returns-in-Ok-clause-waits c = λ w h yes. c.waits.ensures
+    ∙ does_wait c.args.core.now c.apply.new.self (call_of c.args.command.now) c.in-Ok.receipt c.in-Ok.ensures.done w h

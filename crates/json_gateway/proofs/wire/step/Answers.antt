@@ -13,3 +13,8 @@ pub returns-in-Close-clause-steps : goal.returns-in-Close-clause-steps
 returns-in-Close-clause-steps c = λ w h.
     subst (λ (e : WireEvent). Steps c.args.ids.now w (event_view e) (outcome_view c.step_close.result) c.step_close.new.core) (sym c.in-Close.is)
     (c.step_close.ensures.steps c.args.ids.now w h)
+
+pub returns-in-Trim-clause-steps : goal.returns-in-Trim-clause-steps
+returns-in-Trim-clause-steps c = λ w h.
+    subst (λ (e : WireEvent). Steps c.args.ids.now w (event_view e) (outcome_view c.step_trim.result) c.step_trim.new.core) (sym c.in-Trim.is)
+    (c.step_trim.ensures.steps c.args.ids.now w h)

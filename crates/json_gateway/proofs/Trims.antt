@@ -1,0 +1,108 @@
+-- Trimming steps as events of a run, and that they come to an end.
+use Rattle.std.proofs.Common.{◌≡◌, ◌<◌, ℕ, suc, ◌&&◌, ◌||◌, ◌==◌, [], ◌∷◌, length, Bool, true, false, Option, None, Some, Ok, Err, refl, sym, ◌∙◌, ap, subst, arith}
+use Rattle.std.specs.Prelude.{is_none, is_some}
+use Rattle.kv_model.specs.declared.ids.Ids.{Ids}
+use Rattle.kv_model.specs.declared.refusal.Refusal.{Refusal}
+use Rattle.kv_model.specs.declared.call.Txn.{Txn}
+use Rattle.kv_model.specs.Calls.{Call, Ops, as_call, txn_view}
+use Rattle.kv_model.specs.Follows as follows
+use Rattle.kv_model.specs.Step.{perform, refused_or, compact_in, compact_refusal, at_least_zero, answer_of as answer_of_made}
+use Rattle.kv_model.specs.Told.{Answer, Reply, Trimmed}
+use Rattle.kv_model.specs.Wire as model
+use Rattle.kv_model.specs.Wire.{changes_beside, is_physical_call}
+use Rattle.kv_model.specs.Answers.{Response}
+use Rattle.kv_model.specs.World.{World, revision}
+use Rattle.store_laws.specs.Stands.{StandsFor}
+use Rattle.store_laws.specs.TrimmingLaws.{IsVisit, trim_told}
+use Rattle.trim_core.specs.declared.trimmer.Trim.{Trim}
+use Rattle.trim_core.specs.Steps.{told_of}
+use Rattle.txn_core.proofs.Walking.{txn_view-out}
+use Rattle.request_core.specs.declared.answer.Receipt.{Receipt}
+use Rattle.request_core.specs.Answers.{has_changed, is_beside}
+use Rattle.request_core.specs.Commands.{Does, TrimsOnce}
+use Rattle.request_core.specs.State.{CoreState, keeping_of}
+use Rattle.json_gateway.specs.declared.outcome.Settled.{Settled}
+use Rattle.json_gateway.specs.declared.outcome.Settled.TheVariants as settled
+use Rattle.json_gateway.specs.Endings.{Settles, is_done, is_physical}
+use Rattle.json_gateway.specs.Outcomes.{is_accepted}
+use Rattle.json_gateway.specs.Steps.{Steps}
+
+-- a step changes no world
+pub trim_steps : (ids : Ids) (w : World) (t : Trim) (new : CoreState) → StandsFor new.store w
+    → Steps ids w model.WireEvent.trim (follows.Outcome.said (trim_told (told_of t) None)) new
+trim_steps ids w t new h = record { answers = tt; stands = h }
+
+-- a step that is not done leaves fewer versions to visit
+pub fewer_left : (old new : CoreState) (t : Trim) → TrimsOnce old new t → is_done (told_of t) ≡ false
+    → length (keeping_of new).ahead < length (keeping_of old).ahead
+fewer_left old new t once e = by (told_of t) e once.visit
+  where
+    by : (told : Trimmed) → is_done told ≡ false → IsVisit told (keeping_of old).ahead (keeping_of new).ahead
+        → length (keeping_of new).ahead < length (keeping_of old).ahead
+    by (Trimmed.removed q) f v = let l : length (keeping_of old).ahead ≡ suc (length (keeping_of new).ahead) = ap length v.2 in omega arith
+    by (Trimmed.kept q) f v = let l : length (keeping_of old).ahead ≡ suc (length (keeping_of new).ahead) = ap length v.2 in omega arith
+    by (Trimmed.done n) f v = cc
+
+-- ---- whose answer waits
+
+-- a transaction is no Compact
+pub txn_physical : (t : Txn) → is_physical (as_call (txn_view t)) ≡ false
+txn_physical t = subst (λ (ops : Ops). is_physical (as_call ops) ≡ false) (sym (txn_view-out t)) refl
+
+or-true : (b : Bool) → (b || true) ≡ true
+or-true true = refl
+or-true false = refl
+
+and-false : (b : Bool) → (b && false) ≡ false
+and-false true = refl
+and-false false = refl
+
+and-true : (b : Bool) → b ≡ (b && true)
+and-true true = refl
+and-true false = refl
+
+-- a command that the model accepts waits where it is a physical Compact
+accepted-waits : (w : World) (call : Call) (a : Answer) → (perform w call).0 ≡ Ok a → is_physical call ≡ is_physical_call w (Ok call)
+unfolding compact_in
+accepted-waits w (Call.range q) a e = refl
+accepted-waits w (Call.put p) a e = refl
+accepted-waits w (Call.delete d) a e = refl
+accepted-waits w (Call.txn cs s f) a e = refl
+accepted-waits w (Call.compact r physical) a e = by (compact_refusal w.compacted (revision w) r) e
+  where
+    by : (o : Option Refusal) → answer_of_made (refused_or o (Ok (Reply.compact, record w { compacted = at_least_zero r }))) ≡ Ok a
+        → physical ≡ (physical && is_none o)
+    by None f = and-true physical
+    by (Some x) f = cc
+accepted-waits w (Call.watch watched start id) a e = refl
+accepted-waits w (Call.grant ttl id) a e = refl
+accepted-waits w (Call.revoke id) a e = refl
+accepted-waits w (Call.keep_alive id) a e = refl
+accepted-waits w (Call.time_to_live id asked) a e = refl
+accepted-waits w Call.leases a e = refl
+
+pub does_wait : (old new : CoreState) (call : Call) (r : Receipt) → Does old new call r → (w : World) → StandsFor old.store w
+    → (is_physical call && has_changed r) ≡ is_physical_call w (Ok call)
+does_wait old new call r d w h = sym (by call (d.beside w h)) ∙ accepted-waits w call _ (d.accepted w h).answers
+  where
+    -- a Compact has changed something
+    by : (m : Call) → is_beside r.todo ≡ changes_beside w m → is_physical m ≡ (is_physical m && has_changed r)
+    by (Call.compact q physical) e = and-true physical ∙ ap (λ b. physical && b) (sym (or-true (is_some r.raised)) ∙ ap (λ b. is_some r.raised || b) (sym e))
+    by (Call.range q) e = refl
+    by (Call.put p) e = refl
+    by (Call.delete q) e = refl
+    by (Call.txn cs s f) e = refl
+    by (Call.watch watched start id) e = refl
+    by (Call.grant ttl id) e = refl
+    by (Call.revoke id) e = refl
+    by (Call.keep_alive id) e = refl
+    by (Call.time_to_live id asked) e = refl
+    by Call.leases e = refl
+
+-- what ended without an answer changed nothing, so none waits
+pub none_waits : (s : Settled) (a : Response) (changed physical : Bool) (now : ℕ) → Settles s a changed now → a.status ≡ 200
+    → is_accepted s ≡ false → (physical && changed) ≡ false
+none_waits (settled.Reply r) a changed physical now e ok unheard =
+    let bad : true ≡ false = sym (ap (λ n. n == 200) (ap (λ (x : Response). x.status) e ∙ ok)) ∙ unheard in cc
+none_waits settled.Memory a changed physical now e ok unheard = ap (λ b. physical && b) e ∙ and-false physical
+none_waits (settled.Lost revision) a changed physical now e ok unheard = cc
