@@ -2,6 +2,7 @@
 use Rattle.std.specs.Prelude.{◌≡◌, ℕ, List, [], ◌∷◌, ◌++◌, true, false, Option, None, Some, codes, decimal}
 use Rattle.std.specs.Fmt.{signed_decimal}
 use Rattle.kv_model.specs.declared.ids.Ids.{Ids}
+use Rattle.kv_model.specs.declared.version.Rev.{Rev}
 use Rattle.kv_model.specs.declared.refusal.Refusal.TheVariants.{Memory}
 use Rattle.kv_model.specs.Answers.{Response, refused, fault_of, lost_fault}
 use Rattle.kv_model.specs.Follows as follows
@@ -24,6 +25,10 @@ expiry_line (Expiry.expired id revision raised) = codes "expired " ++ signed_dec
     ++ decimal revision ++ 10 ∷ []
 expiry_line Expiry.spent = codes "revisions are spent\n"
 
+-- a revision: its main number, a point, and the number within it
+abbrev pub rev_text : Rev → List ℕ
+rev_text p = decimal p.main ++ 46 ∷ [] ++ decimal p.sub
+
 abbrev pub told_line : WireTold → List ℕ
 told_line (WireTold.reply r up watch) = response_line r
 told_line (WireTold.clock clock) = clock_line clock
@@ -33,6 +38,9 @@ told_line WireTold.nothing = codes "nothing\n"
 told_line (WireTold.message text) = text ++ 10 ∷ []
 told_line (WireTold.closed true) = codes "closed\n"
 told_line (WireTold.closed false) = codes "no watch\n"
+told_line (WireTold.removed p) = codes "removed " ++ rev_text p ++ 10 ∷ []
+told_line (WireTold.kept p) = codes "kept " ++ rev_text p ++ 10 ∷ []
+told_line (WireTold.done n certificate) = codes "done " ++ decimal n ++ 10 ∷ []
 told_line _ = []
 
 -- what is written where an event found no memory

@@ -1,5 +1,7 @@
 //! The replies to a script's lines, written in their order.
-ghost use Rattle.std.specs.Prelude.{◌≡◌, ◌++◌, ◌∷◌, [], List, Option, Bool, ℕ, Err, true, drop};
+ghost use Rattle.std.specs.Prelude.{◌≡◌, ◌++◌, ◌∷◌, [], List, Option, None, Bool, ℕ, Err, true, drop};
+ghost use Rattle.store_laws.specs.TrimmingLaws.{trim_told};
+ghost use Rattle.trim_core.specs.Steps.{told_of};
 ghost use Rattle.std.specs.Prelude.{codes, decimal, map, IfOk, IfErr};
 ghost use Rattle.std.specs.Fmt.{signed_decimal};
 ghost use Rattle.json_gateway.specs.Outcomes.{wire_response};
@@ -15,7 +17,8 @@ use crate::fault::Fault;
 use crate::pieces::{write_bytes, write_pieces};
 use crate::script::Lines;
 use itoa::Buffer;
-use json_gateway::{Expiry, Message, Outcome, Settled, Unexpired, WireEvent, WireOutcome};
+use json_gateway::{Expiry, Message, Outcome, Settled, Trim, Unexpired, WireEvent, WireOutcome};
+use kv_model::version::Rev;
 use std::io;
 use std::io::Write;
 
@@ -106,6 +109,7 @@ fn write_outcome<W: Write>(
         WireOutcome::Delivered(Ok(message)) => write_message(w, message),
         WireOutcome::Delivered(Err(_)) => write_out_of_memory(w, event),
         WireOutcome::Closed(stood) => write_closed(w, *stood),
+        WireOutcome::Trimmed(trim) => write_trimmed(w, *trim),
     }
 }
 
@@ -199,6 +203,38 @@ fn write_closed<W: Write>(w: &mut W, stood: bool) -> io::Result<()>
     } else {
         write_bytes(w, b"no watch\n")
     }
+}
+
+/// Writes what a trimming step did.
+fn write_trimmed<W: Write>(w: &mut W, trim: Trim) -> io::Result<()>
+    ensures { Writes result (W.contents w.old) (W.contents w.new)
+        (spec.told_line (trim_told (told_of trim) None)) }
+{
+    match trim {
+        Trim::Removed(rev) => write_visited(w, b"removed ", rev),
+        Trim::Kept(rev) => write_visited(w, b"kept ", rev),
+        Trim::Done(count) => write_done(w, count),
+    }
+}
+
+/// Writes a word and the revision of the version that a trimming step visited.
+fn write_visited<W: Write>(w: &mut W, word: &[u8], rev: Rev) -> io::Result<()>
+    ensures { Writes result (W.contents w.old) (W.contents w.new)
+        (word.now ++ spec.rev_text rev ++ 10 ∷ []) }
+{
+    let (mut main, mut sub) = (Buffer::new(), Buffer::new());
+    let main = main.format(rev.main).as_bytes();
+    let sub = sub.format(rev.sub).as_bytes();
+    write_pieces(w, &[word, main, b".", sub, b"\n"])
+}
+
+/// Writes how many versions are kept, where trimming is done.
+fn write_done<W: Write>(w: &mut W, count: u64) -> io::Result<()>
+    ensures { Writes result (W.contents w.old) (W.contents w.new)
+        (codes "done " ++ decimal count ++ 10 ∷ []) }
+{
+    let mut digits = Buffer::new();
+    write_pieces(w, &[b"done ", digits.format(count).as_bytes(), b"\n"])
 }
 
 /// Writes a status, a space, a body and a line feed.

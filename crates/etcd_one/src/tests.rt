@@ -4,4 +4,5 @@ mod ranges;
 mod rows;
 mod streams;
 mod transactions;
+mod trimming;
 mod watches;
