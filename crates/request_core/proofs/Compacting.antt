@@ -1,6 +1,6 @@
 -- What a Compact does, in each world that the core stands for.
 use Rattle.std.proofs.Common.{◌≡◌, ◌≤◌, ◌<◌, ℕ, ◌+◌, ℤ, pos, negsuc, Bool, true, false, ◌||◌, ◌==◌, cond, Option, None, Some, Ok, Err}
-use Rattle.std.proofs.Common.{refl, sym, ◌∙◌, ap, subst, arith}
+use Rattle.std.proofs.Common.{refl, sym, ◌∙◌, ap, subst, arith, inr}
 use Rattle.std.specs.Prelude.{nat_lt, nat_le}
 use Rattle.kv_model.specs.declared.refusal.Refusal.{Refusal}
 use Rattle.kv_model.specs.declared.refusal.Refusal.TheVariants.{Compacted, Future}
@@ -37,7 +37,7 @@ compact-makes s r physical clear w h =
     record {
       after = after;
       made = compact_told s.store w h r physical ∙ ap (λ o. refused_or o (Ok (Reply.compact, after))) clear;
-      stands = compact_stands s.store w h (at_least_zero r) within.0 within.1;
+      stands = compact_stands s.store w h (at_least_zero r) (omega (arith, within.0)) within.1;
     }
 
 pub compact_done : (s new : CoreState) (r : ℤ) (physical : Bool) → compact_refusal s.store.compacted s.store.revision r ≡ None
@@ -48,6 +48,11 @@ compact_done s new r physical clear made =
       allowed = tt;
       beside = λ w h. refl;
       moves = record {
+        keeps = inr (record {
+          versions = refl;
+          up = (compact_within s.store.compacted s.store.revision r clear).0;
+          place = refl;
+        });
         unchanged = changed-beside (nat_lt s.store.revision s.store.revision);
         stamp = refl;
         watches = none-raised s.store.made;

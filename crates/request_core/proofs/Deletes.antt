@@ -25,7 +25,7 @@ use Rattle.request_core.specs.Writing.{tombstones}
 use Rattle.request_core.specs.State.{CoreState, live_in, is_spent, with_any, fault_of_delete, added_by_delete, after_delete}
 use Rattle.request_core.specs.Answers.{IsRefusal}
 use Rattle.request_core.specs.Commands.{CarriesOut, Makes, Refuses}
-use Rattle.request_core.proofs.Worlds.{any_moves, changed_by, committed, grows_by, made_first, refused_first, commit_made, commit_spent, is_refused}
+use Rattle.request_core.proofs.Worlds.{AreAt, any_moves, changed_by, committed, grows_by, made_first, refused_first, commit_made, commit_spent, is_refused}
 
 -- ---- deletes in a row make tombstones
 
@@ -40,6 +40,11 @@ deletes-now main sub (k ∷ ks) = deletes-now main (suc sub) ks
 pub deletes-next : (r main sub : ℕ) (kvs : List KeyValue) → kvs ≢ [] → now_after r (deletes_of main sub (keys_of kvs)) ≡ main
 deletes-next r main sub [] some = absurd (some refl)
 deletes-next r main sub (kv ∷ kvs) some = deletes-now main (suc sub) (keys_of kvs)
+
+-- they stand at one revision
+pub tombstones_at : (main sub : ℕ) (kvs : List KeyValue) → AreAt main (tombstones main sub kvs)
+tombstones_at main sub [] = tt
+tombstones_at main sub (kv ∷ kvs) = (refl, tombstones_at main (suc sub) kvs)
 
 -- they grow a store as the tombstones do, and no keys leave it as it is
 pub any-grows : (s : CoreState) (kvs : List KeyValue) → deletes_of (s.store.revision + 1) 0 (keys_of kvs) ≢ []
@@ -146,7 +151,7 @@ delete_done s new d n range same was =
       makes = λ w h. subst (λ r. Makes w (Call.delete d) r (after_delete s d).store) (sym told) (delete-makes s new d n was w h);
       allowed = tt;
       beside = λ w h. refl;
-      moves = any_moves s (added_by_delete s.store d) false;
+      moves = any_moves s (added_by_delete s.store d) false (tombstones_at (s.store.revision + 1) 0 (live_in s.store d.range));
     })
 
 -- ---- what is refused

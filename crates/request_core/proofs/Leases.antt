@@ -16,7 +16,7 @@ use Rattle.request_core.specs.declared.answer.Todo.TheVariants as todo
 use Rattle.request_core.specs.State.{CoreState, after_grant, after_keep_alive, leased}
 use Rattle.request_core.specs.Answers.{IsRefusal, time_left_view}
 use Rattle.request_core.specs.Commands.{CarriesOut, Makes, Moves, Refuses}
-use Rattle.request_core.proofs.Worlds.{changed-beside, none-raised, read_moves, is_refused}
+use Rattle.request_core.proofs.Worlds.{changed-beside, none-raised, read_moves, rests, is_refused}
 
 -- a command that changes the leases alone
 leases-make : (s : CoreState) (ls : List Lease) (call : Call) (told : Reply) (w : World) → StandsFor s.store w
@@ -26,6 +26,7 @@ leases-make s ls call told w h made =
 
 leases-moved : (s : CoreState) (ls : List Lease) → Moves s (leased s ls) true None
 leases-moved s ls = record {
+  keeps = rests s (leased s ls) refl refl refl;
   unchanged = changed-beside (nat_lt s.store.revision s.store.revision);
   stamp = refl;
   watches = none-raised s.store.made;

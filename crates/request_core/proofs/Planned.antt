@@ -18,6 +18,7 @@ use Rattle.txn_core.specs.KeyWrites.{IsCountedTo}
 use Rattle.txn_core.proofs.PutCounts.{last_that-holds}
 use Rattle.request_core.specs.Writing.{IsHeldTo, AreNext}
 use Rattle.request_core.proofs.Kept.{found-held, action-counted}
+use Rattle.request_core.proofs.Worlds.{AreAt}
 
 -- ---- they are numbered on
 
@@ -71,6 +72,13 @@ versions-next r vs (u ∷ us) h =
     let here : u.rev.main ≡ r + 1 = ap (λ (p : Rev). p.main) h.0 in
     let rest : goes_on u.rev (map (next_version vs) us) ≡ true = ap (λ p. goes_on p (map (next_version vs) us)) h.0 ∙ versions-go_on vs (r + 1) 0 us h.1 in
     λ i. eq-eqb u.rev.main (r + 1) here i && rest i
+
+versions-at : (vs : List Version) (main sub : ℕ) (us : List Mutation) → AreFrom main sub us → AreAt main (map (next_version vs) us)
+versions-at vs main sub [] h = tt
+versions-at vs main sub (u ∷ us) h = (ap (λ (p : Rev). p.main) h.0, versions-at vs main (suc sub) us h.1)
+
+pub planned_at : (vs : List Version) (main : ℕ) (q : Path) → AreAt main (map (next_version vs) (planned vs main [] q))
+planned_at vs main q = versions-at vs main 0 (planned vs main [] q) (planned-from vs main [] q tt)
 
 -- their numbers fit 64 bits where there are no more
 versions-places : (vs : List Version) (main sub : ℕ) (us : List Mutation) → AreFrom main sub us → sub + length us ≤ 2 ^ 64 → AllByRecursion (λ v. v.rev.sub < 2 ^ 64) (map (next_version vs) us)

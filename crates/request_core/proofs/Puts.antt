@@ -78,7 +78,7 @@ put_done s new p key same d = subst (λ (n : CoreState). CarriesOut s n (Call.pu
       (put-makes s p d.clear w h);
   allowed = tt;
   beside = λ w h. refl;
-  moves = any_moves s (added_by_put s.store p ∷ []) false;
+  moves = any_moves s (added_by_put s.store p ∷ []) false (refl, tt);
 })
 
 -- ---- what is refused

@@ -1,5 +1,5 @@
 -- What a revoke and a step of expiry do, in each world that the core stands for.
-use Rattle.std.proofs.Common.{◌≡◌, ℕ, ℤ, ◌+◌, ◌≤◌, ◌^◌, List, [], ◌∷◌, length, Bool, true, false, cond, nat_lt}
+use Rattle.std.proofs.Common.{◌≡◌, ◌⊎◌, inl, inr, ℕ, ℤ, ◌+◌, ◌≤◌, ◌^◌, List, [], ◌∷◌, length, Bool, true, false, cond, nat_lt}
 use Rattle.std.proofs.Common.{Option, None, Some, Err, refl, sym, ◌∙◌, ap, subst, arith, lt-ltb, le-ltb}
 use Rattle.std.specs.Prelude.{option_map, MatchBool, ⊤}
 use Rattle.std.proofs.lemmas.List.{length-map}
@@ -14,18 +14,20 @@ use Rattle.kv_model.specs.World.{World, revision}
 use Rattle.kv_model.specs.Step.{made_in, expiry_of, expire, expire_at, revoke_in}
 use Rattle.store_laws.specs.Stands.{Store, StandsFor}
 use Rattle.store_laws.specs.Stores.{refusal_of_revoke, changes_of_revoke}
+use Rattle.store_laws.proofs.KeepingLaws.{rests_kept}
+use Rattle.store_laws.proofs.MoveLaws.{expiry_moves}
 use Rattle.store_laws.proofs.StandsLeases.{leases_stand, revoke_told, revoke_stands, due_stands}
 use Rattle.request_core.specs.declared.answer.Expiry.{Expiry as CoreExpiry}
 use Rattle.request_core.specs.declared.answer.Expiry.TheVariants as expiry
 use Rattle.request_core.specs.declared.answer.Todo.TheVariants as todo
 use Rattle.request_core.specs.Writing.{tombstones}
 use Rattle.request_core.specs.State.{CoreState, leased_in, with_any, leased, fault_of_revoke, added_by_revoke, after_revoke, due_in}
-use Rattle.request_core.specs.State.{counted, raised_from, stamp_after}
+use Rattle.request_core.specs.State.{counted, keeping_of, raised_from, stamp_after}
 use Rattle.request_core.specs.Answers.{IsRefusal, expiry_view, has_expired, is_memory}
-use Rattle.request_core.specs.Commands.{CarriesOut, Expires, Makes, Moves, Refuses, RefusesExpiry}
+use Rattle.request_core.specs.Commands.{AddsVersions, CarriesOut, Expires, Makes, Moves, Refuses, RefusesExpiry, StartsOver}
 use Rattle.request_core.proofs.Worlds.{changed_by, committed, made_first, refused_first, commit_made, commit_spent, is_refused}
-use Rattle.request_core.proofs.Worlds.{changed-beside, none-raised}
-use Rattle.request_core.proofs.Deletes.{any-grows, any-stays, deletes-spent}
+use Rattle.request_core.proofs.Worlds.{AreAt, any_adds, changed-beside, keeps_worlds, none-raised, rests}
+use Rattle.request_core.proofs.Deletes.{any-grows, any-stays, deletes-spent, tombstones_at}
 
 -- a revoke that a core made, of a lease with so many keys
 pub record WasRevoked (s new : CoreState) (id : ℤ) (n : ℕ) : Type 0 where
@@ -92,12 +94,23 @@ revoke-makes s new id n was w h =
 
 revoke-moves : (s new : CoreState) (id : ℤ) (n : ℕ) → WasRevoked s new id n → Moves s new true None
 revoke-moves s new id n was = record {
+  keeps = subst (λ (t : CoreState). AddsVersions s t ⊎ StartsOver s t) (sym was.made)
+      (revoke-adds (added_by_revoke s.store id) (tombstones_at (s.store.revision + 1) 0 (leased_in s.store id)));
   unchanged = changed-beside (nat_lt s.store.revision new.store.revision);
   stamp = ap (λ (t : CoreState). t.stamp) was.made ∙ any-stamp (added_by_revoke s.store id);
   watches = ap (raised_from s.store.made) (ap (λ (t : CoreState). t.store.made) was.made ∙ any-made (added_by_revoke s.store id))
       ∙ none-raised s.store.made;
 }
   where
+    revoke-adds : (vs : List Version) → AreAt (s.store.revision + 1) vs
+        → AddsVersions s (leased (with_any s vs) (without_lease id s.store.leases))
+        ⊎ StartsOver s (leased (with_any s vs) (without_lease id s.store.leases))
+    revoke-adds [] at = rests s (leased s (without_lease id s.store.leases)) refl refl refl
+    revoke-adds (v ∷ vs) at = elim (any_adds s (v ∷ vs) at) [
+      | inl a ↦ inl (record { added = a.added; versions = a.versions; above = a.above; compacted = a.compacted; place = a.place })
+      | inr c ↦ inr (record { versions = c.versions; up = c.up; place = c.place })
+    ]
+
     any-stamp : (vs : List Version) → (with_any s vs).stamp ≡ s.stamp
     any-stamp [] = refl
     any-stamp (v ∷ vs) = refl
@@ -147,7 +160,11 @@ pub nothing_expires : (s : CoreState) → due_in s.store ≡ None → Expires s 
 nothing_expires s none = record {
   expired = λ w h.
       let all : expire w ≡ (Expiry.nothing, w) = nothing-due w (due w.clock w.leases) (due-id s.store w h ∙ none) in
-      (ap (λ x. x.0) (sym all), subst (λ u. StandsFor s.store u) (ap (λ x. x.1) (sym all)) h);
+      record {
+        tells = ap (λ x. x.0) (sym all);
+        stands = subst (λ u. StandsFor s.store u) (ap (λ x. x.1) (sym all)) h;
+        keeps = rests_kept w (expire w).1 (keeping_of s) (ap (λ x. x.1.mutations) all) (ap (λ x. x.1.compacted) all);
+      };
   unchanged = λ none. refl;
   stamp = refl;
 }
@@ -179,7 +196,12 @@ pub lease_expires : (s new : CoreState) (id : ℤ) (e : CoreExpiry) → WasExpir
 lease_expires s new id e x = record {
   expired = λ w h.
       let done = lease-expires s x.revoked id x.keys x.was x.due_is w h in
-      (x.told ∙ done.0, subst (λ (t : CoreState). StandsFor t.store (expire w).1) (sym x.counts) done.1);
+      record {
+        tells = x.told ∙ done.0;
+        stands = subst (λ (t : CoreState). StandsFor t.store (expire w).1) (sym x.counts) done.1;
+        keeps = ap keeping_of x.counts
+            ∙ keeps_worlds s x.revoked w (expire w).1 (revoke-moves s x.revoked id x.keys x.was).keeps h done.1 (expiry_moves w);
+      };
   unchanged = λ none. let bad : true ≡ false = sym (is-expired e _ _ _ x.told) ∙ none in cc;
   stamp = ap (λ (t : CoreState). t.stamp) x.counts
       ∙ ap (λ n. stamp_after true n) (revoke-moves s x.revoked id x.keys x.was).stamp

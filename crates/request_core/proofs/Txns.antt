@@ -34,7 +34,7 @@ use Rattle.request_core.specs.declared.answer.Todo.TheVariants as todo
 use Rattle.request_core.specs.State.{CoreState, is_spent, with_any, with_versions, fault_of_txn, added_by, added_by_txn, after_txn}
 use Rattle.request_core.specs.Answers.{CanReply, IsRefusal}
 use Rattle.request_core.specs.Commands.{CarriesOut, Makes, Moves, Refuses, takes_memory}
-use Rattle.request_core.proofs.Planned.{planned-from, from-now, planned-extends}
+use Rattle.request_core.proofs.Planned.{planned_at, planned-from, from-now, planned-extends}
 use Rattle.request_core.proofs.Worlds.{grows_by, or-none-first, or-none-second, not-spent, any_moves, changed_by, committed, made_first, refused_first}
 use Rattle.request_core.proofs.Worlds.{commit_made, commit_spent, is_refused, own_refusal}
 
@@ -220,7 +220,8 @@ txn_done s new t b steps was =
           (sym (left-answer s new (txn_view t) b (steps_view steps.items) was)) (txn-makes s new t b (steps_view steps.items) was w h));
       allowed = txn-readable s new (txn_view t) b (steps_view steps.items) was;
       beside = λ w h. sym (txn-beside w t);
-      moves = subst (λ (n : CoreState). Moves s n false None) (sym left) (any_moves s (added_by_txn s.store (txn_view t)) false);
+      moves = subst (λ (n : CoreState). Moves s n false None) (sym left) (any_moves s (added_by_txn s.store (txn_view t)) false
+          (planned_at s.store.versions (s.store.revision + 1) (path_in s.store (txn_view t))));
     }
 
 -- ---- a refused one

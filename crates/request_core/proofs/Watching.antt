@@ -24,7 +24,7 @@ use Rattle.request_core.specs.declared.answer.Todo.TheVariants as todo
 use Rattle.request_core.specs.Answers.{IsRefusal, is_memory}
 use Rattle.request_core.specs.Commands.{CarriesOut, Makes, Moves, Refuses}
 use Rattle.request_core.specs.State.{CoreState, after_watch, core_state}
-use Rattle.request_core.proofs.Worlds.{changed-beside, is_refused}
+use Rattle.request_core.proofs.Worlds.{changed-beside, is_refused, rests}
 
 -- ---- a watch is made
 
@@ -48,6 +48,7 @@ pub record WasMade (s new : CoreState) (watched : Watched) (start id : ℤ) (num
 watch-moves : (s : CoreState) (watched : Watched) (start id : ℤ) (number : ℕ) → number ≡ s.store.made + 1
     → Moves s (after_watch s watched start id) true (Some number)
 watch-moves s watched start id number is = record {
+  keeps = rests s (after_watch s watched start id) refl refl refl;
   unchanged = changed-beside (nat_lt s.store.revision s.store.revision);
   stamp = refl;
   watches = ap (λ b. cond b (Some (s.store.made + 1)) None) (lt-ltb s.store.made (s.store.made + 1) (omega arith))

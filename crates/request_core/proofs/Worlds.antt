@@ -1,5 +1,5 @@
 -- What a core does, in each world that it stands for.
-use Rattle.std.proofs.Common.{◌≡◌, ◌≢◌, ℕ, ◌+◌, ◌<◌, ◌≤◌, List, [], ◌∷◌, ◌++◌, map, Bool, true, false, ◌&&◌, cond, not, Option, None, Some}
+use Rattle.std.proofs.Common.{◌≡◌, ◌≢◌, ◌⊎◌, inl, inr, ℕ, ◌+◌, ◌<◌, ◌≤◌, List, [], ◌∷◌, ◌++◌, map, Bool, true, false, ◌&&◌, cond, not, Option, None, Some}
 use Rattle.std.proofs.Common.{Result, Ok, Err, refl, sym, ◌∙◌, ap, subst, arith}
 use Rattle.std.specs.Prelude.{nat_lt, is_some, ◌||◌, MatchBool}
 use Rattle.std.specs.Option.{option_or}
@@ -19,11 +19,19 @@ use Rattle.kv_model.specs.Step.{Made, last_main, made_in, perform, refused_or, c
 use Rattle.store_laws.specs.Stands.{Store, StandsFor, grown_noted, noted}
 use Rattle.store_laws.proofs.BatchLaws.{extend_all-added}
 use Rattle.store_laws.proofs.StandsCommands.{answer_refused}
+use Rattle.store_laws.proofs.PlaceLaws.{each-map}
+use Rattle.store_laws.proofs.MoveLaws as model
+use Rattle.store_laws.proofs.MoveLaws.{command_moves}
+use Rattle.store_laws.proofs.KeepingLaws.{adds_kept, rises_kept}
+use Rattle.store_laws.specs.TrimmingLaws.{keeping}
+use Rattle.kv_model.specs.Kept.{kept_after}
+use Rattle.std.specs.List.{AllByRecursion}
+use Rattle.std.proofs.lemmas.List.{append-nil}
 use Rattle.request_core.specs.declared.answer.Receipt.{Receipt}
 use Rattle.request_core.specs.declared.answer.Todo.{Todo}
-use Rattle.request_core.specs.State.{CoreState, counted, is_spent, raised_from, stamp_after, with_any, with_versions}
+use Rattle.request_core.specs.State.{CoreState, counted, is_spent, keeping_of, raised_from, stamp_after, with_any, with_versions}
 use Rattle.request_core.specs.Answers.{IsAllowed, IsRefusal, answer_of, has_changed, is_beside, is_memory, reply_left, watch_of}
-use Rattle.request_core.specs.Commands.{CarriesOut, Does, IsIssued, Moves, first_refusal}
+use Rattle.request_core.specs.Commands.{AddsVersions, CarriesOut, Does, IsIssued, Moves, StartsOver, first_refusal}
 
 -- ---- the first of two refusals
 
@@ -68,6 +76,14 @@ receipt-tells : (old mid new : CoreState) (t : Todo) (r : Receipt) → IsIssued 
 receipt-tells old mid new t r i =
     λ j. (ap is_some i.raised ∙ raised-rose old.store.revision mid.store.revision) j || is_beside (i.todo j)
 
+-- in worlds that a core stands for before and after a move of the model, it keeps what the model keeps
+pub keeps_worlds : (old new : CoreState) (w u : World) → AddsVersions old new ⊎ StartsOver old new → StandsFor old.store w
+    → StandsFor new.store u → model.Moves w u → keeping_of new ≡ kept_after w u (keeping_of old)
+keeps_worlds old new w u (inl a) h k m = ap (λ p. keeping new.store.versions p new.store.compacted) a.place
+    ∙ adds_kept old.store new.store w u old.place a.added h k m a.versions a.above a.compacted
+keeps_worlds old new w u (inr c) h k m = ap (λ p. keeping new.store.versions p new.store.compacted) c.place
+    ∙ rises_kept old.store new.store w u old.place h k m c.versions c.up
+
 -- a command that is carried out, and then counted and told by its receipt
 pub record IsFinished (old new : CoreState) (call : Call) (r : Receipt) : Type 0 where
   pub between : CoreState
@@ -98,6 +114,9 @@ does old new call r f =
                 ∙ sym (ap (λ a. Ok a)
                 (left ∙ ap (λ n. record { reply = reply_left t mid.store mid.store.revision; revision = n }) m.stands.revision_is));
             stands = subst (λ u. StandsFor new.store u) after (subst (λ s. StandsFor s m.after) (sym same) m.stands);
+            keeps = ap keeping_of i.counts
+                ∙ keeps_worlds old mid w (perform w call).1 d.moves.keeps h (subst (λ u. StandsFor mid.store u) after m.stands)
+                (command_moves w call);
             raised = i.raised ∙ (λ j. raised_from (h.revision_is j) (m.stands.revision_is j)) ∙ ap (λ u. raised w u) after;
             watch = i.watch ∙ sym d.moves.watches ∙ (λ j. raised_from (h.made j) (m.stands.made j)) ∙ ap (λ u. number_made w u) after;
           };
@@ -113,6 +132,19 @@ does old new call r f =
       beside = λ w h. ap is_beside i.todo ∙ d.beside w h;
     }
 
+-- ---- what is kept
+
+-- nothing is added, and trimming is where it was
+pub rests : (s new : CoreState) → new.store.versions ≡ s.store.versions → new.store.compacted ≡ s.store.compacted → new.place ≡ s.place
+    → AddsVersions s new ⊎ StartsOver s new
+rests s new e c p = inl (record {
+  added = [];
+  versions = e ∙ sym (append-nil s.store.versions);
+  above = tt;
+  compacted = c;
+  place = p;
+})
+
 -- something changed besides the versions
 pub changed-beside : {X : Type 0} {x y : X} (b : Bool) → (b || true) ≡ false → x ≡ y
 changed-beside true e = let bad : true ≡ false = e in cc
@@ -120,14 +152,30 @@ changed-beside false e = let bad : true ≡ false = e in cc
 
 -- a command that is only read for its answer
 pub read_moves : (s : CoreState) (b : Bool) → Moves s s b None
-read_moves s b = record { unchanged = λ none. refl; stamp = refl; watches = none-raised s.store.made }
+read_moves s b = record { keeps = rests s s refl refl refl; unchanged = λ none. refl; stamp = refl; watches = none-raised s.store.made }
 
 -- ---- changes that are committed
 
+-- versions of one revision
+abbrev pub AreAt : ℕ → List Version → Type 0
+AreAt revision vs = AllByRecursion (λ v. v.rev.main ≡ revision) vs
+
+-- those of the next one are added
+pub any_adds : (s : CoreState) (vs : List Version) → AreAt (s.store.revision + 1) vs → AddsVersions s (with_any s vs) ⊎ StartsOver s (with_any s vs)
+any_adds s [] at = rests s s refl refl refl
+any_adds s (v ∷ vs) at = inl (record {
+  added = v ∷ vs;
+  versions = refl;
+  above = each-map (λ x. x.rev.main ≡ s.store.revision + 1) (λ x. s.store.revision < x.rev.main) (λ x e. omega arith) (v ∷ vs) at;
+  compacted = refl;
+  place = refl;
+})
+
 -- where versions were appended, the revision rose
-pub any_moves : (s : CoreState) (vs : List Version) (b : Bool) → Moves s (with_any s vs) b None
-any_moves s [] b = read_moves s b
-any_moves s (v ∷ vs) b = record {
+pub any_moves : (s : CoreState) (vs : List Version) (b : Bool) → AreAt (s.store.revision + 1) vs → Moves s (with_any s vs) b None
+any_moves s [] b at = read_moves s b
+any_moves s (v ∷ vs) b at = record {
+  keeps = any_adds s (v ∷ vs) at;
   unchanged = λ none.
       let bad : true ≡ false
       = ap (λ c. c || b) (sym (lt-ltb s.store.revision (s.store.revision + 1) (omega arith))) ∙ none in cc;

@@ -1,5 +1,7 @@
 -- What a command does with a core, and what one that is refused leaves.
-use Rattle.std.specs.Prelude.{◌≡◌, ℕ, Bool, true, false, ◌||◌, nat_lt, Option, None, Some, Result, Ok, Err}
+use Rattle.std.specs.Prelude.{◌≡◌, ◌⊎◌, ◌<◌, ℕ, List, ◌++◌, Bool, true, false, ◌||◌, nat_lt, Option, None, Some, Result, Ok, Err}
+use Rattle.std.specs.List.{AllByRecursion}
+use Rattle.kv_model.specs.declared.version.Version.{Version}
 use Rattle.std.specs.Prelude.{MatchBool, ⊤}
 use Rattle.kv_model.specs.declared.refusal.Refusal.{Refusal}
 use Rattle.kv_model.specs.declared.refusal.Refusal.TheVariants.{RevisionsSpent}
@@ -8,7 +10,8 @@ use Rattle.kv_model.specs.Step.{made_in, perform, expire}
 use Rattle.kv_model.specs.Told.{Reply, Answer, Trimmed, Expiry as ModelExpiry}
 use Rattle.kv_model.specs.Wire.{raised, number_made, changes_beside}
 use Rattle.kv_model.specs.World.{World}
-use Rattle.kv_model.specs.Kept.{Trims}
+use Rattle.kv_model.specs.Kept.{Trims, kept_after}
+use Rattle.kv_model.specs.Trimming.{oldest_place}
 use Rattle.store_laws.specs.TrimmingLaws.{IsVisit, trim_told}
 use Rattle.trim_core.specs.declared.trimmer.Trim.{Trim}
 use Rattle.trim_core.specs.Steps.{told_of}
@@ -24,17 +27,19 @@ use Rattle.request_core.specs.Answers.{expiry_view, has_expired, reply_left, wat
 -- ---- a command that is accepted
 
 -- a command was accepted as the model accepts it in this world, which then is that one
-pub record Accepts (new : CoreState) (r : Receipt) (w : World) (told : Result Answer Refusal)
+pub record Accepts (old new : CoreState) (r : Receipt) (w : World) (told : Result Answer Refusal)
     (after : World) : Type 0 where
   pub answers : told ≡ Ok (answer_of r new)
   pub stands : StandsFor new.store after
+  -- what is kept is what was kept and what the world has besides, and an accepted Compact has trimming begin again
+  pub keeps : keeping_of new ≡ kept_after w after (keeping_of old)
   pub raised : r.raised ≡ raised w after
   pub watch : r.watch ≡ number_made w after
 
 -- what an accepted command did with a core, from the first state to the second, and what its receipt says of it
 pub record Does (old new : CoreState) (call : Call) (r : Receipt) : Type 0 where
   -- in each world that the core stood for, it is what the model does
-  pub accepted : (w : World) → StandsFor old.store w → Accepts new r w (perform w call).0 (perform w call).1
+  pub accepted : (w : World) → StandsFor old.store w → Accepts old new r w (perform w call).0 (perform w call).1
   -- the receipt can be answered on the state that is left
   pub readable : IsReadable r new
   -- where the receipt tells of no change, the core is as it was
@@ -73,10 +78,17 @@ pub record Refuses (old new : CoreState) (call : Call) (e : Refusal) : Type 0 wh
 
 -- ---- a step of expiry
 
+-- a step of expiry did what the model does in this world, which then is that one
+pub record ExpiresIn (old new : CoreState) (e : Expiry) (w : World) (told : ModelExpiry) (after : World) : Type 0 where
+  pub tells : expiry_view e ≡ told
+  pub stands : StandsFor new.store after
+  -- what is kept is what was kept and what the world has besides
+  pub keeps : keeping_of new ≡ kept_after w after (keeping_of old)
+
 -- what a step of expiry did with a core, from the first state to the second, and what it tells
 pub record Expires (old new : CoreState) (e : Expiry) : Type 0 where
   -- in each world that the core stood for, it is what the model does
-  pub expired : (w : World) → StandsFor old.store w → (expiry_view e ≡ (expire w).0) × StandsFor new.store (expire w).1
+  pub expired : (w : World) → StandsFor old.store w → ExpiresIn old new e w (expire w).0 (expire w).1
   -- where no lease was due, the core is as it was
   pub unchanged : has_expired e ≡ false → new ≡ old
   -- the step is counted where it revoked a lease
@@ -123,9 +135,24 @@ pub record Makes (w : World) (call : Call) (told : Reply) (new : Store) : Type 0
   pub made : made_in w call ≡ Ok (told, after)
   pub stands : StandsFor new after
 
+-- versions above the revision are added, perhaps none, and trimming goes on from where it was
+pub record AddsVersions (old new : CoreState) : Type 0 where
+  pub added : List Version
+  pub versions : new.store.versions ≡ old.store.versions ++ added
+  pub above : AllByRecursion (λ v. old.store.revision < v.rev.main) added
+  pub compacted : new.store.compacted ≡ old.store.compacted
+  pub place : new.place ≡ old.place
+
+-- the compaction rises, and trimming begins again
+pub record StartsOver (old new : CoreState) : Type 0 where
+  pub versions : new.store.versions ≡ old.store.versions
+  pub up : old.store.compacted < new.store.compacted
+  pub place : new.place ≡ oldest_place
+
 -- a change that is not counted yet, and that is none where neither the revision rose nor something else changed, with the
 -- number of the watch that it made
 pub record Moves (old new : CoreState) (beside : Bool) (watch : Option ℕ) : Type 0 where
+  pub keeps : AddsVersions old new ⊎ StartsOver old new
   pub unchanged : (nat_lt old.store.revision new.store.revision || beside) ≡ false → new ≡ old
   pub stamp : new.stamp ≡ old.stamp
   pub watches : raised_from old.store.made new.store.made ≡ watch

@@ -1,5 +1,5 @@
 -- A Compact asks for less, so a good part stays good behind it.
-use Rattle.std.proofs.Common.{◌≡◌, ◌≤◌, ℕ, ◌-◌, ℤ, List, [], ◌∷◌, Bool, true, false, ◌&&◌, ◌||◌, cond, Option, None, Some, Ok, map, filter}
+use Rattle.std.proofs.Common.{◌≡◌, ◌≤◌, ◌<◌, ℕ, ◌-◌, ℤ, List, [], ◌∷◌, Bool, true, false, ◌&&◌, ◌||◌, cond, Option, None, Some, Ok, map, filter}
 use Rattle.std.proofs.Common.{refl, sym, ◌∙◌, ap, arith}
 use Rattle.std.specs.Prelude.{pos, negsuc, nat_lt, nat_le, ◌==◌}
 use Rattle.std.specs.List.{AllByRecursion}
@@ -120,18 +120,18 @@ compact_told s w h r physical = sym (λ i. refused_or (compact_refusal (h.compac
   record w { compacted = at_least_zero r },
 )))
 
--- what is not refused lies between the last Compact and the revision
-pub compact_within : (c n : ℕ) (r : ℤ) → compact_refusal c n r ≡ None → (c ≤ at_least_zero r) × (at_least_zero r ≤ n)
+-- what is not refused is above the last Compact and not above the revision
+pub compact_within : (c n : ℕ) (r : ℤ) → compact_refusal c n r ≡ None → (c < at_least_zero r) × (at_least_zero r ≤ n)
 compact_within c n (negsuc m) e = cc
 compact_within c n (pos r) e = by (r == 0 || nat_le r c) refl e
   where
-    by : (b : Bool) → (r == 0 || nat_le r c) ≡ b → cond b (Some (Compacted c)) (refuse_if (nat_lt n r) (Future n)) ≡ None → (c ≤ r)
+    by : (b : Bool) → (r == 0 || nat_le r c) ≡ b → cond b (Some (Compacted c)) (refuse_if (nat_lt n r) (Future n)) ≡ None → (c < r)
         × (r ≤ n)
     by true f g = cc
     by false f g =
         let past : nat_lt n r ≡ false = not-refused (nat_lt n r) (Future n) g in
         (above (r == 0) f, ltb-false n r past)
       where
-        above : (t : Bool) → (t || nat_le r c) ≡ false → c ≤ r
+        above : (t : Bool) → (t || nat_le r c) ≡ false → c < r
         above true f = cc
         above false f = grind (arith, nat_tests)
