@@ -7,7 +7,8 @@ use Rattle.kv_model.specs.declared.refusal.Refusal.TheVariants.{Memory}
 use Rattle.kv_model.specs.Answers.{Response, refused, fault_of, lost_fault}
 use Rattle.kv_model.specs.Follows as follows
 use Rattle.kv_model.specs.Told.{Expiry}
-use Rattle.kv_model.specs.Wire.{WireEvent, WireTold, WireOutcome, Follows}
+use Rattle.kv_model.specs.Wire.{WireEvent, WireTold, WireOutcome}
+use Rattle.kv_model.specs.Headline.{IsRun}
 use Rattle.etcd_one.specs.Script.{line_events}
 
 -- ---- one line
@@ -72,7 +73,8 @@ reply_lines (Some e ∷ ls) (o ∷ os) = outcome_line e o ++ reply_lines ls os
 abbrev pub ids : Ids
 ids = record { cluster = 1; member = 1 }
 
--- The replies are those to a run of the script's events on a fresh store, which answers as the whole history does.
+-- The replies are those to a run of the script's events on a fresh store, which answers as the whole history does while
+-- it is trimmed.
 abbrev pub IsAnswered : List ℕ → List ℕ → Type 0
-IsAnswered script replies = (os : List WireOutcome) × Follows ids (events_among (line_events script)) os
+IsAnswered script replies = (os : List WireOutcome) × IsRun ids (events_among (line_events script)) os
     × (replies ≡ reply_lines (line_events script) os)

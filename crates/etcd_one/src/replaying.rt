@@ -4,7 +4,7 @@ ghost use Rattle.std.specs.Prelude.{length, map, IfOk, IfErr, OnOk, IfSome, Matc
 ghost use Rattle.std.specs.Io.KnownBytes.{Appends};
 ghost use Rattle.std.specs.IoError.{error_kind};
 ghost use Rattle.json_gateway.specs.Runs.{outcome_view};
-ghost use Rattle.kv_model.specs.Wire.{Follows};
+ghost use Rattle.kv_model.specs.Headline.{IsRun};
 ghost use Rattle.etcd_one.specs.Lines.{AreLines};
 ghost use Rattle.etcd_one.specs.Replies as spec;
 ghost use Rattle.etcd_one.specs.Script as script;
@@ -121,7 +121,7 @@ struct Run<'a> {
 /// Runs a script's events on a fresh store. Fails for want of memory outside a request.
 fn run_of(alloc: Global, text: &[u8]) -> Result<Run<'_>, AllocError>
     ensures lines { IfOk result (λ run. AreLines run.lines (script.line_events text.now)) }
-    ensures follows { IfOk result (λ run. Follows spec.ids
+    ensures run { IfOk result (λ run. IsRun spec.ids
         (spec.events_among (script.line_events text.now)) (map outcome_view run.outcomes.items)) }
 {
     let lines = line_events(alloc, text)?;

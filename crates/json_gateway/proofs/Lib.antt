@@ -1,4 +1,5 @@
 pub mod Accepted
+pub mod Keeps
 pub mod Deliveries
 pub mod Events
 pub mod Trims

@@ -1,15 +1,14 @@
 -- Trimming steps as events of a run, and that they come to an end.
-use Rattle.std.proofs.Common.{◌≡◌, ◌<◌, ℕ, suc, ◌&&◌, ◌||◌, ◌==◌, [], ◌∷◌, length, Bool, true, false, Option, None, Some, Ok, Err, refl, sym, ◌∙◌, ap, subst, arith}
+use Rattle.std.proofs.Common.{◌≡◌, ◌<◌, ℕ, suc, ◌&&◌, ◌||◌, ◌==◌, length, Bool, true, false, Option, None, Some, Ok, refl, sym, ◌∙◌, ap, subst, arith}
 use Rattle.std.specs.Prelude.{is_none, is_some}
-use Rattle.kv_model.specs.declared.ids.Ids.{Ids}
 use Rattle.kv_model.specs.declared.refusal.Refusal.{Refusal}
 use Rattle.kv_model.specs.declared.call.Txn.{Txn}
 use Rattle.kv_model.specs.Calls.{Call, Ops, as_call, txn_view}
-use Rattle.kv_model.specs.Follows as follows
 use Rattle.kv_model.specs.Step.{perform, refused_or, compact_in, compact_refusal, at_least_zero, answer_of as answer_of_made}
 use Rattle.kv_model.specs.Told.{Answer, Reply, Trimmed}
-use Rattle.kv_model.specs.Wire as model
-use Rattle.kv_model.specs.Wire.{changes_beside, is_physical_call}
+use Rattle.kv_model.specs.Kept.{IsDone, IsTrimmed, Keeping, Trims}
+use Rattle.kv_model.specs.Questions.{IsLeast}
+use Rattle.kv_model.specs.Wire.{WireTold, changes_beside, is_physical_call}
 use Rattle.kv_model.specs.Answers.{Response}
 use Rattle.kv_model.specs.World.{World, revision}
 use Rattle.store_laws.specs.Stands.{StandsFor}
@@ -25,12 +24,23 @@ use Rattle.json_gateway.specs.declared.outcome.Settled.{Settled}
 use Rattle.json_gateway.specs.declared.outcome.Settled.TheVariants as settled
 use Rattle.json_gateway.specs.Endings.{Settles, is_done, is_physical}
 use Rattle.json_gateway.specs.Outcomes.{is_accepted}
-use Rattle.json_gateway.specs.Steps.{Steps}
 
--- a step changes no world
-pub trim_steps : (ids : Ids) (w : World) (t : Trim) (new : CoreState) → StandsFor new.store w
-    → Steps ids w model.WireEvent.trim (follows.Outcome.said (trim_told (told_of t) None)) new
-trim_steps ids w t new h = record { answers = tt; stands = h }
+-- where a step is done, a least list is kept, and nothing is left to visit
+pub done_trimmed : (old new : CoreState) (t : Trim) → TrimsOnce old new t → is_done (told_of t) ≡ true → (w : World) → StandsFor old.store w
+    → StandsFor new.store w × IsTrimmed w (keeping_of new)
+done_trimmed old new t once e w h = ((once.trims w h).stands, by (told_of t) e once.visit (once.trims w h).may)
+  where
+    by : (told : Trimmed) → is_done told ≡ true → IsVisit told (keeping_of old).ahead (keeping_of new).ahead
+        → Trims w (keeping_of old) (keeping_of old).ahead (trim_told told None) (keeping_of new) → IsTrimmed w (keeping_of new)
+    by (Trimmed.removed q) f v m = cc
+    by (Trimmed.kept q) f v m = cc
+    by (Trimmed.done n) f v m =
+        let done : IsDone w (keeping_of old) n None × (keeping_of new ≡ keeping_of old)
+        = subst (λ us. Trims w (keeping_of old) us (WireTold.done n None) (keeping_of new)) v.0 m in
+        record {
+          least = subst (λ (k : Keeping). IsLeast k.kept w.mutations w.compacted) (sym done.1) done.0.least;
+          visited = v.1;
+        }
 
 -- a step that is not done leaves fewer versions to visit
 pub fewer_left : (old new : CoreState) (t : Trim) → TrimsOnce old new t → is_done (told_of t) ≡ false

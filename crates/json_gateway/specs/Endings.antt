@@ -8,11 +8,12 @@ use Rattle.kv_model.specs.Told.{Trimmed}
 use Rattle.kv_model.specs.World.{World, revision}
 use Rattle.kv_model.specs.Step.{Made, made_in}
 use Rattle.kv_model.specs.Wire.{Loss, raised, number_made, changes_beside}
+use Rattle.kv_model.specs.Kept.{kept_after}
 use Rattle.store_laws.specs.Stands.{StandsFor}
 use Rattle.gateway_read.specs.declared.bad.Bad.{Bad}
 use Rattle.gateway_read.specs.declared.bad.Bad.TheVariants.{NotJson, BadField, BadBase64, NoPath, TooLong, Memory}
 use Rattle.gateway_read.specs.Fields.{snake_of}
-use Rattle.request_core.specs.State.{CoreState}
+use Rattle.request_core.specs.State.{CoreState, keeping_of}
 use Rattle.json_gateway.specs.declared.outcome.Settled.{Settled}
 use Rattle.json_gateway.specs.declared.outcome.Settled.TheVariants as settled
 use Rattle.json_gateway.specs.declared.outcome.Outcome.{Outcome}
@@ -81,3 +82,10 @@ EndsAs (settled.Lost revision) up watch old new w told after MayBeLost =
 
 abbrev pub Ends : Outcome → CoreState → CoreState → World → Response → World → (Loss → Type 0) → Type 0
 Ends o = EndsAs o.settled o.raised o.watch
+
+-- What is kept after it is what was kept and what the world has besides, and an accepted Compact has trimming begin
+-- again. Without memory nothing has changed.
+abbrev pub KeepsAs : Settled → CoreState → CoreState → World → World → Type 0
+KeepsAs (settled.Reply r) old new w after = keeping_of new ≡ kept_after w after (keeping_of old)
+KeepsAs settled.Memory old new w after = new ≡ old
+KeepsAs (settled.Lost revision) old new w after = keeping_of new ≡ kept_after w after (keeping_of old)

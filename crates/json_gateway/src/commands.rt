@@ -11,7 +11,7 @@ ghost use Rattle.kv_model.specs.World.{World};
 ghost use Rattle.gateway_text.specs.Views.{wording_view};
 ghost use Rattle.request_core.specs.Answers.{IsReadable, answer_of, answer_view, has_changed};
 ghost use Rattle.request_core.specs.Answers.{is_memory, time_left_view};
-ghost use Rattle.json_gateway.specs.Endings.{Ends, IsCounted, Refuses, Settles};
+ghost use Rattle.json_gateway.specs.Endings.{Ends, IsCounted, KeepsAs, Refuses, Settles};
 ghost use Rattle.json_gateway.specs.Endings.{fault_of_reading, is_change, is_change_by, is_physical, is_want};
 ghost use Rattle.json_gateway.specs.Outcomes.{IsBare, is_accepted};
 
@@ -47,6 +47,8 @@ pub fn perform(alloc: Global, core: &mut Core, command: &Command, ids: &Ids) -> 
     ensures counted { (w : World) → StandsFor core.old.store w → is_accepted result.settled ≡ true
         → IsCounted (is_change w (call_of command.now) (made_in w (call_of command.now)))
         core.old core.new }
+    ensures keeps { (w : World) → StandsFor core.old.store w → KeepsAs result.settled
+        core.old core.new w (perform_in w (call_of command.now)).1 }
     ensures ready { is_accepted result.settled ≡ false → result.waits ≡ false }
     ensures waits { (w : World) → StandsFor core.old.store w → is_accepted result.settled ≡ true
         → result.waits ≡ is_physical_call w (Ok (call_of command.now)) }
@@ -77,6 +79,8 @@ pub fn post(alloc: Global, core: &mut Core, path: &[u8], body: &[u8], ids: &Ids)
     ensures bare { IsBare result }
     ensures counted { (w : World) → StandsFor core.old.store w → is_accepted result.settled ≡ true
         → IsCounted (is_change_by w (request_of path.now body.now)) core.old core.new }
+    ensures keeps { (w : World) → StandsFor core.old.store w → KeepsAs result.settled
+        core.old core.new w (reply_to ids.now w path.now body.now).1 }
     ensures ready { is_accepted result.settled ≡ false → result.waits ≡ false }
     ensures waits { (w : World) → StandsFor core.old.store w → is_accepted result.settled ≡ true
         → result.waits ≡ is_physical_call w (request_of path.now body.now) }

@@ -4,7 +4,8 @@ ghost use Rattle.std.specs.Prelude.{◌≡◌, map, IfOk, if◌then◌else◌};
 ghost use Rattle.kv_model.specs.declared.ids.Ids.{Ids};
 ghost use Rattle.request_core.specs.Answers.{is_memory};
 ghost use Rattle.store_laws.specs.Stands.{StandsFor};
-ghost use Rattle.kv_model.specs.Wire.{Follows, close as model_close, deliver as model_deliver};
+ghost use Rattle.kv_model.specs.Headline.{IsRun};
+ghost use Rattle.kv_model.specs.Wire.{close as model_close, deliver as model_deliver};
 ghost use Rattle.kv_model.specs.Wire.{expire as model_expire, post as model_post};
 ghost use Rattle.kv_model.specs.Wire.{trim as model_trim};
 ghost use Rattle.json_gateway.specs.Endings.{is_done};
@@ -71,10 +72,13 @@ pub struct WireRun {
 }
 
 ghost use Rattle.json_gateway.specs.Runs.{IsBareIn, event_view, outcome_view};
-ghost use Rattle.json_gateway.specs.Steps.{Steps};
+ghost use Rattle.json_gateway.specs.Steps.{Steps, TrimsAll, TrimsWhere};
 
 /// Runs events on a fresh store. **Each outcome's bytes are those of the model of the whole
-/// history**, whatever the events are: `Follows` of the model says so.
+/// history, while the history is trimmed to the fewest versions that still give them**, whatever
+/// the events are: `IsRun` of the model says so. Before and after each event what is kept answers
+/// every question from the compaction on as the whole history does. A trimming step takes out a
+/// version only where no least list has it, and where it is done, the one least list is kept.
 ///
 /// An event that found no memory counts as not made, and an answer may be lost only where its
 /// change stands; a moment, a trimming step and the close of a watch find their memory always.
@@ -82,8 +86,8 @@ ghost use Rattle.json_gateway.specs.Steps.{Steps};
 /// an answer, and a refusal, tell neither a revision nor a watch. `AllocError` comes before the
 /// first event, where there is no room for the outcomes.
 pub fn run_wire(alloc: Global, events: &[WireEvent<'_>], ids: &Ids) -> Result<WireRun, AllocError>
-    ensures follows { IfOk result (λ run.
-        Follows ids.now (map event_view events.now) (map outcome_view run.outcomes.items)) }
+    ensures run { IfOk result (λ run.
+        IsRun ids.now (map event_view events.now) (map outcome_view run.outcomes.items)) }
     ensures bare { IfOk result (λ run. AllByRecursion IsBareIn run.outcomes.items) }
 {
     let mut outcomes = Vec::with_capacity(alloc, events.len())?;
@@ -99,7 +103,7 @@ pub fn run_wire(alloc: Global, events: &[WireEvent<'_>], ids: &Ids) -> Result<Wi
 fn step(alloc: Global, core: &mut Core, event: &WireEvent<'_>, ids: &Ids) -> WireOutcome
     ensures bare { IsBareIn result }
     ensures steps { (w : World) → StandsFor core.old.store w
-        → Steps ids.now w (event_view event.now) (outcome_view result) core.new }
+        → Steps ids.now w (event_view event.now) (outcome_view result) core.old core.new }
 {
     match event {
         WireEvent::Moment(now) => WireOutcome::Clock(core.moment(*now)),
@@ -115,7 +119,7 @@ fn step(alloc: Global, core: &mut Core, event: &WireEvent<'_>, ids: &Ids) -> Wir
 fn step_post(alloc: Global, core: &mut Core, path: &[u8], body: &[u8], ids: &Ids) -> WireOutcome
     ensures bare { IsBareIn result }
     ensures steps { (w : World) → StandsFor core.old.store w
-        → Steps ids.now w (model_post path.now body.now) (outcome_view result) core.new }
+        → Steps ids.now w (model_post path.now body.now) (outcome_view result) core.old core.new }
 {
     let outcome = post(alloc, core, path, body, ids);
     trim_where(core, outcome.waits);
@@ -124,16 +128,16 @@ fn step_post(alloc: Global, core: &mut Core, path: &[u8], body: &[u8], ids: &Ids
 
 /// Makes trimming steps until one is done, where an answer waits for it.
 fn trim_where(core: &mut Core, waits: bool)
-    ensures { (w : World) → StandsFor core.old.store w → StandsFor core.new.store w }
+    ensures { TrimsWhere waits core.old core.new }
 {
     if waits {
         trim_all(core);
     }
 }
 
-/// Makes trimming steps until one is done.
+/// Makes trimming steps until one is done: the one least list is left.
 fn trim_all(core: &mut Core)
-    ensures { (w : World) → StandsFor core.old.store w → StandsFor core.new.store w }
+    ensures { TrimsAll core.old core.new }
 {
     loop {
         if is_done(core.trim_step()) {
@@ -156,7 +160,7 @@ fn is_done(trim: Trim) -> bool
 fn step_expire(core: &mut Core) -> WireOutcome
     ensures bare { IsBareIn result }
     ensures steps { (ids : Ids) (w : World) → StandsFor core.old.store w
-        → Steps ids w model_expire (outcome_view result) core.new }
+        → Steps ids w model_expire (outcome_view result) core.old core.new }
 {
     match core.expire() {
         Ok(expiry) => WireOutcome::Expiry(Ok(expiry)),
@@ -168,7 +172,7 @@ fn step_expire(core: &mut Core) -> WireOutcome
 fn step_deliver(alloc: Global, core: &mut Core, number: u64, ids: &Ids) -> WireOutcome
     ensures bare { IsBareIn result }
     ensures steps { (w : World) → StandsFor core.old.store w
-        → Steps ids.now w (model_deliver number) (outcome_view result) core.new }
+        → Steps ids.now w (model_deliver number) (outcome_view result) core.old core.new }
 {
     WireOutcome::Delivered(message(alloc, core, number, ids))
 }
@@ -177,7 +181,7 @@ fn step_deliver(alloc: Global, core: &mut Core, number: u64, ids: &Ids) -> WireO
 fn step_close(core: &mut Core, number: u64) -> WireOutcome
     ensures bare { IsBareIn result }
     ensures steps { (ids : Ids) (w : World) → StandsFor core.old.store w
-        → Steps ids w (model_close number) (outcome_view result) core.new }
+        → Steps ids w (model_close number) (outcome_view result) core.old core.new }
 {
     WireOutcome::Closed(core.cancel(number).is_ok())
 }
@@ -186,7 +190,7 @@ fn step_close(core: &mut Core, number: u64) -> WireOutcome
 fn step_trim(core: &mut Core) -> WireOutcome
     ensures bare { IsBareIn result }
     ensures steps { (ids : Ids) (w : World) → StandsFor core.old.store w
-        → Steps ids w model_trim (outcome_view result) core.new }
+        → Steps ids w model_trim (outcome_view result) core.old core.new }
 {
     WireOutcome::Trimmed(core.trim_step())
 }

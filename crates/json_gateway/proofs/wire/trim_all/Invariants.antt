@@ -1,4 +1,4 @@
-use Rattle.std.proofs.Common.{◌≡◌, ℕ, length}
+use Rattle.std.proofs.Common.{length}
 use Rattle.kv_model.specs.World.{World}
 use Rattle.store_laws.specs.Stands.{StandsFor}
 use Rattle.request_core.specs.State.{keeping_of}
