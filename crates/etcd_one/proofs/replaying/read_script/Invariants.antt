@@ -1,4 +1,4 @@
-use Rattle.std.proofs.Common.{◌≡◌, ◌≤◌, ◌-◌, max}
+use Rattle.std.proofs.Common.{◌≤◌, ◌-◌, max}
 use Rattle.std.specs.Io.KnownBytes.{Consumes}
 use Rattle.etcd_one.specs.Script.{most_reads}
 use Rattle.etcd_one.proofs.replaying.read_script.Given as goal
