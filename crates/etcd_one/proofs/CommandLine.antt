@@ -1,5 +1,5 @@
--- What clap makes of a command whose one subcommand is `replay`, which is required.
-use Rattle.std.proofs.Common.{◌≡◌, List, [], ◌∷◌, length, map, get_or, Bool, true, false, not, ◌&&◌, Option, None, Some, cond, subst, codes, refl, sym, ap, ◌∙◌, arith, is_some, true≢false}
+-- What clap makes of a command that requires one of its subcommands.
+use Rattle.std.proofs.Common.{◌≡◌, List, [], ◌∷◌, length, map, get_or, Bool, true, false, not, ◌&&◌, Option, None, Some, option_map, cond, subst, codes, refl, sym, ap, ◌∙◌, arith, is_some, true≢false}
 use Rattle.std.specs.List.{list_any}
 use Rattle.std.specs.Str.{bytes_eq}
 use Rattle.std.proofs.lemmas.Slice.Eq.{bytes_eq-Decides}
@@ -11,11 +11,32 @@ use Rattle.clap.specs.Facts.{explicit_source}
 use Rattle.clap.specs.Takes.{is_given, takes}
 use Rattle.clap.specs.Walk.{Held, Names, Outcome, Row, Rule, Step, Text, Walk, after_flag, after_step, arg_by_index, bundle, done, finished, idle, long_met, arg_by_long, long_or_other, nothing_held, plain, refused, settled, short_or_plain, subcommand_met, to_positional, trailing, next, subcommand, subcommand_or_other, value, waits, walk, walk_from, walked}
 use Rattle.clap.proofs.OnLiterals.{clap_on_literals}
-use Rattle.etcd_one.specs.Arguments.{IsReplay, program}
+use Rattle.std.specs.Prelude.{Box, MatchOption}
+use Rattle.std.specs.Box.{box_value}
+use Rattle.clap.specs.Matches.{subcommand_name_of}
+use Rattle.clap.specs.Simple.{HasMatchesOf, is_simple, subcommand_of, subcommand_rows}
+use Rattle.clap.specs.declared.parser.matches.ArgMatches.{ArgMatches}
+use Rattle.clap.specs.declared.parser.matches.ArgMatches.TheViews.{out-SubCommand}
+use Rattle.clap.specs.declared.parser.matches.SubCommand.{SubCommand}
+use Rattle.etcd_one.specs.declared.command_line.Args.{Args}
+use Rattle.etcd_one.specs.declared.command_line.Args.TheVariants as args
+use Rattle.etcd_one.specs.Arguments.{IsCommand, program, word_of}
 
-pub is_taken : (words : List Text) → IsReplay words → takes program words ≡ true
+pub is_taken : (words : List Text) (command : Args) → IsCommand words command → takes program words ≡ true
 unfolding clap_on_literals program
-is_taken words r = rw r.1 refl
+is_taken words args.Replay r = rw r.1 refl
+is_taken words args.Check r = rw r.1 refl
+
+is_simple_program : is_simple program ≡ true
+unfolding clap_on_literals program
+is_simple_program = refl
+
+-- it is then the command of that word that clap enters
+pub is_entered : (words : List Text) (command : Args) → IsCommand words command
+    → option_map (λ p. p.0) (subcommand_of program words) ≡ Some (word_of command)
+unfolding clap_on_literals program
+is_entered words args.Replay r = rw r.1 refl
+is_entered words args.Check r = rw r.1 refl
 
 pub is_plain : is_simple_and_free program ≡ true
 unfolding clap_on_literals program
@@ -101,9 +122,9 @@ built_fails : (a : App) (words : List Text) → a.top.subcommand_required ≡ tr
 built_fails a words e stop none = level_fails a.top (names_of a) words (entered_fault a None) e
     (subst (λ s. level_fault a.top (names_of a) nothing_held words (is_some (entered a s)) (entered_fault a s) ≡ []) stop none)
 
--- ---- the one command
+-- ---- the commands
 
-names_are : names_of (built program) ≡ (codes "replay", []) ∷ (codes "help", []) ∷ []
+names_are : names_of (built program) ≡ (codes "replay", []) ∷ (codes "check", []) ∷ (codes "help", []) ∷ []
 unfolding program
 names_are = refl
 
@@ -115,36 +136,96 @@ words_are : (name w : Text) → argument_words program (name ∷ w ∷ []) ≡ w
 unfolding program
 words_are name w = refl
 
-meets_none : (x y w : Text) → bytes_eq x w ≡ false → bytes_eq y w ≡ false → subcommand_met ((x, []) ∷ (y, []) ∷ []) idle w ≡ None
-meets_none x y w a b = rw (a, b) refl
+meets_none : (x y z w : Text) → bytes_eq x w ≡ false → bytes_eq y w ≡ false → bytes_eq z w ≡ false
+    → subcommand_met ((x, []) ∷ (y, []) ∷ (z, []) ∷ []) idle w ≡ None
+meets_none x y z w a b c = rw (a, b, c) refl
 
 help_fails : (name : Text) → fault_of program (name ∷ codes "help" ∷ []) ≡ [] → ⊥
 unfolding clap_on_literals program
 help_fails name e = true≢false (ap is_some_kind e)
 
-other_fails : (name w : Text) → bytes_eq (codes "replay") w ≡ false → bytes_eq (codes "help") w ≡ false → fault_of program (name ∷ w ∷ []) ≡ [] → ⊥
-other_fails name w r h none = built_fails (built program) (w ∷ []) requires_one
+other_fails : (name w : Text) → bytes_eq (codes "replay") w ≡ false → bytes_eq (codes "check") w ≡ false → bytes_eq (codes "help") w ≡ false
+    → fault_of program (name ∷ w ∷ []) ≡ [] → ⊥
+other_fails name w r c h none = built_fails (built program) (w ∷ []) requires_one
     (enters_none (built program).top.rules (names_of (built program)) w
-    (ap (λ (ns : Names). subcommand_met ns idle w) names_are ∙ meets_none (codes "replay") (codes "help") w r h))
+    (ap (λ (ns : Names). subcommand_met ns idle w) names_are ∙ meets_none (codes "replay") (codes "check") (codes "help") w r c h))
     (sym (ap (built_fault (built program) nothing_held) (words_are name w)) ∙ none)
 
-one_word : (name w : Text) (is_replay is_help : Bool) → bytes_eq (codes "replay") w ≡ is_replay → bytes_eq (codes "help") w ≡ is_help
-    → fault_of program (name ∷ w ∷ []) ≡ [] → codes "replay" ≡ w
-one_word name w true is_help r h none = (bytes_eq-Decides (codes "replay") w).0 r
-one_word name w false true r h none =
+-- the word of some command
+abbrev IsWord : Text → Type 0
+IsWord w = (command : Args) × (word_of command ≡ w)
+
+one_word : (name w : Text) (is_replay is_check is_help : Bool) → bytes_eq (codes "replay") w ≡ is_replay → bytes_eq (codes "check") w ≡ is_check
+    → bytes_eq (codes "help") w ≡ is_help → fault_of program (name ∷ w ∷ []) ≡ [] → IsWord w
+one_word name w true is_check is_help r c h none = (args.Replay, (bytes_eq-Decides (codes "replay") w).0 r)
+one_word name w false true is_help r c h none = (args.Check, (bytes_eq-Decides (codes "check") w).0 c)
+one_word name w false false true r c h none =
     let is_help : codes "help" ≡ w = (bytes_eq-Decides (codes "help") w).0 h in
     absurd (help_fails name (subst (λ t. fault_of program (name ∷ t ∷ []) ≡ []) (sym is_help) none))
-one_word name w false false r h none = absurd (other_fails name w r h none)
+one_word name w false false false r c h none = absurd (other_fails name w r c h none)
 
-pub is_replay : (words : List Text) → length words ≡ 2 → fault_of program words ≡ [] → IsReplay words
-is_replay [] two none = absurd (omega (arith, two))
-is_replay (name ∷ []) two none = absurd (omega (arith, two))
-is_replay (name ∷ w ∷ []) two none = (name, ap (λ t. name ∷ t ∷ []) (sym (one_word name w _ _ refl refl none)))
-is_replay (name ∷ w ∷ x ∷ more) two none = absurd (omega (arith, two))
+-- two words that clap takes are those of a command
+pub is_command : (words : List Text) → length words ≡ 2 → fault_of program words ≡ [] → (command : Args) × IsCommand words command
+is_command [] two none = absurd (omega (arith, two))
+is_command (name ∷ []) two none = absurd (omega (arith, two))
+is_command (name ∷ w ∷ []) two none =
+    let (command, is) = one_word name w _ _ _ refl refl refl none in
+    (command, (name, ap (λ t. name ∷ t ∷ []) (sym is)))
+is_command (name ∷ w ∷ x ∷ more) two none = absurd (omega (arith, two))
 
--- two words, of which the second is `replay`
-pub are_replay : {A : Type 0} (text : A → Text) (words : List A) (other : A) → length words ≡ 2 → text (get_or words 1 other) ≡ codes "replay" → IsReplay (map text words)
-are_replay text [] other two same = absurd (omega (arith, two))
-are_replay text (x ∷ []) other two same = absurd (omega (arith, two))
-are_replay text (x ∷ y ∷ []) other two same = (text x, ap (λ t. text x ∷ t ∷ []) same)
-are_replay text (x ∷ y ∷ z ∷ more) other two same = absurd (omega (arith, two))
+-- ---- words that are read
+
+-- a word that some command has
+pub some_named : (r : Option Args) (P : Type 0) (w : Text) → MatchOption r P (λ command. w ≡ word_of command) → is_some r ≡ true
+    → (command : Args) × (w ≡ word_of command)
+some_named None P w is e = cc
+some_named (Some command) P w is e = (command, is)
+
+-- no other command has it
+pub one_command : (a b : Args) → word_of a ≡ word_of b → a ≡ b
+one_command args.Replay args.Replay e = refl
+one_command args.Replay args.Check e = absurd (let bad : 114 ≡ 99 = ap (λ w. get_or w 0 0) e in omega (arith, bad))
+one_command args.Check args.Replay e = absurd (let bad : 99 ≡ 114 = ap (λ w. get_or w 0 0) e in omega (arith, bad))
+one_command args.Check args.Check e = refl
+
+-- the word of a command is read as that
+pub is_named : (r : Option Args) (w : Text) (command : Args) → MatchOption r ((a : Args) → w ≡ word_of a → ⊥) (λ a. w ≡ word_of a)
+    → w ≡ word_of command → r ≡ Some command
+is_named None w command is e = absurd (is command e)
+is_named (Some a) w command is e = ap (λ b. Some b) (one_command a command (sym is ∙ e))
+
+name_of_rows : {Z : Type 0} (o : Option (Box SubCommand Z)) → option_map (λ p. p.0) (subcommand_rows o)
+    ≡ option_map (λ b. (out-SubCommand (box_value b)).name.now) o
+name_of_rows None = refl
+name_of_rows (Some b) = refl
+
+-- the words of a command have clap name it
+pub is_met : (words : List Text) (command : Args) (m : ArgMatches) → IsCommand words command → HasMatchesOf program words m
+    → subcommand_name_of m ≡ Some (word_of command)
+is_met words command m is has = sym (name_of_rows _) ∙ ap (option_map (λ p. p.0)) (has is_simple_program).1 ∙ is_entered words command is
+
+-- two words, of which the second is that of a command
+pub are_command : {A : Type 0} (text : A → Text) (words : List A) (other : A) (command : Args) → length words ≡ 2
+    → text (get_or words 1 other) ≡ word_of command → IsCommand (map text words) command
+are_command text [] other command two same = absurd (omega (arith, two))
+are_command text (x ∷ []) other command two same = absurd (omega (arith, two))
+are_command text (x ∷ y ∷ []) other command two same = (text x, ap (λ t. text x ∷ t ∷ []) same)
+are_command text (x ∷ y ∷ z ∷ more) other command two same = absurd (omega (arith, two))
+
+-- and of the words of a command the second is its word
+pub second_word : {A : Type 0} (text : A → Text) (words : List A) (other : A) (command : Args) → IsCommand (map text words) command
+    → text (get_or words 1 other) ≡ word_of command
+second_word text [] other command is = absurd (let bad : 0 ≡ 2 = ap length is.1 in omega (arith, bad))
+second_word text (x ∷ []) other command is = absurd (let bad : 1 ≡ 2 = ap length is.1 in omega (arith, bad))
+second_word text (x ∷ y ∷ ys) other command is = ap (λ ws. get_or ws 1 (text y)) is.1
+
+-- ---- what clap answers
+
+-- two words that clap takes are a command's, and it names that
+pub is_answered : (words : List Text) (a : App) (m : ArgMatches) → a ≡ program → length words ≡ 2 → HasMatchesOf a words m
+    → (is_simple_and_free a ≡ true → fault_of a words ≡ [])
+    → (command : Args) × IsCommand words command × (subcommand_name_of m ≡ Some (word_of command))
+is_answered words a m same two has free =
+    let none : fault_of program words ≡ [] = sym (ap (λ (x : App). fault_of x words) same) ∙ free (ap is_simple_and_free same ∙ is_plain) in
+    let (command, is) = is_command words two none in
+    (command, is, is_met words command m is (subst (λ (x : App). HasMatchesOf x words m) same has))

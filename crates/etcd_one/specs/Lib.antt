@@ -4,3 +4,5 @@ pub mod Script
 pub mod Replies
 pub mod Lines
 pub mod Writes
+pub mod Said
+pub mod Judging

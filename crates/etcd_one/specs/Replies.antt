@@ -1,5 +1,6 @@
 -- What is written for a script.
-use Rattle.std.specs.Prelude.{◌≡◌, ℕ, List, [], ◌∷◌, ◌++◌, true, false, Option, None, Some, codes, decimal}
+use Rattle.std.specs.Prelude.{◌≡◌, ℕ, List, [], ◌∷◌, ◌++◌, Bool, true, false, Option, None, Some}
+use Rattle.std.specs.Prelude.{is_some, codes, decimal}
 use Rattle.std.specs.Fmt.{signed_decimal}
 use Rattle.kv_model.specs.declared.ids.Ids.{Ids}
 use Rattle.kv_model.specs.declared.version.Rev.{Rev}
@@ -9,6 +10,7 @@ use Rattle.kv_model.specs.Follows as follows
 use Rattle.kv_model.specs.Told.{Expiry}
 use Rattle.kv_model.specs.Wire.{WireEvent, WireTold, WireOutcome}
 use Rattle.kv_model.specs.Headline.{IsRun}
+use Rattle.certificate_text.specs.Texts.{text_of}
 use Rattle.etcd_one.specs.Script.{line_events}
 
 -- ---- one line
@@ -30,6 +32,11 @@ expiry_line Expiry.spent = codes "revisions are spent\n"
 abbrev pub rev_text : Rev → List ℕ
 rev_text p = decimal p.main ++ 46 ∷ [] ++ decimal p.sub
 
+-- how many versions are kept, and whether there is a certificate of them
+abbrev pub done_line : ℕ → Bool → List ℕ
+done_line n true = codes "done " ++ decimal n ++ 10 ∷ []
+done_line n false = codes "done " ++ decimal n ++ codes " unchecked\n"
+
 abbrev pub told_line : WireTold → List ℕ
 told_line (WireTold.reply r up watch) = response_line r
 told_line (WireTold.clock clock) = clock_line clock
@@ -41,8 +48,9 @@ told_line (WireTold.closed true) = codes "closed\n"
 told_line (WireTold.closed false) = codes "no watch\n"
 told_line (WireTold.removed p) = codes "removed " ++ rev_text p ++ 10 ∷ []
 told_line (WireTold.kept p) = codes "kept " ++ rev_text p ++ 10 ∷ []
-told_line (WireTold.done n certificate) = codes "done " ++ decimal n ++ 10 ∷ []
-told_line _ = []
+told_line (WireTold.done n certificate) = done_line n (is_some certificate)
+told_line (WireTold.certified d claims) = text_of d claims
+told_line WireTold.untold = []
 
 -- what is written where an event found no memory
 abbrev pub memory_line : WireEvent → List ℕ

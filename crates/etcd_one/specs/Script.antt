@@ -38,7 +38,8 @@ number_of text = option_and_then if_unsigned_64 (digits_value text)
 -- what a line of one word asks for
 abbrev pub event_alone : List ℕ → Option WireEvent
 event_alone word = if pointwise nat_eq word (codes "EXPIRE") then Some WireEvent.expire
-    else (if pointwise nat_eq word (codes "TRIM") then Some WireEvent.trim else None)
+    else (if pointwise nat_eq word (codes "TRIM") then Some WireEvent.trim
+    else (if pointwise nat_eq word (codes "CERTIFY") then Some WireEvent.certify else None))
 
 -- what a word asks for, with the number after it
 abbrev pub event_numbered : List ℕ → ℕ → Option WireEvent

@@ -1,7 +1,8 @@
 //! The program's arguments.
-ghost use Rattle.std.specs.Prelude.{◌≡◌, IsOk, IfOk, IfErr, map, string_bytes};
+ghost use Rattle.std.specs.Prelude.{◌≡◌, IfOk, IfErr, MatchOption, Ok, Some};
+ghost use Rattle.std.specs.Prelude.{map, option_map, string_bytes};
 ghost use Rattle.clap.specs.Words.{app_of, kind_of};
-ghost use Rattle.etcd_one.specs.Arguments.{IsReplay, program};
+ghost use Rattle.etcd_one.specs.Arguments.{IsCommand, IsNoCommand, program, word_of};
 
 use crate::fault::Fault;
 use clap::error::ErrorKind;
@@ -13,19 +14,21 @@ use std::alloc::{AllocError, Global};
 pub enum Args {
     /// `replay`: answer the script on standard input.
     Replay,
+    /// `check`: judge the certificate on standard input.
+    Check,
 }
 
-/// Reads the words of a command line, the program's name first. The one command is `replay`, with
-/// nothing after it.
+/// Reads the words of a command line, the program's name first. The commands are `replay` and
+/// `check`, with nothing after them.
 ///
 /// Fails with `Fault::Arguments` for any other words, whether or not there is memory, and with
 /// `Fault::Memory` where these are the words and memory is wanting.
 pub fn arguments(alloc: Global, words: &[String]) -> Result<Args, Fault>
-    ensures ok { IsOk result → IsReplay (map string_bytes words.now) }
-    ensures replay { IfErr result (λ fault.
-        IsReplay (map string_bytes words.now) → fault ≡ Fault.Memory) }
+    ensures ok { IfOk result (IsCommand (map string_bytes words.now)) }
+    ensures memory { IfErr result (λ fault. (command : Args)
+        → IsCommand (map string_bytes words.now) command → fault ≡ Fault.Memory) }
     ensures other { IfErr result (λ fault.
-        (IsReplay (map string_bytes words.now) → ⊥) → fault ≡ Fault.Arguments) }
+        IsNoCommand (map string_bytes words.now) → fault ≡ Fault.Arguments) }
 {
     // clap would pass over a last `--`.
     if words.len() != 2 {
@@ -35,38 +38,66 @@ pub fn arguments(alloc: Global, words: &[String]) -> Result<Args, Fault>
         return Err(without_memory(words));
     };
     match command.try_get_matches_from(words) {
-        Ok(_) => Ok(Args::Replay),
+        Ok(matches) => asked(matches.subcommand_name()),
         Err(error) => Err(fault_of(&error, words)),
     }
 }
 
-/// Which fault it is that clap found no memory to read the words: other words than `replay` are bad
-/// with memory too.
+/// The command that clap read, which is one of the program's.
+fn asked(name: Option<&str>) -> Result<Args, Fault>
+    ensures { (command : Args) → option_map (λ word. word.now) name.entry ≡ Some (word_of command)
+        → result ≡ Ok command }
+{
+    match name {
+        Some(word) => named(word).ok_or(Fault::Arguments),
+        None => Err(Fault::Arguments),
+    }
+}
+
+/// The command of a word.
+fn named(word: &str) -> Option<Args>
+    ensures { MatchOption result ((command : Args) → word.now ≡ word_of command → ⊥)
+        (λ command. word.now ≡ word_of command) }
+{
+    if word == "replay" {
+        Some(Args::Replay)
+    } else if word == "check" {
+        Some(Args::Check)
+    } else {
+        None
+    }
+}
+
+/// Which fault it is that clap found no memory to read the words: those of no command are bad with
+/// memory too.
 fn without_memory(words: &[String]) -> Fault
-    ensures replay { IsReplay (map string_bytes words.now) → result ≡ Fault.Memory }
-    ensures other { (IsReplay (map string_bytes words.now) → ⊥) → result ≡ Fault.Arguments }
+    ensures memory { (command : Args) → IsCommand (map string_bytes words.now) command
+        → result ≡ Fault.Memory }
+    ensures other { IsNoCommand (map string_bytes words.now) → result ≡ Fault.Arguments }
 {
     match words {
-        [_, word] if word.as_str() == "replay" => Fault::Memory,
+        [_, word] if named(word.as_str()).is_some() => Fault::Memory,
         _ => Fault::Arguments,
     }
 }
 
-/// The program's one command.
+/// The program's commands.
 fn program<'a>(alloc: Global) -> Result<Command<'a>, AllocError>
     ensures { IfOk result (λ command. app_of command ≡ program) }
 {
     let replay = Command::new(alloc, "replay");
+    let check = Command::new(alloc, "check");
     Command::new(alloc, "etcd_one")
         .subcommand_required(true)
-        .subcommand(replay)
+        .subcommand(replay)?
+        .subcommand(check)
 }
 
 /// Which fault it is that clap took the words for an error.
 fn fault_of(error: &Error, words: &[String]) -> Fault
-    ensures replay { kind_of error.now ≡ ErrorKind.OutOfMemory
-        → IsReplay (map string_bytes words.now) → result ≡ Fault.Memory }
-    ensures other { (IsReplay (map string_bytes words.now) → ⊥) → result ≡ Fault.Arguments }
+    ensures memory { kind_of error.now ≡ ErrorKind.OutOfMemory → (command : Args)
+        → IsCommand (map string_bytes words.now) command → result ≡ Fault.Memory }
+    ensures other { IsNoCommand (map string_bytes words.now) → result ≡ Fault.Arguments }
 {
     match error.kind() {
         ErrorKind::OutOfMemory => without_memory(words),

@@ -10,16 +10,16 @@ use thiserror::Error;
 #[derive(Debug, Drop, Error)]
 pub enum Fault {
     /// The words after the program's name are no command.
-    #[error("etcd_one: bad arguments; usage: etcd_one replay < script")]
+    #[error("etcd_one: bad arguments; usage: etcd_one replay < script, or etcd_one check < certificate")]
     Arguments,
-    /// The script could not be read to its end.
-    #[error("etcd_one: the script could not be read: {0}")]
+    /// The input, a script or a certificate, could not be read to its end.
+    #[error("etcd_one: the input could not be read: {0}")]
     Read(io::Error),
-    /// The script did not end within 2^30 reads.
-    #[error("etcd_one: the script has no end")]
+    /// The input did not end within 2^30 reads.
+    #[error("etcd_one: the input has no end")]
     Endless,
-    /// The replies could not be written.
-    #[error("etcd_one: the replies could not be written: {0}")]
+    /// The replies, or the verdict, could not be written.
+    #[error("etcd_one: the output could not be written: {0}")]
     Write(io::Error),
     /// A growth outside a request found no memory.
     #[error("etcd_one: out of memory")]

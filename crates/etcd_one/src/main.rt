@@ -1,14 +1,19 @@
-//! `etcd_one`: a single-member, in-memory etcd, driven by a script.
+//! `etcd_one`: a single-member, in-memory etcd, driven by a script, and the check of its
+//! certificates.
 //!
 //! `etcd_one replay` reads a script on standard input and writes one reply for each line to
-//! standard output. It ends with status 0 after the last reply. Bad arguments, a failed read or
-//! write, and want of memory outside a request end it with status 2, one line on standard error,
+//! standard output. It ends with status 0 after the last reply. `etcd_one check` reads the text of
+//! a certificate, as the script's line `CERTIFY` shows it, and writes one line: `least` and the
+//! number of versions (status 0), `refused:` and the first fault (1), or `unreadable: line` and
+//! the number of the first line that is not of its form (2). Bad arguments, a failed read or
+//! write, and want of memory outside a request end both with status 2, one line on standard error,
 //! and nothing more on standard output.
 //!
 //! The one contract is that of [`replay`]: what it writes is what the model of the whole history
 //! answers to the script, line by line, and where a write fails a front of that. It cuts the script
 //! into the events of one run (`script`), hands them to `run_wire` of `json_gateway`, and writes
-//! the outcomes (`replies`). For example, on a fresh store, where `{..}` stands for a header:
+//! the outcomes (`replies`). That of [`check`] is that its one line is what the definitions say of
+//! the text (`judging`). For example, on a fresh store, where `{..}` stands for a header:
 //!
 //! ```text
 //! AT 1000                                               at 1000
@@ -21,6 +26,9 @@
 //! EXPIRE                                                nothing
 //! AT 2000                                               at 2000
 //! EXPIRE                                                expired 7 revision 2
+//! TRIM                                                  done 1
+//! CERTIFY                                               dump 1
+//!                                                       ..
 //! ```
 //!
 //! The tests stand in its own `src/tests/`; `tests/program` of the repository asks the program
@@ -30,9 +38,12 @@
 mod command_line;
 mod counted;
 mod fault;
+mod input;
+mod judging;
 mod pieces;
 mod replaying;
 mod replies;
+mod said;
 mod script;
 #[cfg(test)]
 mod tests;
@@ -40,6 +51,7 @@ mod tests;
 pub use command_line::{Args, arguments};
 pub use fault::Fault;
 use fault::fault_of_words;
+pub use judging::{Verdict, check};
 pub use replaying::replay;
 use std::io::BufWriter;
 use std::process::ExitCode;
@@ -48,15 +60,37 @@ use std::{env, io};
 /// The bytes that are written at once.
 const BUFFER: usize = 65_536;
 
-fn run(rt: &HostRuntime) -> Result<(), Fault> {
+fn run(rt: &HostRuntime) -> Result<ExitCode, Fault> {
     let mut words = Vec::new(rt.alloc());
     let given = env::args(rt).map_err(|error| fault_of_words(&error))?;
     for word in given {
         words.push(word).map_err(|_| Fault::Memory)?;
     }
     match arguments(rt.alloc(), words.as_slice())? {
-        Args::Replay => replay_all(rt),
+        Args::Replay => {
+            replay_all(rt)?;
+            Ok(ExitCode::SUCCESS)
+        }
+        Args::Check => {
+            let verdict = check_all(rt)?;
+            Ok(status_of(verdict))
+        }
     }
+}
+
+/// The exit status that tells a verdict: 0 of a certificate that passes, 1 of one that is refused,
+/// and 2 of a text that is none.
+fn status_of(verdict: Verdict) -> ExitCode {
+    match verdict {
+        Verdict::Least(_) => ExitCode::SUCCESS,
+        Verdict::Refused(_) => ExitCode::from(1),
+        Verdict::Unreadable(_) => ExitCode::from(2),
+    }
+}
+
+/// Judges the certificate on standard input on standard output.
+fn check_all(rt: &HostRuntime) -> Result<Verdict, Fault> {
+    check(rt.alloc(), &mut rt.reader(), &mut io::writer(rt))
 }
 
 /// Answers standard input on standard output, through a buffer that is there before the first read.
@@ -71,7 +105,7 @@ fn replay_all(rt: &HostRuntime) -> Result<(), Fault> {
 
 fn main(rt: HostRuntime) -> ExitCode {
     match run(&rt) {
-        Ok(()) => ExitCode::SUCCESS,
+        Ok(status) => status,
         Err(fault) => {
             let _ = rt.eprintln(fault);
             ExitCode::from(2)

@@ -1,40 +1,39 @@
 //! The replies to a script's lines, written in their order.
-ghost use Rattle.std.specs.Prelude.{◌≡◌, ◌++◌, ◌∷◌, [], List, Option, None, Bool, ℕ, Err, true, drop};
+ghost use Rattle.std.specs.Prelude.{◌≡◌, ◌++◌, ◌∷◌, [], List, Option, Bool, ℕ, Err, true, drop};
 ghost use Rattle.store_laws.specs.TrimmingLaws.{trim_told};
 ghost use Rattle.trim_core.specs.Steps.{told_of};
 ghost use Rattle.std.specs.Prelude.{codes, decimal, map, IfOk, IfErr};
 ghost use Rattle.std.specs.Fmt.{signed_decimal};
 ghost use Rattle.json_gateway.specs.Outcomes.{wire_response};
 ghost use Rattle.json_gateway.specs.Runs.{command_view, event_view, expired_view, expiry_outcome};
-ghost use Rattle.json_gateway.specs.Runs.{message_view, outcome_view};
+ghost use Rattle.json_gateway.specs.Runs.{message_view};
 ghost use Rattle.kv_model.specs.Wire.{closed};
 ghost use Rattle.etcd_one.specs.Lines.{line_by, replies_by};
 ghost use Rattle.etcd_one.specs.Replies as spec;
+ghost use Rattle.etcd_one.specs.Said.{one_line, said_line};
 ghost use Rattle.etcd_one.specs.Faults.{is_write};
 ghost use Rattle.etcd_one.specs.Writes.{Writes};
 
 use crate::fault::Fault;
-use crate::pieces::{write_bytes, write_pieces};
+use crate::pieces::{write_bytes, write_number, write_pieces, write_rev};
+use crate::said::Said;
 use crate::script::Lines;
 use itoa::Buffer;
-use json_gateway::{Expiry, Message, Outcome, Settled, Trim, Unexpired, WireEvent, WireOutcome};
-use kv_model::version::Rev;
+use json_gateway::{
+    Certificate, Expiry, Message, Outcome, Settled, Trim, Unexpired, WireEvent, WireOutcome,
+};
 use std::io;
 use std::io::Write;
 
 /// Writes the replies to all lines, and hands them on. Where that fails, a front of them was
 /// written, and nothing more is.
-pub fn write_out<W: Write>(
-    w: &mut W,
-    lines: &Lines<'_>,
-    outcomes: &[WireOutcome],
-) -> Result<(), Fault>
+pub fn write_out<W: Write>(w: &mut W, lines: &Lines<'_>, said: &[Said]) -> Result<(), Fault>
     ensures replies { Writes result (W.contents w.old) (W.contents w.new)
-        (replies_by lines.now.are_events.items (map event_view lines.now.events.items)
-        (map outcome_view outcomes.now)) }
+        (replies_by said_line lines.now.are_events.items (map event_view lines.now.events.items)
+        said.now) }
     ensures err { IfErr result (λ fault. is_write fault ≡ true) }
 {
-    if let Err(error) = write_replies(w, lines, outcomes) {
+    if let Err(error) = write_replies(w, lines, said) {
         return Err(Fault::Write(error));
     }
     match w.flush() {
@@ -43,47 +42,47 @@ pub fn write_out<W: Write>(
     }
 }
 
-/// Writes a reply for each line: `bad line`, or that of the next event and its outcome.
-fn write_replies<W: Write>(w: &mut W, lines: &Lines<'_>, outcomes: &[WireOutcome]) -> io::Result<()>
+/// Writes a reply for each line: `bad line`, or what is said to the next event.
+fn write_replies<W: Write>(w: &mut W, lines: &Lines<'_>, said: &[Said]) -> io::Result<()>
     ensures { Writes result (W.contents w.old) (W.contents w.new)
-        (replies_by lines.now.are_events.items (map event_view lines.now.events.items)
-        (map outcome_view outcomes.now)) }
+        (replies_by said_line lines.now.are_events.items (map event_view lines.now.events.items)
+        said.now) }
 {
     let mut place = 0;
     for is_event in &lines.are_events {
-        place = write_line(w, *is_event, &lines.events, outcomes, place)?;
+        place = write_line(w, *is_event, &lines.events, said, place)?;
     }
     Ok(())
 }
 
-/// Writes the reply for a line: `bad line`, or that of the event at a place and its outcome. Gives
-/// the place of the event that comes next.
+/// Writes the reply for a line: `bad line`, or what is said to the event at a place. Gives the
+/// place of the event that comes next.
 fn write_line<W: Write>(
     w: &mut W,
     is_event: bool,
     events: &[WireEvent<'_>],
-    outcomes: &[WireOutcome],
+    said: &[Said],
     place: usize,
 ) -> io::Result<usize>
     ensures written { Writes result (W.contents w.old) (W.contents w.new)
-        (line_by is_event (map event_view (drop place events.now))
-        (map outcome_view (drop place outcomes.now))) }
+        (line_by said_line is_event (map event_view (drop place events.now))
+        (drop place said.now)) }
     ensures next { IfOk result (λ next. (flags : List Bool)
-        → replies_by (is_event ∷ flags) (map event_view (drop place events.now))
-        (map outcome_view (drop place outcomes.now))
-        ≡ line_by is_event (map event_view (drop place events.now))
-        (map outcome_view (drop place outcomes.now))
-        ++ replies_by flags (map event_view (drop next events.now))
-        (map outcome_view (drop next outcomes.now))) }
+        → replies_by said_line (is_event ∷ flags) (map event_view (drop place events.now))
+        (drop place said.now)
+        ≡ line_by said_line is_event (map event_view (drop place events.now))
+        (drop place said.now)
+        ++ replies_by said_line flags (map event_view (drop next events.now))
+        (drop next said.now)) }
 {
     if !is_event {
         write_bytes(w, b"bad line\n")?;
         return Ok(place);
     }
     match events.get(place) {
-        Some(event) => match outcomes.get(place) {
-            Some(outcome) => {
-                write_outcome(w, event, outcome)?;
+        Some(event) => match said.get(place) {
+            Some(said) => {
+                write_said(w, event, said)?;
                 Ok(place + 1)
             }
             None => Ok(place),
@@ -92,14 +91,26 @@ fn write_line<W: Write>(
     }
 }
 
-/// Writes the line of an event's outcome.
+/// Writes what is said to an event.
+fn write_said<W: Write>(w: &mut W, event: &WireEvent<'_>, said: &Said) -> io::Result<()>
+    ensures { Writes result (W.contents w.old) (W.contents w.new)
+        (said_line (event_view event.now) said.now) }
+{
+    match said {
+        Said::Outcome(outcome) => write_outcome(w, event, outcome),
+        Said::Lines(text) => write_bytes(w, text.as_slice()),
+    }
+}
+
+/// Writes the line of an event's outcome. What is kept has lines of its own: without them no memory
+/// was found.
 fn write_outcome<W: Write>(
     w: &mut W,
     event: &WireEvent<'_>,
     outcome: &WireOutcome,
 ) -> io::Result<()>
     ensures { Writes result (W.contents w.old) (W.contents w.new)
-        (spec.outcome_line (event_view event.now) (outcome_view outcome.now)) }
+        (one_line (event_view event.now) outcome.now) }
 {
     match outcome {
         WireOutcome::Posted(posted) => write_posted(w, event, posted),
@@ -109,7 +120,8 @@ fn write_outcome<W: Write>(
         WireOutcome::Delivered(Ok(message)) => write_message(w, message),
         WireOutcome::Delivered(Err(_)) => write_out_of_memory(w, event),
         WireOutcome::Closed(stood) => write_closed(w, *stood),
-        WireOutcome::Trimmed(trim) => write_trimmed(w, *trim),
+        WireOutcome::Trimmed { trim, certificate } => write_trimmed(w, *trim, certificate),
+        WireOutcome::Certified(_) => write_out_of_memory(w, event),
     }
 }
 
@@ -145,8 +157,7 @@ fn write_out_of_memory<W: Write>(w: &mut W, event: &WireEvent<'_>) -> io::Result
 fn write_clock<W: Write>(w: &mut W, clock: u64) -> io::Result<()>
     ensures { Writes result (W.contents w.old) (W.contents w.new) (spec.clock_line clock) }
 {
-    let mut digits = Buffer::new();
-    write_pieces(w, &[b"at ", digits.format(clock).as_bytes(), b"\n"])
+    write_number(w, b"at ", clock)
 }
 
 fn write_expiry<W: Write>(w: &mut W, expiry: Expiry) -> io::Result<()>
@@ -205,36 +216,42 @@ fn write_closed<W: Write>(w: &mut W, stood: bool) -> io::Result<()>
     }
 }
 
-/// Writes what a trimming step did.
-fn write_trimmed<W: Write>(w: &mut W, trim: Trim) -> io::Result<()>
+/// Writes what a trimming step did, and where it is done whether there is a certificate of it.
+fn write_trimmed<W: Write>(
+    w: &mut W,
+    trim: Trim,
+    certificate: &Option<Certificate>,
+) -> io::Result<()>
     ensures { Writes result (W.contents w.old) (W.contents w.new)
-        (spec.told_line (trim_told (told_of trim) None)) }
+        (spec.told_line (trim_told (told_of trim) certificate.now)) }
 {
     match trim {
-        Trim::Removed(rev) => write_visited(w, b"removed ", rev),
-        Trim::Kept(rev) => write_visited(w, b"kept ", rev),
-        Trim::Done(count) => write_done(w, count),
+        Trim::Removed(rev) => write_rev(w, b"removed ", rev),
+        Trim::Kept(rev) => write_rev(w, b"kept ", rev),
+        Trim::Done(count) => write_done(w, count, certificate.is_some()),
     }
 }
 
-/// Writes a word and the revision of the version that a trimming step visited.
-fn write_visited<W: Write>(w: &mut W, word: &[u8], rev: Rev) -> io::Result<()>
+/// Writes how many versions are kept, where trimming is done, and where there is no certificate
+/// that they are not checked.
+fn write_done<W: Write>(w: &mut W, count: u64, certified: bool) -> io::Result<()>
     ensures { Writes result (W.contents w.old) (W.contents w.new)
-        (word.now ++ spec.rev_text rev ++ 10 ∷ []) }
+        (spec.done_line count certified) }
 {
-    let (mut main, mut sub) = (Buffer::new(), Buffer::new());
-    let main = main.format(rev.main).as_bytes();
-    let sub = sub.format(rev.sub).as_bytes();
-    write_pieces(w, &[word, main, b".", sub, b"\n"])
+    if certified {
+        write_count(w, count, b"\n")
+    } else {
+        write_count(w, count, b" unchecked\n")
+    }
 }
 
-/// Writes how many versions are kept, where trimming is done.
-fn write_done<W: Write>(w: &mut W, count: u64) -> io::Result<()>
+/// Writes how many versions are kept, and how the line ends.
+fn write_count<W: Write>(w: &mut W, count: u64, end: &[u8]) -> io::Result<()>
     ensures { Writes result (W.contents w.old) (W.contents w.new)
-        (codes "done " ++ decimal count ++ 10 ∷ []) }
+        (codes "done " ++ decimal count ++ end.now) }
 {
     let mut digits = Buffer::new();
-    write_pieces(w, &[b"done ", digits.format(count).as_bytes(), b"\n"])
+    write_pieces(w, &[b"done ", digits.format(count).as_bytes(), end])
 }
 
 /// Writes a status, a space, a body and a line feed.

@@ -53,8 +53,8 @@ pub fn line_events(alloc: Global, text: &[u8]) -> Result<Lines<'_>, AllocError>
 /// The event that a line asks for; `None` for a bad line, one above `LONGEST_LINE` bytes or of no
 /// form.
 ///
-/// The forms are `POST path body`, `AT moment`, `DELIVER number`, `CLOSE number`, `EXPIRE` and `TRIM`. The
-/// body is the rest of the line, its spaces too, and may be missing; the path may be empty. The
+/// The forms are `POST path body`, `AT moment`, `DELIVER number`, `CLOSE number`, `EXPIRE`, `TRIM`
+/// and `CERTIFY`. The body is the rest of the line, its spaces too, and may be missing; the path may be empty. The
 /// moment is in milliseconds, and the number that of a watch: both are decimal digits alone, of a
 /// number of 64 bits.
 pub fn event_of(line: &[u8]) -> Option<WireEvent<'_>>
@@ -78,6 +78,8 @@ fn event_alone<'a>(word: &[u8]) -> Option<WireEvent<'a>>
         Some(WireEvent::Expire)
     } else if word == b"TRIM".as_slice() {
         Some(WireEvent::Trim)
+    } else if word == b"CERTIFY".as_slice() {
+        Some(WireEvent::Certify)
     } else {
         None
     }

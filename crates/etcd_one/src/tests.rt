@@ -1,4 +1,6 @@
 //! Worked rows, bad lines, bad arguments, and readers and writers that fail.
+mod certificates;
+mod compactions;
 mod leases;
 mod ranges;
 mod rows;

@@ -1,7 +1,7 @@
 -- A run goes on by one event at a time.
 use Rattle.std.proofs.Common.{◌≡◌, ℕ, ◌==◌, Bool, true, false, cond, Result, Ok, Err, ◌+◌, ◌<◌, ◌≤◌, List, [], ◌∷◌, ◌++◌, length, get_or, drop, map}
-use Rattle.std.proofs.Common.{None, refl, sym, ◌∙◌, ap, subst, append_assoc, add-one, drop-cons}
-use Rattle.std.specs.Prelude.{is_some, IfOk, MatchBool, OnOk, OnErr, ⊤}
+use Rattle.std.proofs.Common.{Option, None, refl, sym, ◌∙◌, ap, subst, append_assoc, add-one, drop-cons}
+use Rattle.std.specs.Prelude.{is_some, IfOk, IfSome, MatchBool, OnOk, OnErr, ⊤}
 use Rattle.std.specs.declared.alloc.AllocError.{AllocError}
 use Rattle.std.proofs.lemmas.List.{append-nil, drop_all, map-append}
 use Rattle.kv_model.specs.declared.ids.Ids.{Ids}
@@ -11,24 +11,27 @@ use Rattle.kv_model.specs.Answers.{Response}
 use Rattle.kv_model.specs.Calls.{Call}
 use Rattle.kv_model.specs.Follows as follows
 use Rattle.kv_model.specs.Headline.{IsRun, KeepsWell}
-use Rattle.kv_model.specs.Kept.{Changes, kept_after}
+use Rattle.kv_model.specs.Certificates.{claims_of}
+use Rattle.kv_model.specs.Dumps.{Claim, Dump}
+use Rattle.kv_model.specs.Kept.{Changes, IsDone, Keeping, Trims, dump_of, kept_after}
 use Rattle.kv_model.specs.Requests.{Bad, request_of}
 use Rattle.kv_model.specs.Step.{expire}
-use Rattle.kv_model.specs.Told.{Expiry as ModelExpiry}
+use Rattle.kv_model.specs.Told.{Expiry as ModelExpiry, Trimmed}
 use Rattle.kv_model.specs.Watches.{deliver as delivered}
 use Rattle.kv_model.specs.Wire as model
 use Rattle.kv_model.specs.Wire.{WireTold, wire_step, is_free, is_physical_call, takes_memory, MayLose, reply_to, IsChangeBy}
 use Rattle.kv_model.specs.World.{World, at_moment, opening, watch_at, without_watch}
 use Rattle.store_laws.specs.Stands.{StandsFor}
-use Rattle.store_laws.specs.TrimmingLaws.{trim_told}
+use Rattle.store_laws.specs.TrimmingLaws.{IsVisit, trim_told}
 use Rattle.store_laws.proofs.KeepingLaws.{opens_kept, rests_kept}
 use Rattle.trim_core.specs.declared.trimmer.Trim.{Trim}
 use Rattle.trim_core.specs.Steps.{told_of}
 use Rattle.request_core.specs.declared.answer.Expiry.{Expiry}
 use Rattle.request_core.specs.declared.answer.Expiry.TheVariants as expiry
 use Rattle.request_core.specs.Answers.{expiry_view, is_memory}
-use Rattle.request_core.specs.Commands.{ExpiresIn, MayTrim, RefusesExpiry}
-use Rattle.request_core.specs.State.{CoreState, after_moment, keeping_of, with_watches}
+use Rattle.request_core.specs.Commands.{ExpiresIn, MayTrim, RefusesExpiry, TrimsOnce}
+use Rattle.request_core.specs.State.{CoreState, after_moment, dump_kept, keeping_of, with_watches}
+use Rattle.json_gateway.specs.declared.outcome.Certified.{Certified}
 use Rattle.json_gateway.specs.declared.outcome.Message.{Message}
 use Rattle.json_gateway.specs.declared.outcome.Outcome.{Outcome}
 use Rattle.json_gateway.specs.declared.outcome.Reply.{Reply}
@@ -40,7 +43,7 @@ use Rattle.json_gateway.specs.declared.wire.WireEvent.{WireEvent}
 use Rattle.json_gateway.specs.declared.wire.WireOutcome.{WireOutcome}
 use Rattle.json_gateway.specs.Endings.{Ends, EndsAs, KeepsAs}
 use Rattle.json_gateway.specs.Outcomes.{is_accepted, response_of}
-use Rattle.json_gateway.specs.Runs.{command_view, delivery_outcome, event_view, expired_view, expiry_outcome, outcome_view, ending_view}
+use Rattle.json_gateway.specs.Runs.{certified_outcome, command_view, delivery_outcome, event_view, expired_view, expiry_outcome, outcome_view, ending_view}
 use Rattle.json_gateway.specs.Steps.{Steps, TrimsWhere}
 use Rattle.json_gateway.proofs.Deliveries.{TellsIn}
 use Rattle.json_gateway.proofs.Keeps.{delivery_rests, same_kept, spent_rests, waiting_accepted, watches_keep}
@@ -110,6 +113,10 @@ post_steps ids w path body o old between new p = by o.settled p.ends p.keeps p.r
         }
     by (settled.Lost revision) e k ready waits =
         let gone = left e.1 k (waits refl) in record { answers = e.0; stands = gone.0; keeps = gone.1 }
+
+-- what is kept, shown as a world that is stood for shows it
+dump_stood : (s : CoreState) (w : World) → StandsFor s.store w → dump_kept s.store ≡ dump_of w s.store.versions
+dump_stood s w h = λ i. record { floor = h.compacted i; revision = h.revision_is i; versions = s.store.versions }
 
 -- ---- other events
 
@@ -186,10 +193,37 @@ close_steps ids w n stood old new e h others = record {
   keeps = watches_keep old new w (record w { watches = without_watch n w.watches }) new.store.watches others refl refl;
 }
 
--- a trimming step changes no world, and is one that a run may make
-pub trim_steps : (ids : Ids) (w : World) (t : Trim) (old new : CoreState) → MayTrim w old new (told_of t)
-    → Steps ids w model.WireEvent.trim (follows.Outcome.said (trim_told (told_of t) None)) old new
-trim_steps ids w t old new m = record { answers = tt; stands = m.stands; keeps = m.may }
+-- a trimming step changes no world, and is one that a run may make, told with the certificate of what is then kept
+pub trim_steps : (ids : Ids) (w : World) (t : Trim) (certificate : Option (List Claim)) (old new : CoreState) → TrimsOnce old new t
+    → IfSome certificate (λ claims. claims ≡ claims_of (dump_kept new.store)) → StandsFor old.store w
+    → Steps ids w model.WireEvent.trim (follows.Outcome.said (trim_told (told_of t) certificate)) old new
+trim_steps ids w t certificate old new once own h =
+    let m : MayTrim w old new (told_of t) = once.trims w h in
+    record { answers = tt; stands = m.stands; keeps = by (told_of t) once.visit m }
+  where
+    by : (told : Trimmed) → IsVisit told (keeping_of old).ahead (keeping_of new).ahead → MayTrim w old new told
+        → Trims w (keeping_of old) (keeping_of old).ahead (trim_told told certificate) (keeping_of new)
+    by (Trimmed.removed q) v m = m.may None tt
+    by (Trimmed.kept q) v m = m.may None tt
+    by (Trimmed.done n) v m =
+        let done : IsDone w (keeping_of old) n None × (keeping_of new ≡ keeping_of old)
+        = subst (λ us. Trims w (keeping_of old) us (WireTold.done n None) (keeping_of new)) v.0 (m.may None tt) in
+        m.may certificate (subst (λ (d : Dump). IfSome certificate (λ claims. claims ≡ claims_of d))
+        (dump_stood new w m.stands ∙ ap (λ (k : Keeping). dump_of w k.kept) done.1) own)
+
+-- what is kept is shown, and changes nothing
+pub certify_steps : (ids : Ids) (w : World) (r : Result Certified AllocError) (s : CoreState) → StandsFor s.store w
+    → IfOk r (λ shown. shown.dump ≡ dump_kept s.store)
+    → IfOk r (λ shown. shown.certificate ≡ claims_of (dump_kept s.store))
+    → Steps ids w model.WireEvent.certify (certified_outcome r) s s
+certify_steps ids w (Ok shown) s h dump claims =
+    let stood : dump_kept s.store ≡ dump_of w s.store.versions = dump_stood s w h in
+    record {
+      answers = tt;
+      stands = h;
+      keeps = (λ i. WireTold.certified ((dump ∙ stood) i) ((claims ∙ ap claims_of stood) i), refl);
+    }
+certify_steps ids w (Err e) s h dump claims = record { answers = refl; stands = h; keeps = refl }
 
 -- ---- runs
 

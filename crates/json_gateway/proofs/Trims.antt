@@ -28,7 +28,7 @@ use Rattle.json_gateway.specs.Outcomes.{is_accepted}
 -- where a step is done, a least list is kept, and nothing is left to visit
 pub done_trimmed : (old new : CoreState) (t : Trim) → TrimsOnce old new t → is_done (told_of t) ≡ true → (w : World) → StandsFor old.store w
     → StandsFor new.store w × IsTrimmed w (keeping_of new)
-done_trimmed old new t once e w h = ((once.trims w h).stands, by (told_of t) e once.visit (once.trims w h).may)
+done_trimmed old new t once e w h = ((once.trims w h).stands, by (told_of t) e once.visit ((once.trims w h).may None tt))
   where
     by : (told : Trimmed) → is_done told ≡ true → IsVisit told (keeping_of old).ahead (keeping_of new).ahead
         → Trims w (keeping_of old) (keeping_of old).ahead (trim_told told None) (keeping_of new) → IsTrimmed w (keeping_of new)

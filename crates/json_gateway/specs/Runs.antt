@@ -1,5 +1,5 @@
 -- What events and outcomes of a run say, in the definitions' terms.
-use Rattle.std.specs.Prelude.{ℕ, Option, None, Result, Ok, Err, ⊤}
+use Rattle.std.specs.Prelude.{ℕ, Option, Result, Ok, Err, ⊤}
 use Rattle.std.specs.declared.alloc.AllocError.{AllocError}
 use Rattle.kv_model.specs.Told as told
 use Rattle.kv_model.specs.Follows as follows
@@ -7,6 +7,7 @@ use Rattle.kv_model.specs.Wire as model
 use Rattle.kv_model.specs.Wire.{WireTold}
 use Rattle.request_core.specs.declared.answer.Expiry.{Expiry}
 use Rattle.request_core.specs.declared.answer.Expiry.TheVariants as expiry
+use Rattle.json_gateway.specs.declared.outcome.Certified.{Certified}
 use Rattle.json_gateway.specs.declared.outcome.Message.{Message}
 use Rattle.json_gateway.specs.declared.outcome.Message.TheVariants as message
 use Rattle.json_gateway.specs.declared.outcome.Settled.{Settled}
@@ -29,6 +30,7 @@ event_view event.Expire = model.WireEvent.expire
 event_view (event.Deliver n) = model.WireEvent.deliver n
 event_view (event.Close n) = model.WireEvent.close n
 event_view event.Trim = model.WireEvent.trim
+event_view event.Certify = model.WireEvent.certify
 
 -- how a request ended, with the new revision where it rose and the number of a watch made
 abbrev pub ending_view : Settled → Option ℕ → Option ℕ → model.WireOutcome
@@ -67,13 +69,19 @@ abbrev pub delivery_outcome : Result Message AllocError → model.WireOutcome
 delivery_outcome (Ok m) = follows.Outcome.said (message_view m)
 delivery_outcome (Err e) = follows.Outcome.memory
 
+-- what is kept, as it is shown
+abbrev pub certified_outcome : Result Certified AllocError → model.WireOutcome
+certified_outcome (Ok shown) = follows.Outcome.said (WireTold.certified shown.dump shown.certificate)
+certified_outcome (Err e) = follows.Outcome.memory
+
 abbrev pub outcome_view : WireOutcome → model.WireOutcome
 outcome_view (outcome.Posted o) = command_view o
 outcome_view (outcome.Clock clock) = follows.Outcome.said (WireTold.clock clock)
 outcome_view (outcome.Expiry made) = expiry_outcome made
 outcome_view (outcome.Delivered made) = delivery_outcome made
 outcome_view (outcome.Closed stood) = follows.Outcome.said (WireTold.closed stood)
-outcome_view (outcome.Trimmed t) = follows.Outcome.said (trim_told (told_of t) None)
+outcome_view (outcome.Trimmed t certificate) = follows.Outcome.said (trim_told (told_of t) certificate)
+outcome_view (outcome.Certified shown) = certified_outcome shown
 
 -- where a request was not accepted, no revision rose and no watch was made
 abbrev pub IsBareIn : WireOutcome → Type 0

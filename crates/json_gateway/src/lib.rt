@@ -19,6 +19,8 @@
 //! Close 1                                          Closed
 //! Deliver 1                                        NoWatch
 //! Expire                                           Nothing, since no lease is due
+//! Trim                                             Done, with 1 version and its certificate
+//! Certify                                          the version 2.0, needed by a Range at 2
 //! ```
 //!
 //! A request goes from [`read`] of `gateway_read` over `Core::apply` and `Core::answer` of
@@ -33,6 +35,7 @@
 //! The tests stand in the crate `gateway_tests`, in `src/gateway.rt` and `src/messages.rt`.
 #![tactic(auto)]
 
+mod certifying;
 pub mod commands;
 pub mod messages;
 pub mod outcome;
@@ -43,7 +46,8 @@ pub use gateway_read::read;
 pub use kv_model::ids::Ids;
 pub use kv_model::refusal::Refusal;
 pub use messages::message;
-pub use outcome::{Message, Outcome, Reply, Settled};
+pub use outcome::{Certified, Message, Outcome, Reply, Settled};
 pub use range_view::tables::Trim;
 pub use request_core::answer::Expiry;
 pub use wire::{Unexpired, WireEvent, WireOutcome, WireRun, run_wire};
+pub use witness_core::{Certificate, Claim, Dump, Need};

@@ -1,5 +1,6 @@
 //! What a command, a request or a watch was answered.
 use gateway_text::{lost_text, memory_text};
+use witness_core::{Certificate, Dump};
 
 /// A reply: an HTTP status, and the bytes of a JSON body.
 #[derive(Debug, Drop)]
@@ -42,6 +43,15 @@ pub enum Message {
     Nothing,
     /// The bytes of a JSON text: events, or that it is cancelled.
     Text(Vec<u8>),
+}
+
+/// What is kept, and its certificate.
+#[derive(Debug, Drop)]
+pub struct Certified {
+    /// The versions that are kept, and the numbers beside them.
+    pub dump: Dump,
+    /// In order, a need for each of them that has one.
+    pub certificate: Certificate,
 }
 
 impl Settled {

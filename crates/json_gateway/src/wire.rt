@@ -7,20 +7,22 @@ ghost use Rattle.store_laws.specs.Stands.{StandsFor};
 ghost use Rattle.kv_model.specs.Headline.{IsRun};
 ghost use Rattle.kv_model.specs.Wire.{close as model_close, deliver as model_deliver};
 ghost use Rattle.kv_model.specs.Wire.{expire as model_expire, post as model_post};
-ghost use Rattle.kv_model.specs.Wire.{trim as model_trim};
+ghost use Rattle.kv_model.specs.Wire.{trim as model_trim, certify as model_certify};
 ghost use Rattle.json_gateway.specs.Endings.{is_done};
 ghost use Rattle.trim_core.specs.Steps.{told_of};
 ghost use Rattle.kv_model.specs.World.{World};
 
+use crate::certifying::{certificate_where, certified};
 use crate::commands::post;
 use crate::messages::message;
-use crate::outcome::{Message, Outcome};
+use crate::outcome::{Certified, Message, Outcome};
 use kv_model::ids::Ids;
 use kv_model::refusal::Refusal;
 use range_view::tables::Trim;
 use request_core::answer::Expiry;
 use request_core::store::Core;
 use std::alloc::{AllocError, Global};
+use witness_core::Certificate;
 
 /// What happens to a store.
 #[derive(Clone, Copy, Debug)]
@@ -37,6 +39,8 @@ pub enum WireEvent<'a> {
     Close(u64),
     /// One trimming step is made.
     Trim,
+    /// What is kept is shown, with its certificate.
+    Certify,
 }
 
 /// What an event was answered.
@@ -52,8 +56,14 @@ pub enum WireOutcome {
     Delivered(Result<Message, AllocError>),
     /// Whether a watch that had the number was closed.
     Closed(bool),
-    /// What a trimming step did.
-    Trimmed(Trim),
+    /// What a trimming step did. Where it is done, so that the fewest versions are kept, their
+    /// certificate, which has passed its check; or none where no memory was found for it.
+    Trimmed {
+        trim: Trim,
+        certificate: Option<Certificate>,
+    },
+    /// What is kept, or that no memory was found to show it.
+    Certified(Result<Certified, AllocError>),
 }
 
 /// Why a lease that is due was not revoked. Nothing has changed then.
@@ -78,7 +88,9 @@ ghost use Rattle.json_gateway.specs.Steps.{Steps, TrimsAll, TrimsWhere};
 /// history, while the history is trimmed to the fewest versions that still give them**, whatever
 /// the events are: `IsRun` of the model says so. Before and after each event what is kept answers
 /// every question from the compaction on as the whole history does. A trimming step takes out a
-/// version only where no least list has it, and where it is done, the one least list is kept.
+/// version only where no least list has it, and where it is done, the one least list is kept; the
+/// certificate that it is told with passes its check, and each of its needs is one in the whole
+/// history. `Certify` shows what is kept.
 ///
 /// An event that found no memory counts as not made, and an answer may be lost only where its
 /// change stands; a moment, a trimming step and the close of a watch find their memory always.
@@ -111,7 +123,8 @@ fn step(alloc: Global, core: &mut Core, event: &WireEvent<'_>, ids: &Ids) -> Wir
         WireEvent::Expire => step_expire(core),
         WireEvent::Deliver(number) => step_deliver(alloc, core, *number, ids),
         WireEvent::Close(number) => step_close(core, *number),
-        WireEvent::Trim => step_trim(core),
+        WireEvent::Trim => step_trim(alloc, core),
+        WireEvent::Certify => step_certify(core),
     }
 }
 
@@ -187,12 +200,23 @@ fn step_close(core: &mut Core, number: u64) -> WireOutcome
 }
 
 /// A trimming step on a core, as an event of a run.
-fn step_trim(core: &mut Core) -> WireOutcome
+fn step_trim(alloc: Global, core: &mut Core) -> WireOutcome
     ensures bare { IsBareIn result }
     ensures steps { (ids : Ids) (w : World) → StandsFor core.old.store w
         → Steps ids w model_trim (outcome_view result) core.old core.new }
 {
-    WireOutcome::Trimmed(core.trim_step())
+    let trim = core.trim_step();
+    let certificate = certificate_where(alloc, core, is_done(trim));
+    WireOutcome::Trimmed { trim, certificate }
+}
+
+/// What a core keeps, as an event of a run.
+fn step_certify(core: &Core) -> WireOutcome
+    ensures bare { IsBareIn result }
+    ensures steps { (ids : Ids) (w : World) → StandsFor core.now.store w
+        → Steps ids w model_certify (outcome_view result) core.now core.now }
+{
+    WireOutcome::Certified(certified(core))
 }
 
 /// Why a lease was not revoked, by the core's refusal, which is one of these two.

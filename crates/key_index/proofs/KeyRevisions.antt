@@ -173,3 +173,18 @@ oldest-without p [] r h = refl
 oldest-without p (q ∷ qs) r h =
     sym (ap (λ b. cond (not b) (q ∷ without p qs) (without p qs)) h
     ∙ rising.others-above (λ r. r) p qs (subst (λ (r : Rev). IsAbove r qs) (is_rev-same p q h) r.0))
+
+-- ---- a list of one revision or none
+
+pub few-one : (qs : List Rev) (q : Rev) → Some q ≡ slice_get qs 0 → length qs < 2 → q ∷ [] ≡ qs
+few-one [] q e h = absurd cc
+few-one (r ∷ []) q e h = let same : q ≡ r = cc in ap (λ p. p ∷ []) same
+few-one (r ∷ s ∷ qs) q e h = absurd (omega arith)
+
+pub few-none : (qs : List Rev) → None ≡ slice_get qs 0 → [] ≡ qs
+few-none [] e = refl
+few-none (r ∷ qs) e = absurd cc
+
+pub many-not_empty : (qs : List Rev) → 2 ≤ length qs → false ≡ is_empty qs
+many-not_empty [] h = absurd (omega arith)
+many-not_empty (r ∷ qs) h = refl

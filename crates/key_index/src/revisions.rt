@@ -1,6 +1,7 @@
 //! The revisions of one key, in order (etcd: data model, generations of a key).
 ghost use Rattle.std.specs.Prelude.{◌≡◌, ◌↔◌, List, [], ◌∷◌, ◌++◌, drop};
-ghost use Rattle.std.specs.Prelude.{◌<◌, ◌-◌, ◌^◌, IfOk, IfSome, OnOk, OnErr, IsTrue};
+ghost use Rattle.std.specs.Prelude.{◌<◌, ◌≤◌, ◌-◌, ◌^◌, length, IfOk, IfSome, OnOk, OnErr, IsTrue};
+ghost use Rattle.std.specs.Prelude.{MatchOption};
 ghost use Rattle.std.specs.List.{slice_get};
 ghost use Rattle.kv_model.specs.Lists.{is_empty};
 ghost use Rattle.kv_model.specs.History.{rev_lt, rev_le};
@@ -19,7 +20,8 @@ pub struct Revisions {
     held: Held,
 }
 
-/// What holds the revisions: most keys have just one, which takes no block of its own.
+/// What holds the revisions: most keys have just one, which takes no block of its own. A list has
+/// at least two, and goes where it falls below (the invariant of `Revisions`).
 #[derive(Debug, Drop)]
 enum Held {
     Nothing,
@@ -30,14 +32,14 @@ enum Held {
 impl Model for Revisions {
     ghost use Rattle.std.specs.Prelude.{List};
     ghost use Rattle.kv_model.specs.declared.version.Rev.{Rev};
-    ghost use Rattle.key_index.specs.Held.{revisions_in};
+    ghost use Rattle.key_index.specs.Held.{IsSettled, revisions_in};
     ghost use Rattle.key_index.specs.KeyRevisions.{IsRising};
 
     ghost Value = { List Rev };
 
     ghost view = { λ r. revisions_in r.held };
 
-    ghost invariant = { λ r. IsRising (revisions_in r.held) };
+    ghost invariant = { λ r. IsRising (revisions_in r.held) × IsSettled r.held };
 }
 
 impl Revisions {
@@ -57,7 +59,7 @@ impl Revisions {
         match &self.held {
             Held::Nothing => true,
             Held::One(_) => false,
-            Held::Many(revisions) => revisions.is_empty(),
+            Held::Many(_) => false,
         }
     }
 
@@ -168,29 +170,58 @@ impl Revisions {
         Ok(())
     }
 
-    /// Drops the oldest revision.
+    /// Drops the oldest revision. Takes no memory, and constant time.
     pub(crate) fn drop_front(&mut self)
         ensures { self.new ≡ drop 1 self.old }
     {
-        match &mut self.held {
+        self.held.drop_front();
+        self.held.settle();
+    }
+
+    /// Drops a revision, and nothing where it is not there: the oldest at once, another by a walk
+    /// over all. Takes no memory.
+    pub(crate) fn drop_at(&mut self, rev: Rev)
+        ensures { self.new ≡ without rev self.old }
+    {
+        self.held.drop_at(rev);
+        self.held.settle();
+    }
+
+    /// Drops the revisions of a main revision at the end. Takes no memory.
+    pub(crate) fn undo(&mut self, main: u64)
+        ensures { self.new ≡ undone main self.old }
+    {
+        self.held.undo(main);
+        self.held.settle();
+    }
+}
+
+impl Held {
+    ghost use Rattle.key_index.specs.Held.{IsSettled, revisions_in};
+
+    /// Drops the oldest revision.
+    fn drop_front(&mut self)
+        ensures { revisions_in self.new ≡ drop 1 (revisions_in self.old) }
+    {
+        match self {
             Held::Nothing => {}
             Held::One(_) => {
-                self.held = Held::Nothing;
+                *self = Held::Nothing;
             }
             Held::Many(revisions) => drop_first(revisions),
         }
     }
 
-    /// Drops a revision, and nothing where it is not there: the oldest at once, another by a walk
-    /// over all.
-    pub(crate) fn drop_at(&mut self, rev: Rev)
-        ensures { self.new ≡ without rev self.old }
+    /// Drops a revision, and nothing where it is not there.
+    fn drop_at(&mut self, rev: Rev)
+        requires { IsRising (revisions_in self.old) }
+        ensures { revisions_in self.new ≡ without rev (revisions_in self.old) }
     {
-        match &mut self.held {
+        match self {
             Held::Nothing => {}
             Held::One(only) => {
                 if is_at(*only, rev) {
-                    self.held = Held::Nothing;
+                    *self = Held::Nothing;
                 }
             }
             Held::Many(revisions) => drop_at(revisions, rev),
@@ -198,17 +229,53 @@ impl Revisions {
     }
 
     /// Drops the revisions of a main revision at the end.
-    pub(crate) fn undo(&mut self, main: u64)
-        ensures { self.new ≡ undone main self.old }
+    fn undo(&mut self, main: u64)
+        ensures { revisions_in self.new ≡ undone main (revisions_in self.old) }
     {
-        match &mut self.held {
+        match self {
             Held::Nothing => {}
             Held::One(only) => {
                 if only.main == main {
-                    self.held = Held::Nothing;
+                    *self = Held::Nothing;
                 }
             }
             Held::Many(revisions) => undo(revisions, main),
+        }
+    }
+
+    /// Puts what is left of a list in place, where that is one revision or none: its block is
+    /// freed.
+    fn settle(&mut self)
+        ensures same { revisions_in self.new ≡ revisions_in self.old }
+        ensures settled { IsSettled self.new }
+    {
+        if let Some(few) = self.few() {
+            *self = few;
+        }
+    }
+
+    /// What holds the same revisions in place, where a list has one or none.
+    fn few(&self) -> Option<Held>
+        ensures { MatchOption result (IsSettled self.now)
+            (λ few. IsSettled few × (revisions_in few ≡ revisions_in self.now)) }
+    {
+        match self {
+            Held::Nothing | Held::One(_) => None,
+            Held::Many(revisions) => Held::few_of(revisions),
+        }
+    }
+
+    /// What holds the revisions of a list in place, where it has one or none.
+    fn few_of(revisions: &VecDeque<Rev>) -> Option<Held>
+        ensures { MatchOption result (2 ≤ length revisions.now.items)
+            (λ few. IsSettled few × (revisions_in few ≡ revisions.now.items)) }
+    {
+        if revisions.len() >= 2 {
+            return None;
+        }
+        match rev_at(revisions, 0) {
+            Some(only) => Some(Held::One(only)),
+            None => Some(Held::Nothing),
         }
     }
 }

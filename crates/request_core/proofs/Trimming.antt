@@ -1,5 +1,5 @@
 -- What a trimming step leaves of a core, and what it does in each world that the core stands for.
-use Rattle.std.proofs.Common.{◌≡◌, ◌≤◌, ◌<◌, ℕ, ◌^◌, List, true, None, Some, refl, sym, ◌∙◌, ap, subst, arith}
+use Rattle.std.proofs.Common.{◌≡◌, ◌≤◌, ◌<◌, ℕ, ◌^◌, List, true, Option, None, Some, refl, sym, ◌∙◌, ap, subst, arith}
 use Rattle.std.specs.List.{AllByRecursion}
 use Rattle.kv_model.specs.declared.version.Version.{Version}
 use Rattle.kv_model.specs.History.{value_at, value_now, end_of, rev_le}
@@ -8,7 +8,8 @@ use Rattle.kv_model.specs.Told.{Trimmed}
 use Rattle.kv_model.specs.Trimming.{trimmed, IsTrimmedTo}
 use Rattle.kv_model.specs.World.{World}
 use Rattle.store_laws.specs.Stands.{StandsFor}
-use Rattle.store_laws.specs.TrimmingLaws.{StepsWell, IsVisit, keeping, trim_told}
+use Rattle.kv_model.specs.Dumps.{Claim}
+use Rattle.store_laws.specs.TrimmingLaws.{StepsWell, IsOwn, IsVisit, keeping, trim_told}
 use Rattle.store_laws.proofs.PlaceLaws.{each-part, value_at-by}
 use Rattle.store_laws.proofs.RuleLaws.{steps-well}
 use Rattle.store_laws.proofs.Visits.{IsOrderly, Leaves, step_leaves}
@@ -73,16 +74,17 @@ module _ (t : Stored) (b : Book) (h : Hub) (stamp : ℕ) (stored : IsStored t) (
   abbrev before : CoreState
   before = core_state t b h stamp
 
-  well : (w : World) → StandsFor before.store w → StepsWell w t.versions t.place None (trim_of before)
-  well w k = subst (λ c. StepsWell w t.versions t.place None (trimmed t.versions t.place c)) (sym k.compacted)
-      (steps-well w t.versions t.place None k.sound (subst (λ c. c < 2 ^ 63) k.compacted (orderly t stored sound).small) k.good
-      (subst (IsTrimmedTo t.versions t.place) k.compacted sound.trimmed) tt)
+  well : (w : World) (certificate : Option (List Claim)) → StandsFor before.store w → IsOwn w t.versions certificate
+      → StepsWell w t.versions t.place certificate (trim_of before)
+  well w certificate k own = subst (λ c. StepsWell w t.versions t.place certificate (trimmed t.versions t.place c)) (sym k.compacted)
+      (steps-well w t.versions t.place certificate k.sound (subst (λ c. c < 2 ^ 63) k.compacted (orderly t stored sound).small) k.good
+      (subst (IsTrimmedTo t.versions t.place) k.compacted sound.trimmed) own)
 
   trims : (w : World) → StandsFor before.store w → MayTrim w before (trimmed_by before (trim_of before)) (trim_of before).told
   trims w k = record {
     stands = record {
       sound = k.sound;
-      good = (well w k).good;
+      good = (well w None k tt).good;
       revision_is = k.revision_is;
       compacted = k.compacted;
       leases = k.leases;
@@ -90,8 +92,9 @@ module _ (t : Stored) (b : Book) (h : Hub) (stamp : ℕ) (stored : IsStored t) (
       made = k.made;
       watches = k.watches;
     };
-    may = subst (λ c. Trims w (keeping t.versions t.place c) (keeping t.versions t.place c).ahead (trim_told (trim_of before).told None)
-        (keeping (trim_of before).versions (trim_of before).place c)) (sym k.compacted) (well w k).trims;
+    may = λ certificate own. subst (λ c. Trims w (keeping t.versions t.place c) (keeping t.versions t.place c).ahead
+        (trim_told (trim_of before).told certificate)
+        (keeping (trim_of before).versions (trim_of before).place c)) (sym k.compacted) (well w certificate k own).trims;
   }
 
   tables-leave : LeavesBy before (core_state (trimmed_once t) b h stamp) (trim_of_tables t).told

@@ -12,7 +12,8 @@ use Rattle.kv_model.specs.Wire.{raised, number_made, changes_beside}
 use Rattle.kv_model.specs.World.{World}
 use Rattle.kv_model.specs.Kept.{Trims, kept_after}
 use Rattle.kv_model.specs.Trimming.{oldest_place}
-use Rattle.store_laws.specs.TrimmingLaws.{IsVisit, trim_told}
+use Rattle.kv_model.specs.Dumps.{Claim}
+use Rattle.store_laws.specs.TrimmingLaws.{IsOwn, IsVisit, trim_told}
 use Rattle.trim_core.specs.declared.trimmer.Trim.{Trim}
 use Rattle.trim_core.specs.Steps.{told_of}
 use Rattle.store_laws.specs.Stands.{Store, StandsFor}
@@ -108,8 +109,10 @@ pub record RefusesExpiry (old new : CoreState) (e : Refusal) : Type 0 where
 pub record MayTrim (w : World) (old new : CoreState) (told : Trimmed) : Type 0 where
   -- no answer has changed: it stands for the same world
   pub stands : StandsFor new.store w
-  -- the step is one that a run may make: what goes no least list has, and what stays some least list has
-  pub may : Trims w (keeping_of old) (keeping_of old).ahead (trim_told told None) (keeping_of new)
+  -- the step is one that a run may make, told with the certificate of what is kept or with none: what goes no least list
+  -- has, and what stays some least list has
+  pub may : (certificate : Option (List Claim)) → IsOwn w old.store.versions certificate
+      → Trims w (keeping_of old) (keeping_of old).ahead (trim_told told certificate) (keeping_of new)
 
 -- and whatever world it stood for
 pub record TrimsOnce (old new : CoreState) (t : Trim) : Type 0 where

@@ -14,6 +14,7 @@ use Rattle.kv_model.specs.declared.call.Watched.{Watched}
 use Rattle.kv_model.specs.declared.refusal.Refusal.{Refusal}
 use Rattle.kv_model.specs.declared.refusal.Refusal.TheVariants.{RevisionsSpent}
 use Rattle.kv_model.specs.Calls.{Call, Ops}
+use Rattle.kv_model.specs.Dumps.{Dump}
 use Rattle.kv_model.specs.Feed.{Published}
 use Rattle.kv_model.specs.Keys.{all_keys}
 use Rattle.kv_model.specs.Leases.{Lease, is_granted, insert_lease, without_lease, due}
@@ -202,6 +203,10 @@ abbrev pub has_removed : Trimmed → Bool
 has_removed (Trimmed.removed p) = true
 has_removed (Trimmed.kept p) = false
 has_removed (Trimmed.done n) = false
+
+-- what is kept, as it is shown
+abbrev pub dump_kept : Store → Dump
+dump_kept s = record { floor = s.compacted; revision = s.revision; versions = s.versions }
 
 -- what is kept, and what of it trimming has still to visit
 abbrev pub keeping_of : CoreState → Keeping

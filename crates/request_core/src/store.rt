@@ -6,6 +6,7 @@ ghost use Rattle.std.specs.Prelude.{◌≡◌, [], true, is_ok, option_map, ◌�
 ghost use Rattle.std.specs.Prelude.{IfOk, IfErr, OnOk, OnErr};
 
 mod appending;
+mod certifying;
 mod compacting;
 mod deleting;
 mod expiring;

@@ -1,9 +1,10 @@
-//! What only calls within the crate reach: the last revisions, and what a sink that refuses leaves.
+//! What only calls within the crate reach: the last revisions, what a sink that refuses leaves, and
+//! the index of leases.
 //!
 //! A core, a receipt and a command are each handed to `drop`, and no function that has a core
 //! asserts: within the crate, each way out of a function carries the release of all the parts of
 //! what it holds, and a test that let go of a core in several places took a minute of proof.
-use crate::store::starting::at_last_but_one;
+use crate::store::starting::{at_last_but_one, pairs_of};
 use crate::store::{Core, LAST_MAIN};
 use bytes::Bytes;
 use kv_model::call::{Command, DeleteRequest, PutRequest};
@@ -141,4 +142,49 @@ fn a_refused_taking_leaves_nothing(rt: HostRuntime) {
         (Some(Refusal::Memory), Some(Refusal::Memory), true)
     );
     assert_eq!(rt; found.deleted, Ok(6));
+}
+
+fn put_under(key: &'static [u8], lease: i64) -> Command {
+    Command::Put(PutRequest {
+        key: Bytes::from_static(key),
+        value: Bytes::new(),
+        lease,
+        prev_kv: false,
+        ignore_value: false,
+        ignore_lease: false,
+    })
+}
+
+/// Puts a key under the lease 7 and deletes it, gives the history up to there up, which is this
+/// revision, and trims it. How many pairs the lease has before the steps and after them.
+fn round(core: &mut Core, key: &'static [u8], revision: i64) -> [Result<usize, AllocError>; 2] {
+    let physical = false;
+    let _ = done(core, put_under(key, 7));
+    let _ = done(core, delete(key, b""));
+    let _ = done(core, Command::Compact { revision, physical });
+    let before = pairs_of(core, 7);
+    for _ in 0..6 {
+        let _ = core.trim_step();
+    }
+    [before, pairs_of(core, 7)]
+}
+
+/// The pairs of a lease that holds one key all the while, and others that come and go.
+fn pairs_of_rounds(alloc: Global) -> [[Result<usize, AllocError>; 2]; 3] {
+    let mut core = Core::new(alloc);
+    let _ = done(&mut core, Command::Grant { ttl: 10, id: 7 });
+    let _ = done(&mut core, put_under(b"k", 7));
+    let found = [
+        round(&mut core, b"a", 4),
+        round(&mut core, b"b", 6),
+        round(&mut core, b"c", 8),
+    ];
+    drop(core);
+    found
+}
+
+#[test]
+fn a_lease_over_new_keys_does_not_grow(rt: HostRuntime) {
+    let found = pairs_of_rounds(rt.alloc());
+    assert_eq!(rt; found, [[Ok(2), Ok(1)]; 3]);
 }

@@ -3,9 +3,10 @@ use crate::views::crosses;
 use bytes::Bytes;
 use kv_model::call::{Command, PutRequest, Watched};
 use kv_model::refusal::Refusal;
-use kv_model::version::KeyRange;
+use kv_model::version::{KeyRange, Rev};
 use request_core::answer::{Answer, Status};
 use request_core::store::Core;
+use trim_core::Trim;
 use watch_hub::Delivery;
 
 #[test]
@@ -38,8 +39,8 @@ fn put_a() -> Command {
     })
 }
 
-/// A watch of the key a from the next revision on.
-fn watch_a() -> Command {
+/// A watch of the key a from a revision on, and where that is 0 from the next one.
+fn watch_a(start: i64) -> Command {
     Command::Watch {
         watched: Watched {
             range: KeyRange {
@@ -50,7 +51,7 @@ fn watch_a() -> Command {
             no_delete: false,
             prev_kv: true,
         },
-        start: 0,
+        start,
         id: 5,
     }
 }
@@ -80,7 +81,8 @@ fn done(core: &mut Core, command: Command) -> Done {
     found
 }
 
-/// The main revision of the first event that a watch is told of next, and that of the key-value before it.
+/// The main revision of the first event that a watch is told of next, and that of the key-value before it; 0 and the compaction where
+/// the watch is cancelled.
 type Told = Result<Option<(u64, Option<u64>)>, Refusal>;
 
 fn first_of(delivery: &Delivery<'_>) -> Option<(u64, Option<u64>)> {
@@ -92,6 +94,7 @@ fn first_of(delivery: &Delivery<'_>) -> Option<(u64, Option<u64>)> {
             },
             None => None,
         },
+        Delivery::Cancelled(compacted) => Some((0, Some(*compacted))),
         _ => None,
     }
 }
@@ -111,11 +114,13 @@ fn a_core_tells_its_watches(rt: HostRuntime) {
     let mut core = Core::new(rt.alloc());
     let made = [
         done(&mut core, put_a()),
-        done(&mut core, watch_a()),
+        done(&mut core, watch_a(0)),
         done(&mut core, put_a()),
     ];
     let deliveries = [told(&mut core, 1), told(&mut core, 1), told(&mut core, 2)];
+    let numbers = [core.watch_id(1), core.watch_id(2)];
     let ended = [core.cancel(1), core.cancel(1)];
+    let left = core.watch_id(1);
     drop(core);
     assert_eq!(rt;
         made,
@@ -130,4 +135,85 @@ fn a_core_tells_its_watches(rt: HostRuntime) {
         [Ok(Some((3, Some(2)))), Ok(None), Err(Refusal::NoWatch)]
     );
     assert_eq!(rt; ended, [Ok(()), Err(Refusal::NoWatch)]);
+    assert_eq!(rt; (numbers, left), ([Some(5), None], None));
+}
+
+fn compact(revision: i64) -> Command {
+    Command::Compact {
+        revision,
+        physical: false,
+    }
+}
+
+fn three_told(core: &mut Core) -> [Told; 3] {
+    [told(core, 1), told(core, 2), told(core, 3)]
+}
+
+/// Watches of the puts 2 to 4: the first is behind the compaction, the second was told of all, and the third begins at it.
+#[test]
+fn a_core_is_compacted_between_deliveries(rt: HostRuntime) {
+    let mut core = Core::new(rt.alloc());
+    let _ = done(&mut core, put_a());
+    let _ = done(&mut core, watch_a(2));
+    let _ = done(&mut core, watch_a(0));
+    let _ = done(&mut core, put_a());
+    let _ = done(&mut core, put_a());
+    let _ = done(&mut core, watch_a(4));
+    let before = told(&mut core, 2);
+    let compacted = [done(&mut core, compact(4)), done(&mut core, compact(4))];
+    let at_compaction = three_told(&mut core);
+    let _ = done(&mut core, put_a());
+    let behind_it = three_told(&mut core);
+    drop(core);
+    assert_eq!(rt; before, Ok(Some((3, Some(2)))));
+    assert_eq!(rt;
+        compacted,
+        [Ok((4, None, true)), Err(Refusal::Compacted(4))]
+    );
+    assert_eq!(rt;
+        at_compaction,
+        [Ok(Some((0, Some(4)))), Ok(None), Ok(Some((4, None)))]
+    );
+    assert_eq!(rt;
+        behind_it,
+        [
+            Err(Refusal::NoWatch),
+            Ok(Some((5, Some(4)))),
+            Ok(Some((5, Some(4))))
+        ]
+    );
+}
+
+fn at(main: u64) -> Rev {
+    Rev { main, sub: 0 }
+}
+
+/// A step of trimming, and by how much it raised the stamp.
+fn stepped(core: &mut Core) -> (Trim, u64) {
+    let before = core.stamp();
+    let trim = core.trim_step();
+    (trim, core.stamp().wrapping_sub(before))
+}
+
+#[test]
+fn a_core_is_trimmed_step_by_step(rt: HostRuntime) {
+    let mut core = Core::new(rt.alloc());
+    let _ = done(&mut core, put_a());
+    let _ = done(&mut core, put_a());
+    let _ = done(&mut core, put_a());
+    let fresh = stepped(&mut core);
+    let _ = done(&mut core, compact(3));
+    let steps = [stepped(&mut core), stepped(&mut core), stepped(&mut core)];
+    let kept = core.status().versions;
+    drop(core);
+    assert_eq!(rt; fresh, (Trim::Done(3), 0));
+    assert_eq!(rt;
+        steps,
+        [
+            (Trim::Removed(at(2)), 1),
+            (Trim::Kept(at(3)), 0),
+            (Trim::Done(2), 0)
+        ]
+    );
+    assert_eq!(rt; kept, 2);
 }

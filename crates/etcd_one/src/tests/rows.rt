@@ -157,7 +157,7 @@ const LINES: [Row; 7] = [
     ),
     (
         &[(
-            "POST\npost /v3/kv/range {}\n POST /v3/kv/range {}\nGET /\nCERTIFY\nAT\nWATCH 1\n\r\n",
+            "POST\npost /v3/kv/range {}\n POST /v3/kv/range {}\nGET /\nCERTIFY 1\nAT\nWATCH 1\n\r\n",
             1,
         )],
         &[(BAD_LINE, 8)],

@@ -1,5 +1,5 @@
 //! Bad arguments, and readers and writers that fail.
-use crate::{Args, Fault, arguments, replay};
+use crate::{Args, Fault, Verdict, arguments, check, replay};
 use std::alloc::Global;
 use std::io;
 use std::io::{ErrorKind, Read, Write};
@@ -9,6 +9,9 @@ const SCRIPT: &[u8] = b"POST /v3/nothing {}\nbad\n";
 
 const REPLIES: &[u8] =
     b"404 {\"code\":5,\"error\":\"gateway: no such path\",\"message\":\"gateway: no such path\"}\nbad line\n";
+
+/// What the check of that script says.
+const VERDICT: &[u8] = b"unreadable: line 1\n";
 
 /// Gives one byte a read, is interrupted before each, and fails where it has given `good` bytes.
 #[derive(Drop)]
@@ -116,6 +119,52 @@ fn reads(rt: HostRuntime) {
     assert!(rt; is_read(rt.alloc()));
 }
 
+/// Whether a text that cannot be read to its end gets no verdict.
+fn is_left_unjudged(alloc: Global, good: usize) -> bool {
+    let mut written = Vec::new(alloc);
+    let ended = check(alloc, &mut slow_reader(good), &mut written);
+    matches!(ended, Err(Fault::Read(_))) && written.is_empty()
+}
+
+#[test]
+fn reads_of_a_check(rt: HostRuntime) {
+    for good in 0..=SCRIPT.len() {
+        assert!(rt; is_left_unjudged(rt.alloc(), good), "{good}");
+    }
+}
+
+/// Whether a verdict ends where a write fails, or takes nothing, after these bytes.
+fn is_verdict_cut(alloc: Global, wanted: &[u8], fails: bool) -> bool {
+    let mut text = SCRIPT;
+    let mut out = small_writer(alloc, wanted.len(), fails, true);
+    let ended = check(alloc, &mut text, &mut out);
+    matches!(ended, Err(Fault::Write(_))) && out.got.as_slice() == wanted
+}
+
+/// Whether short writes write the whole verdict.
+fn is_verdict_written(alloc: Global, fails: bool) -> bool {
+    let mut text = SCRIPT;
+    let mut out = small_writer(alloc, VERDICT.len(), fails, true);
+    let ended = check(alloc, &mut text, &mut out);
+    matches!(ended, Ok(Verdict::Unreadable(1))) && out.got.as_slice() == VERDICT
+}
+
+#[test]
+fn writes_of_a_check(rt: HostRuntime) {
+    for good in 0..VERDICT.len() {
+        assert!(rt;
+            is_verdict_cut(rt.alloc(), &VERDICT[..good], true),
+            "{good}"
+        );
+        assert!(rt;
+            is_verdict_cut(rt.alloc(), &VERDICT[..good], false),
+            "{good}"
+        );
+    }
+    assert!(rt; is_verdict_written(rt.alloc(), true));
+    assert!(rt; is_verdict_written(rt.alloc(), false));
+}
+
 /// Whether a script ends where a write fails, or takes nothing, after these bytes, and nothing more
 /// is written.
 fn is_cut_short(alloc: Global, wanted: &[u8], fails: bool) -> bool {
@@ -152,23 +201,24 @@ fn writes(rt: HostRuntime) {
     assert!(rt; is_kept_back(rt.alloc()));
 }
 
-/// `replay` alone is a command.
+/// `replay` and `check`, each alone, are the commands.
 #[test]
 fn command_lines(rt: HostRuntime) -> Result<(), Fail> {
     let alloc = rt.alloc();
-    let bad: [&[&str]; 12] = [
+    let bad: [&[&str]; 13] = [
         &[],
         &[""],
         &["Replay"],
         &["repla"],
         &["serve"],
-        &["check"],
+        &["check", "replay"],
         &["help"],
         &["--help"],
         &["--"],
         &["--", "replay"],
         &["replay", "--"],
         &["replay", "x"],
+        &["check", "--"],
     ];
     for words in bad {
         let ended = arguments(alloc, line_of(alloc, words)?.as_slice());
@@ -176,6 +226,8 @@ fn command_lines(rt: HostRuntime) -> Result<(), Fail> {
     }
     let ended = arguments(alloc, line_of(alloc, &["replay"])?.as_slice());
     assert!(rt; matches!(ended, Ok(Args::Replay)));
+    let ended = arguments(alloc, line_of(alloc, &["check"])?.as_slice());
+    assert!(rt; matches!(ended, Ok(Args::Check)));
     Ok(())
 }
 

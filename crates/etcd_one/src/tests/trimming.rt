@@ -34,7 +34,8 @@ fn a_tombstone_goes(rt: HostRuntime) {
     assert_eq!(rt; first_wrong(rt.alloc(), &A_TOMBSTONE), None);
 }
 
-/// Trimming starts over at a second Compact.
+/// Trimming starts over at a second Compact. A Compact at or below the last one is refused, and so
+/// is one above the present revision.
 const A_SECOND_COMPACT: [Row; 1] = [(
     &[(
         "POST /v3/kv/put {\"key\":\"YQ==\",\"value\":\"MQ==\"}\n\
@@ -56,6 +57,10 @@ TRIM\n\
 TRIM\n\
 TRIM\n\
 TRIM\n\
+TRIM\n\
+POST /v3/kv/compaction {\"revision\":\"4\"}\n\
+POST /v3/kv/compaction {\"revision\":\"9\"}\n\
+POST /v3/kv/compaction {\"revision\":\"99\"}\n\
 TRIM\n",
         1,
     )],
@@ -79,6 +84,10 @@ removed 6.0\n\
 kept 7.0\n\
 kept 8.0\n\
 kept 9.0\n\
+done 3\n\
+400 {\"code\":11,\"error\":\"etcdserver: mvcc: required revision has been compacted\",\"message\":\"etcdserver: mvcc: required revision has been compacted\"}\n\
+400 {\"code\":11,\"error\":\"etcdserver: mvcc: required revision has been compacted\",\"message\":\"etcdserver: mvcc: required revision has been compacted\"}\n\
+400 {\"code\":11,\"error\":\"etcdserver: mvcc: required revision is a future revision\",\"message\":\"etcdserver: mvcc: required revision is a future revision\"}\n\
 done 3\n",
         1,
     )],

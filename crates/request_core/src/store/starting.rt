@@ -42,3 +42,9 @@ fn first_put(alloc: Global, main: u64) -> Result<Vec<Version>, AllocError>
     })?;
     Ok(versions)
 }
+
+/// How many pairs of a lease the index of leases has. `AllocError` where no memory is found for
+/// their list.
+pub fn pairs_of(core: &Core, lease: i64) -> Result<usize, AllocError> {
+    Ok(core.keys.keys_of(lease)?.len())
+}

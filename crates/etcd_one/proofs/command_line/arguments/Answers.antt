@@ -1,20 +1,36 @@
-use Rattle.std.proofs.Common.{◌≡◌, ◌∙◌, [], map, string_bytes, length, ap, sym}
+use Rattle.std.proofs.Common.{◌≡◌, ◌∙◌, Ok, map, string_bytes, ap, sym, subst}
 use Rattle.std.proofs.lemmas.List.{length-map}
-use Rattle.clap.specs.Faults.{fault_of, is_simple_and_free}
+use Rattle.std.specs.Prelude.{IfOk, IfErr, Result}
 use Rattle.clap.specs.Simple.{App}
 use Rattle.clap.specs.Takes.{takes}
-use Rattle.etcd_one.proofs.CommandLine.{is_plain, is_replay, is_taken}
-use Rattle.etcd_one.specs.Arguments.{program}
+use Rattle.etcd_one.proofs.CommandLine.{is_answered, is_taken}
+use Rattle.etcd_one.specs.declared.command_line.Args.{Args}
+use Rattle.etcd_one.specs.declared.fault.Fault.{Fault}
+use Rattle.etcd_one.specs.declared.fault.Fault.TheVariants as fault
+use Rattle.etcd_one.specs.Arguments.{IsCommand, IsNoCommand}
 use Rattle.etcd_one.proofs.command_line.arguments.Goals as goal
 
 pub returns-in-Ok-try_get_matches_from-clause-ok : goal.returns-in-Ok-try_get_matches_from-clause-ok
 returns-in-Ok-try_get_matches_from-clause-ok c =
     let words = map string_bytes c.args.words.now in
-    let two : length words ≡ 2 = length-map c.args.words.now string_bytes ∙ c.if-words-ne2.false in
-    let none : fault_of program words ≡ [] = sym (ap (λ (a : App). fault_of a words) c.in-Ok.ensures)
-    ∙ c.in-Ok-try_get_matches_from.ensures.kinds (ap is_simple_and_free c.in-Ok.ensures ∙ is_plain) in
-    λ _. is_replay words two none
+    let (command, is, named) = is_answered words _ _ c.in-Ok.ensures (length-map c.args.words.now string_bytes ∙ c.if-words-ne2.false)
+    c.in-Ok-try_get_matches_from.ensures.matches c.in-Ok-try_get_matches_from.ensures.kinds in
+    subst (λ (r : Result Args Fault). IfOk r (IsCommand words)) (sym (c.asked.ensures command (c.subcommand_name.ensures ∙ named))) is
 
-pub returns-clause-replay : goal.returns-clause-replay
-returns-clause-replay c = λ r. c.fault_of.ensures.replay
-    (c.in-Err.ensures.passes (ap (λ (a : App). takes a (map string_bytes c.args.words.now)) c.in-Ok.ensures ∙ is_taken _ r)) r
+pub returns-in-Ok-try_get_matches_from-clause-memory : goal.returns-in-Ok-try_get_matches_from-clause-memory
+returns-in-Ok-try_get_matches_from-clause-memory c =
+    let words = map string_bytes c.args.words.now in
+    let (command, is, named) = is_answered words _ _ c.in-Ok.ensures (length-map c.args.words.now string_bytes ∙ c.if-words-ne2.false)
+    c.in-Ok-try_get_matches_from.ensures.matches c.in-Ok-try_get_matches_from.ensures.kinds in
+    subst (λ (r : Result Args Fault). IfErr r (λ f. (a : Args) → IsCommand words a → f ≡ fault.Memory)) (sym (c.asked.ensures command (c.subcommand_name.ensures ∙ named))) tt
+
+pub returns-in-Ok-try_get_matches_from-clause-other : goal.returns-in-Ok-try_get_matches_from-clause-other
+returns-in-Ok-try_get_matches_from-clause-other c =
+    let words = map string_bytes c.args.words.now in
+    let (command, is, named) = is_answered words _ _ c.in-Ok.ensures (length-map c.args.words.now string_bytes ∙ c.if-words-ne2.false)
+    c.in-Ok-try_get_matches_from.ensures.matches c.in-Ok-try_get_matches_from.ensures.kinds in
+    subst (λ (r : Result Args Fault). IfErr r (λ f. IsNoCommand words → f ≡ fault.Arguments)) (sym (c.asked.ensures command (c.subcommand_name.ensures ∙ named))) tt
+
+pub returns-in-Err-clause-memory : goal.returns-in-Err-clause-memory
+returns-in-Err-clause-memory c = λ command is. c.fault_of.ensures.memory
+    (c.in-Err.ensures.passes (ap (λ (a : App). takes a (map string_bytes c.args.words.now)) c.in-Ok.ensures ∙ is_taken _ command is)) command is

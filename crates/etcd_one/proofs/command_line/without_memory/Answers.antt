@@ -1,13 +1,13 @@
-use Rattle.std.proofs.Common.{◌≡◌, ◌∙◌, string_bytes, codes, length, ap, sym, arith}
-use Rattle.std.proofs.lemmas.Slice.Eq.{bytes_eq-Decides}
-use Rattle.etcd_one.proofs.CommandLine.{are_replay}
+use Rattle.std.proofs.Common.{◌≡◌, ◌∙◌, string_bytes, length, ap, sym, arith}
+use Rattle.etcd_one.specs.Arguments.{word_of}
+use Rattle.etcd_one.proofs.CommandLine.{are_command, some_named}
 use Rattle.etcd_one.proofs.command_line.without_memory.Goals as goal
 
 pub returns-in-len2-clause-other : goal.returns-in-len2-clause-other
-returns-in-len2-clause-other c = λ not_replay.
-    let word : c.as_str.result.now ≡ codes "replay" = (bytes_eq-Decides c.as_str.result.now (codes "replay")).0 (sym c.if-eq.ensures) in
-    let same : string_bytes c.word-item.result ≡ codes "replay" = sym c.as_str.ensures.value ∙ word in
+returns-in-len2-clause-other c = λ none.
+    let (command, word) = some_named c.named.result _ c.as_str.result.now c.named.ensures (sym c.is_some.ensures ∙ c.if-is_some.true) in
+    let same : string_bytes c.word-item.result ≡ word_of command = sym c.as_str.ensures.value ∙ word in
     let least = c.in-len2.len_at_least in
     let below = c.in-len2.len_below in
     let two : length c.args.words.now ≡ 2 = omega (arith, least, below) in
-    absurd (not_replay (are_replay string_bytes c.args.words.now c.word-item.result two (sym (ap string_bytes c.word-item.is) ∙ same)))
+    absurd (none command (are_command string_bytes c.args.words.now c.word-item.result command two (sym (ap string_bytes c.word-item.is) ∙ same)))

@@ -28,3 +28,8 @@ returns-in-Moment-clause-steps c = λ w h.
     subst (λ (e : WireEvent). Steps c.args.ids.now w (event_view e) (said (WireTold.clock c.moment.result)) c.args.core.now c.moment.new.self)
     (sym c.in-Moment.is) (moment_steps c.args.ids.now w c.in-Moment.now c.moment.result c.args.core.now c.moment.new.self
     c.moment.ensures.made after.0 after.1)
+
+pub returns-in-Certify-clause-steps : goal.returns-in-Certify-clause-steps
+returns-in-Certify-clause-steps c = λ w h.
+    subst (λ (e : WireEvent). Steps c.args.ids.now w (event_view e) (outcome_view c.step_certify.result) c.args.core.now c.args.core.now)
+    (sym c.in-Certify.is) (c.step_certify.ensures.steps c.args.ids.now w h)

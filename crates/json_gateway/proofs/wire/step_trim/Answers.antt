@@ -3,4 +3,5 @@ use Rattle.json_gateway.proofs.wire.step_trim.Goals as goal
 
 pub returns-clause-steps : goal.returns-clause-steps
 returns-clause-steps c = λ ids w h.
-    trim_steps ids w c.trim_step.result c.args.core.now c.trim_step.new.self (c.trim_step.ensures.trims w h)
+    trim_steps ids w c.trim_step-trim.result c.certificate_where-certificate.result c.args.core.now c.trim_step-trim.new.self c.trim_step-trim.ensures
+    c.certificate_where-certificate.ensures h

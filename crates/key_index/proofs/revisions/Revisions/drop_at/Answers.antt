@@ -4,6 +4,8 @@ use Rattle.store_laws.proofs.Rising.{rising-filter}
 use Rattle.key_index.specs.KeyRevisions.{is_rev}
 use Rattle.key_index.proofs.revisions.Revisions.drop_at.Goals as goal
 
-pub invariant_of-self-in-Many : goal.invariant_of-self-in-Many
-invariant_of-self-in-Many c =
-    rw c.drop_at.ensures (rising-filter (λ q. q) (λ q. not (is_rev c.args.rev q)) _ (rw c.in-Many.is at c.self.invariant))
+pub invariant_of-self : goal.invariant_of-self
+invariant_of-self c = (
+  rw (c.settle.ensures.same, c.drop_at.ensures) (rising-filter (λ q. q) (λ q. not (is_rev c.args.rev q)) _ c.self.invariant.0),
+  c.settle.ensures.settled,
+)

@@ -2,5 +2,8 @@
 use Rattle.key_index.proofs.KeyRevisions.{rising-undone}
 use Rattle.key_index.proofs.revisions.Revisions.undo.Goals as goal
 
-pub invariant_of-self-in-Many : goal.invariant_of-self-in-Many
-invariant_of-self-in-Many c = rw c.undo.ensures (rising-undone c.args.main _ (rw c.in-Many.is at c.self.invariant))
+pub invariant_of-self : goal.invariant_of-self
+invariant_of-self c = (
+  rw (c.settle.ensures.same, c.undo.ensures) (rising-undone c.args.main _ c.self.invariant.0),
+  c.settle.ensures.settled,
+)

@@ -1,0 +1,11 @@
+pub mod Digits
+pub mod Base64
+pub mod Cuts
+pub mod FieldLaws
+pub mod LineLaws
+pub mod Walks
+pub mod WalkLaws
+pub mod TextLaws
+pub mod LinesLaws
+pub mod ReadLaws
+pub mod Written

@@ -1,0 +1,37 @@
+-- Reading a text: what it gives, the line that it names, and that texts are read.
+use Rattle.std.proofs.Common.{◌≡◌, ℕ, ◌+◌, ◌-◌, List, length, Result, Ok, Err, sym, ap, ◌∙◌}
+use Rattle.kv_model.specs.Dumps.{Dump, Claim}
+use Rattle.certificate_text.specs.declared.reading.Unreadable.{Unreadable}
+use Rattle.certificate_text.specs.declared.reading.Unreadable.TheVariants as unreadable
+use Rattle.certificate_text.specs.Lines.{lines_of, IsTextOf, IsFirstUnreadable}
+use Rattle.certificate_text.specs.Outcomes.{ReadsBack}
+use Rattle.certificate_text.specs.Texts.{AreInLimits}
+use Rattle.certificate_text.specs.Walking.{text_read}
+use Rattle.certificate_text.proofs.LinesLaws.{lines_of_text, text_of_lines, line_number}
+use Rattle.certificate_text.proofs.TextLaws.{text_takes, text_again, text_stops}
+
+pub read_is : (text : List ℕ) (r : Dump × List Claim) → text_read (lines_of text) ≡ Ok r → IsTextOf text r.0 r.1 × AreInLimits r.0 r.1
+read_is text r e =
+    let found = text_takes (lines_of text) r.0 r.1 e in
+    (text_of_lines text r.0 r.1 found.0, found.1)
+
+pub refused_at : (text : List ℕ) (rest : List (List ℕ)) (n : ℕ) → text_read (lines_of text) ≡ Err rest → n ≡ length (lines_of text) - length rest + 1
+    → IsFirstUnreadable (lines_of text) n
+refused_at text rest n e is =
+    let at = text_stops (lines_of text) rest e in
+    (at.0, rest, at.1, is ∙ line_number (lines_of text) at.0 rest at.1, at.2, at.3)
+
+pub reads_text : (text : List ℕ) (d : Dump) (claims : List Claim) → AreInLimits d claims → IsTextOf text d claims → text_read (lines_of text) ≡ Ok (d, claims)
+reads_text text d claims limits is = ap text_read (lines_of_text text d claims limits is) ∙ text_again d claims limits
+
+pub back_ok : (text : List ℕ) (r : Dump × List Claim) (d : Dump) (claims : List Claim) → text_read (lines_of text) ≡ Ok r → AreInLimits d claims → IsTextOf text d claims
+    → (r.0 ≡ d) × (r.1 ≡ claims)
+back_ok text r d claims e limits is =
+    let same : r ≡ (d, claims) = cc (sym e ∙ reads_text text d claims limits is) in
+    (ap (λ p. p.0) same, ap (λ p. p.1) same)
+
+pub back_err : (text : List ℕ) (rest : List (List ℕ)) (n : ℕ) (d : Dump) (claims : List Claim) → text_read (lines_of text) ≡ Err rest → AreInLimits d claims → IsTextOf text d claims
+    → unreadable.Line n ≡ unreadable.Memory
+back_err text rest n d claims e limits is =
+    let bad : Err rest ≡ Ok (d, claims) = sym e ∙ reads_text text d claims limits is in
+    cc bad

@@ -1,0 +1,122 @@
+-- What a command and a step of expiry do to the revision, and that the core goes on standing for a world.
+use Rattle.std.proofs.Common.{◌≡◌, ◌≤◌, inl, inr, ℕ, ◌+◌, Bool, true, false, cond, Option, None, Some, Result, Ok, Err, refl, sym, ◌∙◌, ap, subst, arith}
+use Rattle.std.specs.Prelude.{is_some, IfOk, IfErr}
+use Rattle.kv_model.specs.declared.refusal.Refusal.{Refusal}
+use Rattle.kv_model.specs.declared.ids.Ids.{Ids}
+use Rattle.kv_model.specs.Calls.{Call}
+use Rattle.kv_model.specs.Answers.{Response}
+use Rattle.kv_model.specs.World.{World, at_moment, revision}
+use Rattle.kv_model.specs.Told as told
+use Rattle.kv_model.specs.Step.{Made, made_in, perform, expire, world_of}
+use Rattle.kv_model.specs.Wire.{Loss, IsChange, raised}
+use Rattle.store_laws.specs.Growth.{RaisesByOne, says_raised}
+use Rattle.store_laws.specs.Stands.{StandsFor}
+use Rattle.store_laws.proofs.RaiseLaws.{command_raises, expiry_raises, expiry_tells}
+use Rattle.request_core.specs.State.{CoreState, after_moment}
+use Rattle.request_core.specs.Answers.{expiry_view}
+use Rattle.request_core.specs.Commands.{Expires, RefusesExpiry}
+use Rattle.request_core.specs.declared.answer.Expiry.{Expiry}
+use Rattle.request_core.specs.declared.answer.Expiry.TheVariants as expiry
+use Rattle.json_gateway.specs.declared.outcome.Settled.{Settled}
+use Rattle.json_gateway.specs.declared.outcome.Settled.TheVariants as settled
+use Rattle.json_gateway.specs.declared.outcome.Outcome.{Outcome}
+use Rattle.json_gateway.specs.Endings.{EndsAs}
+use Rattle.json_gateway.specs.Outcomes.{is_accepted}
+use Rattle.engine_lock.specs.Locked.{Enters, IsStanding, IsLocked, MakesExpiry, Performs, Submits, SubmitsExpiry}
+use Rattle.engine_lock.specs.Locked.{rise, rise_of_step, rise_of_expiry}
+
+pub record Counted (old new : CoreState) (up : ℕ) : Type 0 where
+  pub stands : IsStanding new
+  pub rose : new.store.revision ≡ old.store.revision + up
+
+-- what is told of the revision is what it rose by
+rise_is : (w u : World) (up : Option ℕ) → RaisesByOne w u → up ≡ raised w u → revision u ≡ revision w + rise up
+rise_is w u up (inl h) e = rw (e ∙ h.1) (h.0 ∙ omega arith)
+rise_is w u up (inr h) e = rw (e ∙ h.1) h.0
+
+stepped : (old new : CoreState) (w u : World) (up : Option ℕ) → StandsFor old.store w → StandsFor new.store u → RaisesByOne w u
+    → up ≡ raised w u → Counted old new (rise up)
+stepped old new w u up h k s e = record {
+  stands = (u, k);
+  rose = k.revision_is ∙ rise_is w u up s e ∙ ap (λ r. r + rise up) (sym h.revision_is);
+}
+
+stayed : (old new : CoreState) (w : World) (up : Option ℕ) → StandsFor old.store w → new ≡ old → up ≡ None → Counted old new (rise up)
+stayed old new w up h same none = record {
+  stands = (w, subst (λ (s : CoreState). StandsFor s.store w) (sym same) h);
+  rose = ap (λ (s : CoreState). s.store.revision) same ∙ rw none (omega arith);
+}
+
+lost_raised : (w : World) (call : Call) (l : Loss) (made : Made) → IsChange w call l made → l.raised ≡ raised w (world_of w made)
+lost_raised w call l (Ok made) h = ap (λ (x : Loss). x.raised) h.1
+lost_raised w call l (Err e) h = absurd h
+
+-- ---- commands
+
+pub ended : (s : Settled) (up watch : Option ℕ) (old new : CoreState) (w : World) (call : Call) (said : Response) → StandsFor old.store w
+    → EndsAs s up watch old new w said (perform w call).1 (λ l. IsChange w call l (made_in w call))
+    → (is_accepted s ≡ false → (up ≡ None) × (watch ≡ None)) → Counted old new (rise up)
+ended (settled.Reply r) up watch old new w call said h e bare = stepped old new w (perform w call).1 up h e.3 (command_raises w call) e.1
+ended settled.Memory up watch old new w call said h e bare = stayed old new w up h e (bare refl).0
+ended (settled.Lost revision) up watch old new w call said h e bare =
+    stepped old new w (perform w call).1 up h e.1 (command_raises w call) (lost_raised w call _ (made_in w call) e.0)
+
+-- ---- expiry
+
+abbrev one_if : Bool → ℕ
+one_if b = cond b 1 0
+
+viewed : (e : Expiry) → rise_of_step e ≡ one_if (says_raised (expiry_view e))
+viewed expiry.Nothing = refl
+viewed (expiry.Expired id r b) = refl
+
+rise_of : (o : Option ℕ) → rise o ≡ one_if (is_some o)
+rise_of None = refl
+rise_of (Some r) = refl
+
+pub expired : (e : Expiry) (old new : CoreState) (w : World) → StandsFor old.store w → Expires old new e → Counted old new (rise_of_step e)
+expired e old new w h x =
+    let in_world = x.expired w h in
+    let told_is : rise_of_step e ≡ rise (raised w (expire w).1)
+    = viewed e ∙ ap (λ t. one_if (says_raised t)) in_world.tells ∙ ap one_if (expiry_tells w) ∙ sym (rise_of (raised w (expire w).1)) in
+    subst (λ n. Counted old new n) (sym told_is)
+    (stepped old new w (expire w).1 (raised w (expire w).1) h in_world.stands (expiry_raises w) refl)
+
+pub made : (r : Result Expiry Refusal) (old new : CoreState) (w : World) → StandsFor old.store w → IfOk r (λ e. Expires old new e)
+    → IfErr r (λ e. RefusesExpiry old new e) → Counted old new (rise_of_expiry r)
+made (Ok e) old new w h done refused = expired e old new w h done
+made (Err e) old new w h done refused = record {
+  stands = (w, subst (λ (s : CoreState). StandsFor s.store w) (sym refused.kept) h);
+  rose = ap (λ (s : CoreState). s.store.revision) refused.kept ∙ omega arith;
+}
+
+-- ---- what a holding tells
+
+entered : (made now total : ℕ) (old mid : CoreState) → IsLocked old total → made ≤ total → mid ≡ after_moment old now
+    → ((w : World) → StandsFor old.store w → StandsFor mid.store (at_moment w now)) → Enters made now old
+entered made now total old mid locked most same stands = record {
+  world = locked.0.0;
+  stood = locked.0.1;
+  seen = omega (arith, most, locked.1);
+  moment = subst (λ (s : CoreState). StandsFor s.store (at_moment locked.0.0 now)) same (stands locked.0.0 locked.0.1);
+}
+
+pub submitted : (ids : Ids) (made now total : ℕ) (call : Call) (old mid new : CoreState) (o : Outcome) → IsLocked old total → made ≤ total
+    → mid ≡ after_moment old now → ((w : World) → StandsFor old.store w → StandsFor mid.store (at_moment w now))
+    → Performs ids call mid new o → Submits ids made now call o
+submitted ids made now total call old mid new o locked most same stands performs = record {
+  old = old;
+  new = new;
+  enters = entered made now total old mid locked most same stands;
+  performs = subst (λ s. Performs ids call s new o) same performs;
+}
+
+pub submitted_expiry : (made now total : ℕ) (old mid new : CoreState) (r : Result Expiry Refusal) → IsLocked old total → made ≤ total
+    → mid ≡ after_moment old now → ((w : World) → StandsFor old.store w → StandsFor mid.store (at_moment w now))
+    → MakesExpiry mid new r → SubmitsExpiry made now r
+submitted_expiry made now total old mid new r locked most same stands makes = record {
+  old = old;
+  new = new;
+  enters = entered made now total old mid locked most same stands;
+  makes = subst (λ s. MakesExpiry s new r) same makes;
+}

@@ -1,0 +1,133 @@
+-- What the lock of an engine keeps, and what is done with its core in one holding.
+use Rattle.std.specs.Prelude.{◌≡◌, ◌≤◌, ℕ, ◌+◌, Bool, true, false, Option, None, Some, Result, Ok, Err}
+use Rattle.std.specs.Prelude.{if◌then◌else◌, is_some}
+use Rattle.kv_model.specs.declared.ids.Ids.{Ids}
+use Rattle.kv_model.specs.declared.refusal.Refusal.{Refusal}
+use Rattle.kv_model.specs.Answers.{response_to}
+use Rattle.kv_model.specs.Calls.{Call}
+use Rattle.kv_model.specs.Step.{made_in, perform}
+use Rattle.kv_model.specs.Wire.{IsChange, deliver, is_physical_call, wire_step}
+use Rattle.kv_model.specs.World.{World, at_moment, watch_at, without_watch}
+use Rattle.store_laws.specs.Stands.{StandsFor}
+use Rattle.trim_core.specs.declared.trimmer.Trim.{Trim}
+use Rattle.request_core.specs.declared.answer.Expiry.{Expiry}
+use Rattle.request_core.specs.declared.answer.Expiry.TheVariants as expiry
+use Rattle.request_core.specs.Commands.{Expires, RefusesExpiry, TrimsOnce}
+use Rattle.request_core.specs.State.{CoreState, after_moment}
+use Rattle.json_gateway.specs.declared.outcome.Message.{Message}
+use Rattle.json_gateway.specs.declared.outcome.Outcome.{Outcome}
+use Rattle.json_gateway.specs.Endings.{Ends, IsCounted, KeepsAs, is_change}
+use Rattle.json_gateway.specs.Outcomes.{IsBare, is_accepted}
+use Rattle.json_gateway.specs.Runs.{message_view}
+
+-- ---- what the lock keeps
+
+-- the core stands for some world
+abbrev pub IsStanding : CoreState → Type 0
+IsStanding core = (w : World) × StandsFor core.store w
+
+-- whenever the lock is free: besides, the revision is 1 plus the changes that all clients made
+abbrev pub IsLocked : CoreState → ℕ → Type 0
+IsLocked core total = IsStanding core × (core.store.revision ≡ 1 + total)
+
+-- ---- what clauses see
+
+-- of what an engine is opened with: which ledger it is, and into how many parts its shares are cut
+pub record Opened : Type 0 where
+  pub name : ℕ
+  pub parts : ℕ
+
+-- of a client: how many changes it made
+pub record Caller : Type 0 where
+  pub made : ℕ
+
+-- of what stands under the lock: the core, and how many clients were made
+pub record LockState : Type 0 where
+  pub core : CoreState
+  pub clients : ℕ
+
+-- ---- what a share rises by
+
+-- by a command that says this of the revision
+abbrev pub rise : Option ℕ → ℕ
+rise None = 0
+rise (Some r) = 1
+
+-- by a step of expiry
+abbrev pub rise_of_step : Expiry → ℕ
+rise_of_step expiry.Nothing = 0
+rise_of_step (expiry.Expired id revision raised) = if raised then 1 else 0
+
+abbrev pub rise_of_expiry : Result Expiry Refusal → ℕ
+rise_of_expiry (Ok e) = rise_of_step e
+rise_of_expiry (Err e) = 0
+
+-- ---- one holding, by the core before it and the core after it
+
+-- A command was done, and this is its outcome: all that `json_gateway::perform` says.
+pub record Performs (ids : Ids) (call : Call) (old new : CoreState) (o : Outcome) : Type 0 where
+  -- in each world that the core stood for, it is what the model does and answers, by these ids
+  pub ends : (w : World) → StandsFor old.store w
+      → Ends o old new w (response_to ids (perform w call).0) (perform w call).1 (λ l. IsChange w call l (made_in w call))
+  -- what is not accepted changes nothing, and tells neither a revision nor a watch
+  pub unchanged : is_accepted o.settled ≡ false → new ≡ old
+  pub bare : IsBare o
+  -- what is accepted is counted where it is a change, and else changes nothing either
+  pub counted : (w : World) → StandsFor old.store w → is_accepted o.settled ≡ true
+      → IsCounted (is_change w call (made_in w call)) old new
+  -- what is kept
+  pub keeps : (w : World) → StandsFor old.store w → KeepsAs o.settled old new w (perform w call).1
+  -- whether its answer waits for trimming
+  pub ready : is_accepted o.settled ≡ false → o.waits ≡ false
+  pub waits : (w : World) → StandsFor old.store w → is_accepted o.settled ≡ true → o.waits ≡ is_physical_call w (Ok call)
+
+-- a step of expiry was made, and this is what it tells
+abbrev pub MakesExpiry : CoreState → CoreState → Result Expiry Refusal → Type 0
+MakesExpiry old new (Ok e) = Expires old new e
+MakesExpiry old new (Err e) = RefusesExpiry old new e
+
+-- the watch of this number was told so, in each world that the core stood for, and has gone on behind that
+pub record TellsFrom (ids : Ids) (number : ℕ) (old new : CoreState) (m : Message) : Type 0 where
+  pub told : (w : World) → StandsFor old.store w → message_view m ≡ (wire_step ids w (deliver number)).0
+  pub stands : (w : World) → StandsFor old.store w → StandsFor new.store (wire_step ids w (deliver number)).1
+
+-- the watch of this number was ended, if there was one
+pub record EndsWatch (number : ℕ) (old new : CoreState) (stood : Bool) : Type 0 where
+  pub told : (w : World) → StandsFor old.store w → stood ≡ is_some (watch_at w.watches number)
+  pub stands : (w : World) → StandsFor old.store w
+      → StandsFor new.store (record w { watches = without_watch number w.watches })
+
+-- ---- one holding, by what it tells whoever has no lock
+
+-- A moment was handed in, on a core that stood for a world and that had all the changes that the client had made: the
+-- core then stands for the world at that moment.
+pub record Enters (made now : ℕ) (old : CoreState) : Type 0 where
+  pub world : World
+  pub stood : StandsFor old.store world
+  pub seen : 1 + made ≤ old.store.revision
+  pub moment : StandsFor (after_moment old now).store (at_moment world now)
+
+-- and then the command was done, in the same holding
+pub record Submits (ids : Ids) (made now : ℕ) (call : Call) (o : Outcome) : Type 0 where
+  pub old : CoreState
+  pub new : CoreState
+  pub enters : Enters made now old
+  pub performs : Performs ids call (after_moment old now) new o
+
+-- or the step of expiry was made
+pub record SubmitsExpiry (made now : ℕ) (r : Result Expiry Refusal) : Type 0 where
+  pub old : CoreState
+  pub new : CoreState
+  pub enters : Enters made now old
+  pub makes : MakesExpiry (after_moment old now) new r
+
+-- the watch of this number is told so in some world
+abbrev pub Tells : Ids → ℕ → Message → Type 0
+Tells ids number m = (w : World) × (message_view m ≡ (wire_step ids w (deliver number)).0)
+
+-- a trimming step of some core that stood for a world tells so
+pub record Trims (t : Trim) : Type 0 where
+  pub old : CoreState
+  pub new : CoreState
+  pub stood : IsStanding old
+  pub trims : TrimsOnce old new t

@@ -1,0 +1,48 @@
+//! A core under a lock, for any number of threads, and how many changes each of its clients made.
+//!
+//! An [`Engine`] has a core of `request_core` behind a lock, with the book of a ledger beside it.
+//! Each [`Client`] holds a share of the ledger: the number of changes that it made. The one
+//! contract is what the lock keeps: whenever it is free, the core stands for some world of the
+//! model, and its revision is 1 plus the changes of all clients (`IsLocked` in
+//! `specs/Locked.antt`). A share rises by one exactly at a result that says `raised`, so
+//! [`Engine::close`], which asks for all clients, gives back a core whose revision is 1 plus the
+//! sum of their shares.
+//!
+//! One holding of the lock makes one event: [`Engine::submit`] hands in the moment and does the
+//! command, [`Engine::expire_once`] hands in the moment and makes a step of expiry,
+//! [`Engine::deliver`], [`Engine::drop_watch`] and [`Engine::trim_once`] are an event each. For
+//! example, where `a` and `b` are two clients:
+//!
+//! ```text
+//!                             core                       shares of a, b    the book's total
+//! new                         revision 1                                   0
+//! client, client                                         0, 0              0
+//! submit of a: put a = 1      revision 2, raised         1, 0              1
+//! submit of b: range a        revision 2                 1, 0              1
+//! submit of b: put a = 2      revision 3, raised         1, 1              2
+//! close with a                Missing: b did not come back
+//! close with a, b             the core, at revision 3
+//! ```
+//!
+//! Which engine a client is of is told by its type: `L` names the ledger ([`EngineName`]). It is
+//! picked where a function generic in `L` is called with `Brand`, and engine and clients live
+//! inside that function. `F` is what readers beside the writer are told of ([`Feed`]), nothing
+//! today.
+//!
+//! The tests stand in the crate `engine_tests`.
+#![tactic(auto)]
+
+mod client;
+mod closing;
+pub mod engine;
+pub mod opening;
+mod state;
+mod steps;
+
+pub use client::Client;
+pub use closing::CloseFault;
+pub use engine::{Engine, Submitted};
+pub use opening::{EngineName, Feed, NoFeed, Opening};
+
+/// How many clients one engine makes in its life.
+pub const MOST_CLIENTS: u64 = 64;

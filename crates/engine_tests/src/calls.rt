@@ -1,0 +1,192 @@
+//! The calls of an engine, each by itself.
+ghost use Rattle.std.specs.Prelude.{◌≡◌};
+
+use crate::lock_replies::ONES;
+use engine_lock::{Client, CloseFault, Engine, EngineName, MOST_CLIENTS, NoFeed, Opening};
+use json_gateway::{Expiry, Message, Refusal, Trim, read};
+use std::alloc::Global;
+use std::marker::Brand;
+use std::sync::Wait;
+
+/// So many clients are made, where all of them stay.
+fn made<L: EngineName, R: Wait>(
+    rt: &R,
+    alloc: Global,
+    opening: Opening<NoFeed>,
+) -> (usize, Option<Refusal>)
+    requires name { opening.name ≡ L.Ledger.name }
+    requires parts { opening.parts ≡ L.Ledger.parts }
+{
+    let Ok(engine) = Engine::<L, NoFeed>::new(alloc, opening, ONES) else {
+        return (0, None);
+    };
+    let mut clients = Vec::new(alloc);
+    for _ in 0..=MOST_CLIENTS {
+        match engine.client(rt) {
+            Ok(client) => {
+                let _ = clients.push(client);
+            }
+            Err(refusal) => return (clients.len(), Some(refusal)),
+        }
+    }
+    (clients.len(), None)
+}
+
+fn run_made<R: Wait>(rt: &R, alloc: Global) -> (usize, Option<Refusal>) {
+    made::<Brand, R>(rt, alloc, Opening::new(NoFeed))
+}
+
+#[test]
+fn the_client_after_64_has_no_place(rt: HostRuntime) {
+    assert_eq!(rt; run_made(&rt, rt.alloc()), (64, Some(Refusal::NoPlace)));
+}
+
+/// A request's status, on an engine.
+fn posted<L: EngineName, R: Wait>(
+    rt: &R,
+    alloc: Global,
+    engine: &Engine<L, NoFeed>,
+    client: &mut Client<L, NoFeed>,
+    path: &[u8],
+    body: &[u8],
+) -> u16 {
+    let Ok(command) = read(alloc, path, body) else {
+        return 0;
+    };
+    engine
+        .submit(rt, client, 1000, &command)
+        .outcome
+        .settled
+        .wire()
+        .0
+}
+
+/// What each call says, where a watch is told of one put, and ended; a lease of the second key
+/// expires.
+#[derive(Debug, Drop, PartialEq, Eq)]
+struct Said {
+    is_told: bool,
+    is_quiet: bool,
+    ends: (Result<(), Refusal>, Result<(), Refusal>),
+    trims: Result<Trim, Refusal>,
+    expires: Result<Expiry, Refusal>,
+    share: u64,
+}
+
+fn call_each<L: EngineName, R: Wait>(
+    rt: &R,
+    alloc: Global,
+    engine: &Engine<L, NoFeed>,
+    client: &mut Client<L, NoFeed>,
+) -> Said {
+    let watch = b"{\"create_request\":{\"key\":\"YQ==\"}}";
+    let _watched = posted(rt, alloc, engine, client, b"/v3/watch", watch);
+    let _put = posted(
+        rt,
+        alloc,
+        engine,
+        client,
+        b"/v3/kv/put",
+        b"{\"key\":\"YQ==\"}",
+    );
+    let grant = b"{\"TTL\":\"1\",\"ID\":\"7\"}";
+    let _granted = posted(rt, alloc, engine, client, b"/v3/lease/grant", grant);
+    let leased = b"{\"key\":\"Yg==\",\"lease\":\"7\"}";
+    let _leased = posted(rt, alloc, engine, client, b"/v3/kv/put", leased);
+    Said {
+        is_told: matches!(&engine.deliver(rt, 1), Ok(Message::Text(_))),
+        is_quiet: matches!(&engine.deliver(rt, 1), Ok(Message::Nothing)),
+        ends: (engine.drop_watch(rt, 1), engine.drop_watch(rt, 1)),
+        trims: engine.trim_once(rt),
+        expires: engine.expire_once(rt, client, 2000),
+        share: client.share(),
+    }
+}
+
+fn each_call<L: EngineName, R: Wait>(
+    rt: &R,
+    alloc: Global,
+    opening: Opening<NoFeed>,
+) -> Option<Said>
+    requires name { opening.name ≡ L.Ledger.name }
+    requires parts { opening.parts ≡ L.Ledger.parts }
+{
+    let engine = Engine::<L, NoFeed>::new(alloc, opening, ONES).ok()?;
+    let mut client = engine.client(rt).ok()?;
+    Some(call_each(rt, alloc, &engine, &mut client))
+}
+
+fn run_each_call<R: Wait>(rt: &R, alloc: Global) -> Option<Said> {
+    each_call::<Brand, R>(rt, alloc, Opening::new(NoFeed))
+}
+
+#[test]
+fn each_call_of_an_engine(rt: HostRuntime) {
+    let wanted = Said {
+        is_told: true,
+        is_quiet: true,
+        ends: (Ok(()), Err(Refusal::NoWatch)),
+        trims: Ok(Trim::Done(2)),
+        expires: Ok(Expiry::Expired {
+            id: 7,
+            revision: 4,
+            raised: true,
+        }),
+        share: 3,
+    };
+    assert_eq!(rt; run_each_call(&rt, rt.alloc()), Some(wanted));
+}
+
+/// An engine closes with one of its two clients, and then with both: the number of the fault and
+/// how many clients it hands back, and the revision in the end.
+fn closed_twice<L: EngineName, R: Wait>(
+    rt: &R,
+    alloc: Global,
+    opening: Opening<NoFeed>,
+) -> Option<(u8, usize, u64)>
+    requires name { opening.name ≡ L.Ledger.name }
+    requires parts { opening.parts ≡ L.Ledger.parts }
+{
+    let engine = Engine::<L, NoFeed>::new(alloc, opening, ONES).ok()?;
+    let first = engine.client(rt).ok()?;
+    let mut second = engine.client(rt).ok()?;
+    let _put = posted(
+        rt,
+        alloc,
+        &engine,
+        &mut second,
+        b"/v3/kv/put",
+        b"{\"key\":\"YQ==\"}",
+    );
+    let mut clients = Vec::new(alloc);
+    clients.push(first).ok()?;
+    match engine.close(clients) {
+        Ok(_) => None,
+        Err(fault) => closed_with(fault, second),
+    }
+}
+
+/// An engine that was not closed is closed with one client more.
+fn closed_with<L: EngineName>(
+    fault: CloseFault<L, NoFeed>,
+    client: Client<L, NoFeed>,
+) -> Option<(u8, usize, u64)> {
+    let number = fault.number();
+    let CloseFault { engine, clients } = fault;
+    let mut clients = clients;
+    let count = clients.len();
+    clients.push(client).ok()?;
+    match engine.close(clients) {
+        Ok(core) => Some((number, count, core.status().revision)),
+        Err(_) => None,
+    }
+}
+
+fn run_closed_twice<R: Wait>(rt: &R, alloc: Global) -> Option<(u8, usize, u64)> {
+    closed_twice::<Brand, R>(rt, alloc, Opening::new(NoFeed))
+}
+
+#[test]
+fn an_engine_closes_with_all_clients_alone(rt: HostRuntime) {
+    assert_eq!(rt; run_closed_twice(&rt, rt.alloc()), Some((1, 1, 2)));
+}

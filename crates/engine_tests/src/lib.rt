@@ -1,0 +1,15 @@
+//! The calls of an engine, with ample memory and more than one thread: what no clause can say of
+//! them. They stand in a crate above, for the tests of a crate have it proved once more. It has
+//! nothing but tests.
+#![tactic(auto)]
+
+#[cfg(test)]
+mod calls;
+#[cfg(test)]
+mod lock_replies;
+#[cfg(test)]
+mod rows;
+#[cfg(test)]
+mod texts;
+#[cfg(test)]
+mod threads;

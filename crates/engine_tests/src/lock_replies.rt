@@ -1,0 +1,187 @@
+//! The worked rows through an engine: each reply, byte for byte, and what is left when it closes.
+ghost use Rattle.std.specs.Prelude.{◌≡◌};
+
+use crate::rows;
+use crate::rows::{Row, Step};
+use engine_lock::{Client, Engine, EngineName, NoFeed, Opening};
+use json_gateway::{Expiry, Ids, Message, Trim, read};
+use std::alloc::Global;
+use std::marker::Brand;
+use std::sync::Wait;
+
+pub(super) const ONES: Ids = Ids {
+    cluster: 1,
+    member: 1,
+};
+
+/// A command at a moment has this reply.
+fn is_replied<L: EngineName, R: Wait>(
+    rt: &R,
+    alloc: Global,
+    engine: &Engine<L, NoFeed>,
+    client: &mut Client<L, NoFeed>,
+    now: u64,
+    asked: (&str, &str),
+    reply: (u16, &str),
+) -> bool {
+    let Ok(command) = read(alloc, asked.0.as_bytes(), asked.1.as_bytes()) else {
+        return false;
+    };
+    let submitted = engine.submit(rt, client, now, &command);
+    let (status, body) = submitted.outcome.settled.wire();
+    status == reply.0 && body == reply.1.as_bytes()
+}
+
+/// The watch of a number is told this text.
+fn is_text<L: EngineName, R: Wait>(
+    rt: &R,
+    engine: &Engine<L, NoFeed>,
+    number: u64,
+    text: &str,
+) -> bool {
+    match &engine.deliver(rt, number) {
+        Ok(Message::Text(told)) => told.as_slice() == text.as_bytes(),
+        _ => false,
+    }
+}
+
+/// The watch of a number is told nothing.
+fn is_quiet<L: EngineName, R: Wait>(rt: &R, engine: &Engine<L, NoFeed>, number: u64) -> bool {
+    matches!(&engine.deliver(rt, number), Ok(Message::Nothing))
+}
+
+/// There is no watch of a number.
+fn is_gone<L: EngineName, R: Wait>(rt: &R, engine: &Engine<L, NoFeed>, number: u64) -> bool {
+    matches!(&engine.deliver(rt, number), Ok(Message::NoWatch))
+}
+
+/// What a trimming step says: `r` and a main revision where it takes one out, `k` where it leaves
+/// it, `d` and the number of versions.
+fn trimmed<L: EngineName, R: Wait>(rt: &R, engine: &Engine<L, NoFeed>) -> (char, u64) {
+    match engine.trim_once(rt) {
+        Ok(Trim::Removed(rev)) => ('r', rev.main),
+        Ok(Trim::Kept(rev)) => ('k', rev.main),
+        Ok(Trim::Done(count)) => ('d', count),
+        Err(_) => ('e', 0),
+    }
+}
+
+/// Whether a step is answered as it has to be.
+fn is_answered<L: EngineName, R: Wait>(
+    rt: &R,
+    alloc: Global,
+    engine: &Engine<L, NoFeed>,
+    client: &mut Client<L, NoFeed>,
+    step: &Step,
+) -> bool {
+    match step {
+        Step::Post(now, path, body, status, reply) => {
+            is_replied(
+                rt,
+                alloc,
+                engine,
+                client,
+                *now,
+                (path, body),
+                (*status, reply),
+            )
+        }
+        Step::Tell(number, text) => is_text(rt, engine, *number, text),
+        Step::Quiet(number) => is_quiet(rt, engine, *number),
+        Step::NoWatch(number) => is_gone(rt, engine, *number),
+        Step::Removed(main) => trimmed(rt, engine) == ('r', *main),
+        Step::Kept(main) => trimmed(rt, engine) == ('k', *main),
+        Step::Done(count) => trimmed(rt, engine) == ('d', *count),
+        Step::NothingDue(now) => { engine.expire_once(rt, client, *now) == Ok(Expiry::Nothing) }
+        Step::Expired(now, id, revision) => {
+            engine.expire_once(rt, client, *now)
+                == Ok(Expiry::Expired {
+                    id: *id,
+                    revision: *revision,
+                    raised: true,
+                })
+        }
+    }
+}
+
+/// The number of the first step that is answered otherwise.
+fn first_otherwise<L: EngineName, R: Wait>(
+    rt: &R,
+    alloc: Global,
+    engine: &Engine<L, NoFeed>,
+    client: &mut Client<L, NoFeed>,
+    steps: &[Step],
+) -> Option<usize> {
+    for (number, step) in steps.iter().enumerate() {
+        if !is_answered(rt, alloc, engine, client, step) {
+            return Some(number);
+        }
+    }
+    None
+}
+
+/// How many versions the core of an engine keeps that closes with this one client.
+pub(super) fn versions_left<L: EngineName>(
+    alloc: Global,
+    engine: Engine<L, NoFeed>,
+    client: Client<L, NoFeed>,
+) -> Option<u64> {
+    let mut clients = Vec::new(alloc);
+    let Ok(()) = clients.push(client) else {
+        return None;
+    };
+    match engine.close(clients) {
+        Ok(core) => Some(core.status().versions),
+        Err(_) => None,
+    }
+}
+
+/// The steps of a row on a new engine: the first that is answered otherwise, and how many versions
+/// are left.
+fn run<L: EngineName, R: Wait>(
+    rt: &R,
+    alloc: Global,
+    opening: Opening<NoFeed>,
+    steps: &[Step],
+) -> (Option<usize>, Option<u64>)
+    requires name { opening.name ≡ L.Ledger.name }
+    requires parts { opening.parts ≡ L.Ledger.parts }
+{
+    let Ok(engine) = Engine::<L, NoFeed>::new(alloc, opening, ONES) else {
+        return (None, None);
+    };
+    let Ok(mut client) = engine.client(rt) else {
+        return (None, None);
+    };
+    let first = first_otherwise(rt, alloc, &engine, &mut client, steps);
+    (first, versions_left(alloc, engine, client))
+}
+
+fn run_row<R: Wait>(rt: &R, alloc: Global, steps: &[Step]) -> (Option<usize>, Option<u64>) {
+    run::<Brand, R>(rt, alloc, Opening::new(NoFeed), steps)
+}
+
+/// Whether a row goes as it has to, and leaves as many versions.
+fn is_right<R: Wait>(rt: &R, alloc: Global, row: Row) -> bool {
+    let (first, left) = run_row(rt, alloc, row.0);
+    first.is_none() && left == Some(row.1)
+}
+
+#[test]
+fn lock_replies(rt: HostRuntime) {
+    let alloc = rt.alloc();
+    let right = [
+        is_right(&rt, alloc, rows::a_put_and_a_range()),
+        is_right(&rt, alloc, rows::a_range_of_nothing()),
+        is_right(&rt, alloc, rows::a_put_without_a_key()),
+        is_right(&rt, alloc, rows::ranges()),
+        is_right(&rt, alloc, rows::ranges_of_the_past()),
+        is_right(&rt, alloc, rows::trimmed_to_the_least()),
+        is_right(&rt, alloc, rows::a_range_below_the_compaction()),
+        is_right(&rt, alloc, rows::a_watch()),
+        is_right(&rt, alloc, rows::watches_of_what_is_compacted()),
+        is_right(&rt, alloc, rows::compactions()),
+        is_right(&rt, alloc, rows::leases()),
+    ];
+    assert_eq!(rt; right, [true; 11]);
+}

@@ -1,0 +1,4 @@
+pub mod Counts
+pub mod Fronts
+pub mod Replies
+pub mod Sends

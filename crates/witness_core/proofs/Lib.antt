@@ -1,0 +1,5 @@
+pub mod Walking
+pub mod Following
+pub mod Passing
+pub mod Faulty
+pub mod Kept

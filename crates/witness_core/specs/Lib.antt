@@ -1,0 +1,5 @@
+pub mod Seen
+pub mod Walks
+pub mod Faults
+pub mod Standing
+pub mod Making

@@ -1,0 +1,117 @@
+//! What several tests are made on. None of these tells of a failure: what found no memory is not
+//! there, and the test sees that.
+use bytes::Bytes;
+use kv_model::version::{Body, Rev, Version};
+use range_view::Tables;
+use std::alloc::{AllocError, Global};
+use witness_core::{Certificate, Claim, Dump, Least, Need, NeedFault, check, make};
+
+/// A version: its revision, its key, and whether it is a put.
+pub(crate) type Row = (u64, u64, &'static [u8], bool);
+
+/// A claim: the version's revision, whether it is a Range, and the revision asked for.
+pub(crate) type Line = (u64, u64, bool, u64);
+
+/// What a check says, and nothing where a dump or a certificate could not be made.
+pub(crate) type Verdict = Option<Result<Least, NeedFault>>;
+
+pub(crate) fn least(count: u64) -> Verdict {
+    Some(Ok(Least { count }))
+}
+
+pub(crate) fn version(row: Row) -> Version {
+    let (main, sub, key, is_put) = row;
+    let body = if is_put {
+        Body::Put {
+            create: main,
+            version: 1,
+            lease: 0,
+            value: Bytes::from_static(b"1"),
+        }
+    } else {
+        Body::Gone
+    };
+    Version {
+        rev: Rev { main, sub },
+        key: Bytes::from_static(key),
+        body,
+    }
+}
+
+fn dump_of(alloc: Global, floor: u64, revision: u64, rows: &[Row]) -> Result<Dump, AllocError> {
+    let mut versions = Vec::new(alloc);
+    for row in rows {
+        versions.push(version(*row))?;
+    }
+    Ok(Dump {
+        floor,
+        revision,
+        versions,
+    })
+}
+
+fn claim(line: Line) -> Claim {
+    let (main, sub, is_range, revision) = line;
+    let need = if is_range {
+        Need::Range(revision)
+    } else {
+        Need::Watch(revision)
+    };
+    Claim {
+        rev: Rev { main, sub },
+        need,
+    }
+}
+
+fn certificate_of(alloc: Global, lines: &[Line]) -> Result<Certificate, AllocError> {
+    let mut claims = Vec::new(alloc);
+    for line in lines {
+        claims.push(claim(*line))?;
+    }
+    Ok(Certificate { claims })
+}
+
+fn verdict_of(
+    alloc: Global,
+    dump: Result<Dump, AllocError>,
+    certificate: Result<Certificate, AllocError>,
+) -> Verdict {
+    let (Ok(dump), Ok(certificate)) = (dump, certificate) else {
+        return None;
+    };
+    Some(check(alloc, &dump, &certificate))
+}
+
+/// What a check says of these versions and claims, from a floor to a revision.
+pub(crate) fn verdict(
+    alloc: Global,
+    floor: u64,
+    revision: u64,
+    rows: &[Row],
+    lines: &[Line],
+) -> Verdict {
+    let dump = dump_of(alloc, floor, revision, rows);
+    let certificate = certificate_of(alloc, lines);
+    verdict_of(alloc, dump, certificate)
+}
+
+/// What a check says of what is kept and its certificate.
+pub(crate) fn judged(alloc: Global, tables: &Tables) -> Verdict {
+    verdict_of(alloc, Dump::of(alloc, tables), make(alloc, tables))
+}
+
+fn append(alloc: Global, tables: &mut Tables, version: Version) -> Result<(), AllocError> {
+    let mut versions = Vec::new(alloc);
+    versions.push(version)?;
+    if tables.takes(&versions) {
+        tables.append(versions)?;
+    }
+    Ok(())
+}
+
+/// Appends each of the versions as a revision.
+pub(crate) fn fill(alloc: Global, tables: &mut Tables, rows: &[Row]) {
+    for row in rows {
+        let _ = append(alloc, tables, version(*row));
+    }
+}
