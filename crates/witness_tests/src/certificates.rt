@@ -38,20 +38,22 @@ const FOUR: [Row; 4] = [
 /// A put of a and its tombstone.
 const PUT_AND_GONE: [Row; 2] = [(2, 0, A, true), (3, 0, A, false)];
 
-const fn at(main: u64, sub: u64) -> Rev {
-    Rev { main, sub }
-}
-
 /// The texts of a transaction's two versions, each changed at one place.
 const TRANSACTIONS: [Case; 9] = [
     (0, 2, &TWO, &BOTH, Ok(Least { count: 2 })),
-    (0, 2, &TWO, &[], Err(NeedFault::NoNeed(at(2, 0)))),
+    (
+        0,
+        2,
+        &TWO,
+        &[],
+        Err(NeedFault::NoNeed(Rev { main: 2, sub: 0 })),
+    ),
     (
         0,
         2,
         &TWO,
         &[(2, 0, true, 2)],
-        Err(NeedFault::NoNeed(at(2, 1))),
+        Err(NeedFault::NoNeed(Rev { main: 2, sub: 1 })),
     ),
     (
         0,
@@ -65,14 +67,14 @@ const TRANSACTIONS: [Case; 9] = [
         2,
         &[(2, 0, X, true), (2, 0, Y, true)],
         &[(2, 0, true, 2), (2, 0, true, 2)],
-        Err(NeedFault::NotRising(at(2, 0))),
+        Err(NeedFault::NotRising(Rev { main: 2, sub: 0 })),
     ),
     (
         0,
         2,
         &[(2, 0, X, true), (2, 1, X, true)],
         &BOTH,
-        Err(NeedFault::DoubleKey(at(2, 0))),
+        Err(NeedFault::DoubleKey(Rev { main: 2, sub: 0 })),
     ),
     (
         0,
@@ -84,14 +86,14 @@ const TRANSACTIONS: [Case; 9] = [
             (2, 3, Y, true),
         ],
         &BOTH,
-        Err(NeedFault::DoubleKey(at(2, 0))),
+        Err(NeedFault::DoubleKey(Rev { main: 2, sub: 0 })),
     ),
     (
         0,
         2,
         &[(2, 0, b"", true), (2, 1, Y, true)],
         &BOTH,
-        Err(NeedFault::NeedUnmet(at(2, 0))),
+        Err(NeedFault::NeedUnmet(Rev { main: 2, sub: 0 })),
     ),
     (0, 1, &[], &[], Ok(Least { count: 0 })),
 ];
@@ -108,7 +110,7 @@ const PUTS: [Case; 5] = [
             (4, 0, true, 5),
             (5, 0, true, 5),
         ],
-        Err(NeedFault::NeedUnmet(at(4, 0))),
+        Err(NeedFault::NeedUnmet(Rev { main: 4, sub: 0 })),
     ),
     (
         0,
@@ -127,7 +129,7 @@ const PUTS: [Case; 5] = [
         5,
         &FOUR,
         &[(2, 0, true, 2), (3, 0, true, 3), (5, 0, true, 5)],
-        Err(NeedFault::NoNeed(at(4, 0))),
+        Err(NeedFault::NoNeed(Rev { main: 4, sub: 0 })),
     ),
     (
         4,
@@ -139,7 +141,7 @@ const PUTS: [Case; 5] = [
             (4, 0, true, 4),
             (5, 0, true, 5),
         ],
-        Err(NeedFault::NeedUnmet(at(2, 0))),
+        Err(NeedFault::NeedUnmet(Rev { main: 2, sub: 0 })),
     ),
     (
         0,
@@ -151,7 +153,7 @@ const PUTS: [Case; 5] = [
             (4, 0, true, 4),
             (5, 0, true, 5),
         ],
-        Err(NeedFault::NeedUnmet(at(5, 0))),
+        Err(NeedFault::NeedUnmet(Rev { main: 5, sub: 0 })),
     ),
 ];
 
@@ -169,21 +171,21 @@ const TOMBSTONES: [Case; 4] = [
         3,
         &PUT_AND_GONE,
         &[(2, 0, false, 3), (3, 0, false, 3)],
-        Err(NeedFault::NeedUnmet(at(2, 0))),
+        Err(NeedFault::NeedUnmet(Rev { main: 2, sub: 0 })),
     ),
     (
         3,
         3,
         &PUT_AND_GONE,
         &[(2, 0, true, 3), (3, 0, false, 3)],
-        Err(NeedFault::NeedUnmet(at(2, 0))),
+        Err(NeedFault::NeedUnmet(Rev { main: 2, sub: 0 })),
     ),
     (
         0,
         3,
         &PUT_AND_GONE,
         &[(2, 0, true, 2), (3, 0, true, 3)],
-        Err(NeedFault::NeedUnmet(at(3, 0))),
+        Err(NeedFault::NeedUnmet(Rev { main: 3, sub: 0 })),
     ),
 ];
 
@@ -218,7 +220,7 @@ fn judges_tombstones(rt: HostRuntime) {
 
 #[test]
 fn names_each_fault(rt: HostRuntime) {
-    let place = at(4, 1);
+    let place = Rev { main: 4, sub: 1 };
     let numbers = [
         NeedFault::NotRising(place).number(),
         NeedFault::DoubleKey(place).number(),
@@ -241,7 +243,7 @@ fn is_shown(alloc: Global, fault: NeedFault, text: &str) -> bool {
 #[test]
 fn shows_each_fault(rt: HostRuntime) {
     let alloc = rt.alloc();
-    let place = at(4, 1);
+    let place = Rev { main: 4, sub: 1 };
     let shown = [
         is_shown(alloc, NeedFault::NotRising(place), "not rising 4.1"),
         is_shown(alloc, NeedFault::DoubleKey(place), "double key 4.1"),
