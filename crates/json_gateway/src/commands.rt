@@ -240,8 +240,9 @@ fn declined(alloc: Global, refusal: Refusal) -> Settled
     refused(alloc, &refusal_wording(refusal))
 }
 
-/// How a request that is not read ends.
-fn dismissed(alloc: Global, bad: Bad) -> Settled
+/// How a request ends that [`read`](crate::read) gives no command for: refused in the words of that
+/// fault, or `Memory`, where memory was wanting to read it or for the text of its refusal.
+pub fn dismissed(alloc: Global, bad: Bad) -> Settled
     ensures { Refuses result (is_want bad) (fault_of_reading bad) }
 {
     if bad == Bad::Memory {

@@ -41,7 +41,7 @@ pub mod messages;
 pub mod outcome;
 pub mod wire;
 
-pub use commands::{perform, post, text};
+pub use commands::{dismissed, perform, post, text};
 pub use gateway_read::read;
 pub use kv_model::ids::Ids;
 pub use kv_model::refusal::Refusal;
