@@ -86,7 +86,7 @@ abbrev pub MakesExpiry : CoreState → CoreState → Result Expiry Refusal → T
 MakesExpiry old new (Ok e) = Expires old new e
 MakesExpiry old new (Err e) = RefusesExpiry old new e
 
--- the watch of this number was told so, in each world that the core stood for, and has gone on behind that
+-- the watch of this number was told so, in each world that the core stood for, and has gone on after it
 pub record TellsFrom (ids : Ids) (number : ℕ) (old new : CoreState) (m : Message) : Type 0 where
   pub told : (w : World) → StandsFor old.store w → message_view m ≡ (wire_step ids w (deliver number)).0
   pub stands : (w : World) → StandsFor old.store w → StandsFor new.store (wire_step ids w (deliver number)).1

@@ -356,7 +356,7 @@ time_to_live_request ms = do
 
 -- ---- paths
 
--- The paths that are built; a path that is not there yet is a line that is not there yet.
+-- The paths that are built.
 abbrev pub paths : List (List ℕ × (Members → Read Call))
 paths = (codes "/v3/kv/range", λ ms. range_query ms >>= λ q. Ok (Call.range q))
     ∷ (codes "/v3/kv/put", λ ms. put_request ms >>= λ p. Ok (Call.put p))

@@ -202,7 +202,7 @@ pub two_watches : wires opening (WireEvent.post (codes "/v3/kv/put") (codes "{\"
 unfolding model_on_literals wire_on_literals serde_json_on_literals is_utf8 chars digits encode_symbols groups_error groups_bytes scan_steps
 two_watches = refl
 
--- ---- compactions and watches: a compaction has no path yet, so these are the texts of what is told of plain events
+-- ---- compactions and watches: the texts of what is told of plain events
 
 -- what is written of an answer, or of a delivery to a watch that its client gave this number
 abbrev pub text_of : ℤ → Told → List ℕ

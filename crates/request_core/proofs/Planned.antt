@@ -111,7 +111,7 @@ planned-next r vs q ws h e few some =
       counted = subst (AllByRecursion (λ v. IsCountedTo (r + 1) v.body)) (sym e) (versions-counted r vs us h);
     }
 
--- ---- none of them hangs on another
+-- ---- none of them depends on another
 
 -- each change makes behind those before it the version that it makes before them
 abbrev pub AreApart : List Version → List Mutation → Type 0

@@ -146,7 +146,7 @@ impl Core {
     /// place of `RevisionsSpent`; a Range, a Compact, a keepalive, a time to live and the list of
     /// leases take none here.
     ///
-    /// A Txn is first refused for what hangs on it alone, also in branches that do not run, and a
+    /// A Txn is first refused for what it asks for itself, also in branches that do not run, and a
     /// transaction before its parts: `TooDeep` where it lies in eight others, `TooManyOps` where it
     /// has more than 128 compares or operations of a branch, and `NoKey`, `ValueGiven` and
     /// `LeaseGiven` as each by itself; then `DuplicateKey` where operations that can run together

@@ -10,8 +10,8 @@ use kv_model::call::Txn;
 use kv_model::refusal::Refusal;
 use std::alloc::Global;
 
-/// Whether a transaction may run, as far as that hangs on it alone (the etcd documentation,
-/// TxnRequest). Its keys are listed in memory of `alloc`.
+/// Whether a transaction may run, as far as it can be told without the state (the etcd
+/// documentation, TxnRequest). Its keys are listed in memory of `alloc`.
 ///
 /// Refused for the first fault in the order of its document: `TooDeep`, `TooManyOps`, `NoKey`,
 /// `ValueGiven` or `LeaseGiven`, as `walk_fault` says. Then as `DuplicateKey` where two operations

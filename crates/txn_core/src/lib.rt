@@ -3,8 +3,8 @@
 //!
 //! The one contract is that of [`plan`]: a transaction is decided on the state before it alone,
 //! each compare too, and the versions that it makes are numbered in the order of its document.
-//! [`check`] comes before it, and refuses what hangs on the request alone; [`replies`] comes behind
-//! it, and reads the answers in the tables that have the versions.
+//! [`check`] comes before it, and refuses what can be told without the state; [`replies`] comes
+//! after it, and reads the answers in the tables that have the versions.
 //!
 //! For example, at revision 4, where a holds 1, b holds 2 and c holds 3, with a revision written as
 //! main.sub:

@@ -1,4 +1,4 @@
--- A sort by a total order, of which the counts do not hang on the order.
+-- A sort by a total order, of which the counts do not depend on the order.
 use Rattle.std.proofs.Common.{rules, List, ℕ}
 use denote.Ref.{Bor}
 use Rattle.std.specs.Ordering.{is_lt}
