@@ -121,6 +121,9 @@ head_unfilled left p q front.Read h = tt
 head_unfilled left p q front.End h = absurd h
 head_unfilled left p q front.Memory h = subst (λ (t : List ℕ). 16384 ≤ length t) (sym h.0) h.1
 head_unfilled left p q (front.Write n) h = h
+head_unfilled left p q front.Spawn h = h
+head_unfilled left p q front.Accept h = h
+head_unfilled left p q front.Unclosed h = h
 
 pub body_unfilled : (left : Option (List ℕ)) (p q : List ℕ) (x : Head) (f : Front) → Filled left p q (Err f) → BodyCame {⊤} left q x (Err f)
 body_unfilled left p q x front.Head h = h
@@ -130,6 +133,9 @@ body_unfilled left p q x front.Read h = tt
 body_unfilled left p q x front.End h = absurd h
 body_unfilled left p q x front.Memory h = subst (λ (t : List ℕ). 16384 ≤ length t) (sym h.0) h.1
 body_unfilled left p q x (front.Write n) h = h
+body_unfilled left p q x front.Spawn h = h
+body_unfilled left p q x front.Accept h = h
+body_unfilled left p q x front.Unclosed h = h
 
 pub head_failed : (left : Option (List ℕ)) (p : List ℕ) (f : Front) → HeadCame left p (Err f) → Came left p (Err f)
 head_failed left p front.Head h = h
@@ -139,6 +145,9 @@ head_failed left p front.Read h = tt
 head_failed left p front.End h = (inl h.0, h.1)
 head_failed left p front.Memory h = h
 head_failed left p (front.Write n) h = h
+head_failed left p front.Spawn h = h
+head_failed left p front.Accept h = h
+head_failed left p front.Unclosed h = h
 
 pub body_failed : (left : Option (List ℕ)) (p : List ℕ) (x : Head) (f : Front) → BodyCame {⊤} left p x (Err f) → Came left p (Err f)
 body_failed left p x front.Head h = absurd h
@@ -148,6 +157,9 @@ body_failed left p x front.Read h = tt
 body_failed left p x front.End h = (inr (cut_body p x h.0 h.1), h.2)
 body_failed left p x front.Memory h = h
 body_failed left p x (front.Write n) h = h
+body_failed left p x front.Spawn h = h
+body_failed left p x front.Accept h = h
+body_failed left p x front.Unclosed h = h
 
 -- ---- all that was to come
 
@@ -161,6 +173,9 @@ says bytes q ys (Err front.Read) e c = tt
 says bytes q ys (Err front.End) e c = subst IsCut (sym (e ∙ ap (λ l. q ++ l) c.1 ∙ append-nil q)) c.0
 says bytes q ys (Err front.Memory) e c = let long : length bytes ≡ length q + length ys = ap length e ∙ length-append q ys in omega (arith, long, c)
 says bytes q ys (Err (front.Write n)) e c = c
+says bytes q ys (Err front.Spawn) e c = c
+says bytes q ys (Err front.Accept) e c = c
+says bytes q ys (Err front.Unclosed) e c = c
 
 pub tells_of : (a b : Option (List ℕ)) (p q : List ℕ) (r : Result (Option Head) Front) → Took a b p q → Came b q r → Tells a b p q r
 tells_of None b p q r t c = tt

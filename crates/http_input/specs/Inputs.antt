@@ -57,7 +57,7 @@ Came left pending (Err front.TooLong) = Names too_long (window pending)
 Came left pending (Err front.Read) = ⊤
 Came left pending (Err front.End) = IsCut pending × IsAtEnd left
 Came left pending (Err front.Memory) = 16384 ≤ length pending
-Came left pending (Err (front.Write n)) = ⊥
+Came left pending (Err _) = ⊥
 
 -- what is so of all bytes that were to come: they are this request and then the others, or it is known why there is none
 abbrev pub Says : List ℕ → List ℕ → List ℕ → Result (Option Head) Front → Type 0
@@ -69,7 +69,7 @@ Says bytes pending left (Err front.TooLong) = Names too_long (window bytes)
 Says bytes pending left (Err front.Read) = ⊤
 Says bytes pending left (Err front.End) = IsCut bytes
 Says bytes pending left (Err front.Memory) = 16384 ≤ length bytes
-Says bytes pending left (Err (front.Write n)) = ⊥
+Says bytes pending left (Err _) = ⊥
 
 -- the same, where the reader tells its bytes
 abbrev pub Tells : Option (List ℕ) → Option (List ℕ) → List ℕ → List ℕ → Result (Option Head) Front → Type 0

@@ -36,7 +36,7 @@ HeadCame left pending (Err front.TooLong) = Names too_long (window pending)
 HeadCame left pending (Err front.Read) = ⊤
 HeadCame left pending (Err front.End) = EndsInHead pending × IsAtEnd left
 HeadCame left pending (Err front.Memory) = 16384 ≤ length pending
-HeadCame left pending (Err (front.Write n)) = ⊥
+HeadCame left pending (Err _) = ⊥
 
 -- the body of the head whose places are x
 abbrev pub BodyCame : {T : Type 0} → Option (List ℕ) → List ℕ → Head → Result T Front → Type 0
