@@ -113,31 +113,6 @@ sees_of p look.More h =
     (small, subst HasNoRequest is h.1, subst MayBecomeRequest is h.2)
 sees_of p (look.Fault f) h = h
 
--- a read that did not come
-pub head_unfilled : (left : Option (List ℕ)) (p q : List ℕ) (f : Front) → Filled left p q (Err f) → HeadCame left q (Err f)
-head_unfilled left p q front.Head h = absurd h
-head_unfilled left p q front.Length h = absurd h
-head_unfilled left p q front.TooLong h = absurd h
-head_unfilled left p q front.Read h = tt
-head_unfilled left p q front.End h = absurd h
-head_unfilled left p q front.Memory h = subst (λ (t : List ℕ). 16384 ≤ length t) (sym h.0) h.1
-head_unfilled left p q (front.Write n) h = h
-head_unfilled left p q front.Spawn h = h
-head_unfilled left p q front.Accept h = h
-head_unfilled left p q front.Unclosed h = h
-
-pub body_unfilled : {T : Type 0} (left : Option (List ℕ)) (p q : List ℕ) (x : Head) (f : Front) → Filled left p q (Err f) → BodyCame {T} left q x (Err f)
-body_unfilled left p q x front.Head h = h
-body_unfilled left p q x front.Length h = h
-body_unfilled left p q x front.TooLong h = h
-body_unfilled left p q x front.Read h = tt
-body_unfilled left p q x front.End h = absurd h
-body_unfilled left p q x front.Memory h = subst (λ (t : List ℕ). 16384 ≤ length t) (sym h.0) h.1
-body_unfilled left p q x (front.Write n) h = h
-body_unfilled left p q x front.Spawn h = h
-body_unfilled left p q x front.Accept h = h
-body_unfilled left p q x front.Unclosed h = h
-
 -- the input ends within a head
 pub cut_head : (left : Option (List ℕ)) (p q : List ℕ) (b : Bool) → Sees p look.More → b ≡ false → Filled left p q (Ok b) → length q ≢ 0 → EndsInHead q × IsAtEnd left
 cut_head left p q b h e f some =
@@ -146,8 +121,8 @@ cut_head left p q b h e f some =
     (subst EndsInHead (sym none.0) cut, none.1)
 
 -- and within a body
-pub cut_in_body : {T : Type 0} (left : Option (List ℕ)) (p q : List ℕ) (x : Head) (b : Bool) → HasHead p x → length p < x.len + x.body → b ≡ false → Filled left p q (Ok b)
-    → BodyCame {T} left q x (Err front.End)
+pub cut_in_body : (left : Option (List ℕ)) (p q : List ℕ) (x : Head) (b : Bool) → HasHead p x → length p < x.len + x.body → b ≡ false → Filled left p q (Ok b)
+    → HasHead q x × (length q < x.len + x.body) × IsAtEnd left
 cut_in_body left p q x b h short e f =
     let none = ended left p q b e f in
     (subst (λ (t : List ℕ). HasHead t x) (sym none.0) h, subst (λ (t : List ℕ). length t < x.len + x.body) (sym none.0) short, none.1)
@@ -164,7 +139,7 @@ head_failed left p front.Spawn h = h
 head_failed left p front.Accept h = h
 head_failed left p front.Unclosed h = h
 
-pub body_failed : {T : Type 0} (left : Option (List ℕ)) (p : List ℕ) (x : Head) (f : Front) → BodyCame {T} left p x (Err f) → Came left p (Err f)
+pub body_failed : {T : Type 0} (left : Option (List ℕ)) (p : List ℕ) (x : Head) (f : Front) → BodyCame {T = T} left p x (Err f) → Came left p (Err f)
 body_failed left p x front.Head h = absurd h
 body_failed left p x front.Length h = absurd h
 body_failed left p x front.TooLong h = absurd h
