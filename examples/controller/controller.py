@@ -7,6 +7,7 @@ its lease does nothing more, and another one that waits takes over.
 import base64
 import http.client
 import json
+import socket
 import threading
 
 JOBS, DONE, LOCK = '/jobs/', '/done/', '/lock/controller'
@@ -36,9 +37,12 @@ class Store:
         self.address = address
         self.connection = http.client.HTTPConnection(address, timeout=30)
         self.lock = threading.Lock()
+        self.is_closed = False
 
     def ask(self, path, **body):
         with self.lock:
+            if self.is_closed:
+                raise ConnectionError('the client is closed')
             self.connection.request('POST', '/v3/' + path, json.dumps(body))
             reply = self.connection.getresponse()
             text = reply.read()
@@ -64,7 +68,9 @@ class Store:
         return Watch(self.address, key, end, start)
 
     def close(self):
-        self.connection.close()
+        with self.lock:
+            self.is_closed = True
+            self.connection.close()
 
 
 class Watch:
@@ -81,14 +87,21 @@ class Watch:
         json.loads(self.stream.readline())      # created
 
     def __iter__(self):
-        while line := self.stream.readline():
-            for event in json.loads(line)['result'].get('events', []):
-                kv = event['kv']
-                yield event.get('type', 'PUT'), text_of(kv['key']), text_of(kv.get('value', '')), int(kv['mod_revision'])
+        try:
+            while line := self.stream.readline():
+                for event in json.loads(line)['result'].get('events', []):
+                    kv = event['kv']
+                    yield event.get('type', 'PUT'), text_of(kv['key']), text_of(kv.get('value', '')), int(kv['mod_revision'])
+        finally:
+            self.stream.close()
+            self.socket.close()
 
     def close(self):
-        """Ends it, from another thread too."""
-        self.socket.shutdown(2)
+        """Ends it, from another thread too; the events end then."""
+        try:
+            self.socket.shutdown(socket.SHUT_RDWR)
+        except OSError:
+            pass            # it ended before
 
 
 class Controller:
@@ -129,8 +142,11 @@ class Controller:
 
     def keep_lease(self):
         lease = self.lease
-        while not self.stopped.wait(self.seconds / 3) and lease == self.lease:
-            self.store.ask('lease/keepalive', ID=lease)
+        try:
+            while not self.stopped.wait(self.seconds / 3) and lease == self.lease:
+                self.store.ask('lease/keepalive', ID=lease)
+        except (OSError, http.client.HTTPException):
+            pass            # then the lease runs out, and what it guards is refused
 
     def watching(self, key, end, start):
         self.watch = self.store.watch(key, end, start)
@@ -169,3 +185,4 @@ class Controller:
             self.watch.close()
         if politely and self.lease:
             self.store.ask('lease/revoke', ID=self.lease)
+        self.store.close()
