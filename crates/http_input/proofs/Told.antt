@@ -139,7 +139,7 @@ head_failed left p front.Spawn h = h
 head_failed left p front.Accept h = h
 head_failed left p front.Unclosed h = h
 
-pub body_failed : {T : Type 0} (left : Option (List ℕ)) (p : List ℕ) (x : Head) (f : Front) → BodyCame {T = T} left p x (Err f) → Came left p (Err f)
+pub body_failed : (left : Option (List ℕ)) (p : List ℕ) (x : Head) (f : Front) → BodyCame {T = ℕ} left p x (Err f) → Came left p (Err f)
 body_failed left p x front.Head h = absurd h
 body_failed left p x front.Length h = absurd h
 body_failed left p x front.TooLong h = absurd h
