@@ -1,5 +1,6 @@
 -- No byte is lost by reads that follow one another.
-use Rattle.std.proofs.Common.{◌≡◌, ℕ, ◌+◌, ◌<◌, arith, List, [], ◌∷◌, ◌++◌, length, Bool, true, false, nat_lt, Option, None, Some, Ok, refl, sym, ◌∙◌, ap, subst, append_assoc}
+use Rattle.std.proofs.Common.{◌≡◌, ℕ, ◌+◌, ◌<◌, arith, List, [], ◌∷◌, ◌++◌, length, Bool, true, false, nat_lt, Option, None, Some, Ok, refl}
+use Rattle.std.proofs.Common.{sym, ◌∙◌, ap, subst, append_assoc}
 use Rattle.std.specs.Io.KnownBytes.{Consumes, IsAtEnd, Keeps}
 use Rattle.std.proofs.lemmas.List.{append-nil, length-append}
 use Rattle.std.proofs.lemmas.Bool.Decides.{nat_tests}
@@ -52,11 +53,15 @@ pub nil_of : (l : List ℕ) → length l ≡ 0 → l ≡ []
 nil_of [] z = refl
 nil_of (x ∷ l) z = absurd (omega (arith, z))
 
-pub filled_by : (left : Option (List ℕ)) (p q bs : List ℕ) (n : ℕ) → q ≡ p ++ bs → n ≡ length bs → (n ≡ 0 → IsAtEnd left) → Filled left p q (Ok (nat_lt 0 n))
+pub filled_by : (left : Option (List ℕ)) (p q bs : List ℕ) (n : ℕ) → q ≡ p ++ bs → n ≡ length bs → (n ≡ 0 → IsAtEnd left)
+    → Filled left p q (Ok (nat_lt 0 n))
 filled_by left p q bs n e long h = by (nat_lt 0 n) refl
   where
     by : (b : Bool) → nat_lt 0 n ≡ b → Filled left p q (Ok b)
-    by true t = let sum : length q ≡ length p + length bs = ap length e ∙ length-append p bs in let some : 0 < n = grind (arith, nat_tests, t) in omega (arith, sum, long, some)
+    by true t =
+        let sum : length q ≡ length p + length bs = ap length e ∙ length-append p bs in
+        let some : 0 < n = grind (arith, nat_tests, t) in
+        omega (arith, sum, long, some)
     by false t =
         let none : n ≡ 0 = grind (arith, nat_tests, t) in
         (e ∙ ap (λ l. p ++ l) (nil_of bs (sym long ∙ none)) ∙ append-nil p, h none)

@@ -1,14 +1,16 @@
 -- What was read of a request, said of all the bytes that were to come.
-use Rattle.std.proofs.Common.{◌≡◌, ◌≢◌, ◌≤◌, ◌<◌, ◌⊎◌, ℕ, ◌+◌, ◌-◌, arith, List, [], ◌++◌, take, drop, length, Bool, true, false, Option, None, Some, Result, Ok, Err, refl, sym, ◌∙◌, ap, subst, append_assoc, inl, inr, nat_le}
+use Rattle.std.proofs.Common.{◌≡◌, ◌≢◌, ◌≤◌, ◌<◌, ℕ, ◌+◌, arith, List, [], ◌++◌, take, drop, length, Bool, true, false, Option}
+use Rattle.std.proofs.Common.{None, Some, Result, Ok, Err, refl, sym, ◌∙◌, ap, subst, append_assoc, inl, inr, nat_le}
 use Rattle.std.specs.Io.KnownBytes.{IsAtEnd}
-use Rattle.std.proofs.lemmas.List.{append-nil, length-append, length-drop, length-take, length-take-le, take-append-le, take-append-drop, take_all, take-take, drop-drop}
+use Rattle.std.proofs.lemmas.List.{append-nil, length-append, length-drop, length-take, length-take-le, take-append-le, take-append-drop}
+use Rattle.std.proofs.lemmas.List.{take_all, take-take, drop-drop}
 use Rattle.std.proofs.lemmas.Bool.Decides.{nat_tests}
 use Rattle.httparse.specs.Grammar.{RequestHead, ReadsRequest, HasNoRequest, NeverHasRequest, MayBecomeRequest, print_request}
 use Rattle.httparse.specs.Spans.{RequestExceeds}
 use Rattle.http_head.specs.declared.head.Fault.{Fault as CodeFault}
 use Rattle.http_head.specs.declared.head.Fault.TheVariants as fault
 use Rattle.http_head.specs.declared.head.Head.{Head}
-use Rattle.http_head.specs.Heads.{Fault, Names, ReadsHead, bad_head, bad_length, body_length, marks_of, most_head, too_long, window}
+use Rattle.http_head.specs.Heads.{Fault, Names, ReadsHead, bad_head, bad_length, most_head, too_long, window}
 use Rattle.http_head.specs.declared.head.Look.{Look}
 use Rattle.http_head.specs.declared.head.Look.TheVariants as look
 use Rattle.http_head.specs.Looks.{Looks, fault_view}
@@ -52,7 +54,8 @@ window_short p m h = (
 )
   where
     front_is : (p m : List ℕ) → length p < most_head → take (length p) (window (p ++ m)) ≡ p
-    front_is p m h = take-take (length p) most_head (p ++ m) (omega (arith, h)) ∙ take-append-le (length p) p m (omega arith) ∙ take_all (length p) p (omega arith)
+    front_is p m h = take-take (length p) most_head (p ++ m) (omega (arith, h)) ∙ take-append-le (length p) p m (omega arith)
+        ∙ take_all (length p) p (omega arith)
 
 names_more : (f : Fault) (p m : List ℕ) → Names f (window p) → Names f (window (p ++ m))
 names_more f p m n = by (nat_le most_head (length p)) refl
@@ -70,7 +73,9 @@ is_head_of : (p m : List ℕ) (x : Head) (body : List ℕ) (h : HasHead p x)
     → IsHeadOf (p ++ m) (record { method = h.head.method; target = h.head.target; body = body; close = x.close }) h.head (drop x.len p ++ m)
 is_head_of p m x body h = record {
   reads = reads_more p m h.head (drop x.len p) h.is.reads;
-  fits = let long : length p ≡ length (print_request h.head) + length (drop x.len p) = ap length h.is.reads.reads.1 ∙ length-append (print_request h.head) (drop x.len p) in
+  fits =
+      let long : length p ≡ length (print_request h.head) + length (drop x.len p) =
+      ap length h.is.reads.reads.1 ∙ length-append (print_request h.head) (drop x.len p) in
       omega (arith, long, h.len, h.is.fits, length-drop x.len p);
   method = refl;
   target = refl;
@@ -80,7 +85,13 @@ is_head_of p m x body h = record {
 cut_body : (p : List ℕ) (x : Head) → HasHead p x → length p < x.len + x.body → EndsInBody p
 cut_body p x h short =
     let a : Asked = record { method = h.head.method; target = h.head.target; body = []; close = x.close } in
-    let is : IsHeadOf p a h.head (drop x.len p) = record { reads = h.is.reads; fits = (is_head_of p [] x [] h).fits; method = refl; target = refl; close = h.is.close } in
+    let is : IsHeadOf p a h.head (drop x.len p) = record {
+      reads = h.is.reads;
+      fits = (is_head_of p [] x [] h).fits;
+      method = refl;
+      target = refl;
+      close = h.is.close;
+    } in
     (a, h.head, drop x.len p, x.body, is, h.is.body, omega (arith, short, length-drop x.len p, h.is.fits))
 
 whole : (bytes q ys : List ℕ) (x : Head) → bytes ≡ q ++ ys → IsWhole q x → ReadsAsked bytes (asked_of q x) (drop (x.len + x.body) q ++ ys)
@@ -91,15 +102,23 @@ whole bytes q ys x e w =
     let long : length body ≡ x.body = length-take-le x.body (drop x.len q) (omega (arith, w.1, h.is.fits, length-drop x.len q)) in (
       h.head,
       drop x.len q ++ ys,
-      record { reads = subst (λ (t : List ℕ). ReadsHead t h.head (drop x.len q ++ ys)) (sym e) is.reads; fits = is.fits; method = h.is.method; target = h.is.target; close = h.is.close },
+      record {
+        reads = subst (λ (t : List ℕ). ReadsHead t h.head (drop x.len q ++ ys)) (sym e) is.reads;
+        fits = is.fits;
+        method = h.is.method;
+        target = h.is.target;
+        close = h.is.close;
+      },
       h.is.body ∙ ap Ok (sym long),
-      ap (λ l. l ++ ys) (sym (take-append-drop x.body (drop x.len q)) ∙ ap (λ l. body ++ l) (drop-drop x.body x.len q)) ∙ append_assoc body (drop (x.len + x.body) q) ys,
+      ap (λ l. l ++ ys) (sym (take-append-drop x.body (drop x.len q)) ∙ ap (λ l. body ++ l) (drop-drop x.body x.len q))
+          ∙ append_assoc body (drop (x.len + x.body) q) ys,
     )
 
 -- ---- the parts
 
 -- a fault of the head
-pub fault_came : (left : Option (List ℕ)) (p : List ℕ) (f : CodeFault) → Names (fault_view f) (window p) → HeadCame left p (Err (front_of f))
+pub fault_came : (left : Option (List ℕ)) (p : List ℕ) (f : CodeFault) → Names (fault_view f) (window p)
+    → HeadCame left p (Err (front_of f))
 fault_came left p fault.Head n = n
 fault_came left p fault.Length n = n
 fault_came left p fault.TooLong n = n
@@ -114,14 +133,16 @@ sees_of p look.More h =
 sees_of p (look.Fault f) h = h
 
 -- the input ends within a head
-pub cut_head : (left : Option (List ℕ)) (p q : List ℕ) (b : Bool) → Sees p look.More → b ≡ false → Filled left p q (Ok b) → length q ≢ 0 → EndsInHead q × IsAtEnd left
+pub cut_head : (left : Option (List ℕ)) (p q : List ℕ) (b : Bool) → Sees p look.More → b ≡ false → Filled left p q (Ok b) → length q ≢ 0
+    → EndsInHead q × IsAtEnd left
 cut_head left p q b h e f some =
     let none = ended left p q b e f in
     let cut : EndsInHead p = ((λ nil. some (ap length (none.0 ∙ nil))), h.0, h.1, h.2) in
     (subst EndsInHead (sym none.0) cut, none.1)
 
 -- and within a body
-pub cut_in_body : (left : Option (List ℕ)) (p q : List ℕ) (x : Head) (b : Bool) → HasHead p x → length p < x.len + x.body → b ≡ false → Filled left p q (Ok b)
+pub cut_in_body : (left : Option (List ℕ)) (p q : List ℕ) (x : Head) (b : Bool) → HasHead p x → length p < x.len + x.body → b ≡ false
+    → Filled left p q (Ok b)
     → HasHead q x × (length q < x.len + x.body) × IsAtEnd left
 cut_in_body left p q x b h short e f =
     let none = ended left p q b e f in
@@ -161,7 +182,9 @@ says bytes q ys (Err front.Length) e c = subst (λ (t : List ℕ). Names bad_len
 says bytes q ys (Err front.TooLong) e c = subst (λ (t : List ℕ). Names too_long (window t)) (sym e) (names_more too_long q ys c)
 says bytes q ys (Err front.Read) e c = tt
 says bytes q ys (Err front.End) e c = subst IsCut (sym (e ∙ ap (λ l. q ++ l) c.1 ∙ append-nil q)) c.0
-says bytes q ys (Err front.Memory) e c = let long : length bytes ≡ length q + length ys = ap length e ∙ length-append q ys in omega (arith, long, c)
+says bytes q ys (Err front.Memory) e c =
+    let long : length bytes ≡ length q + length ys = ap length e ∙ length-append q ys in
+    omega (arith, long, c)
 says bytes q ys (Err (front.Write n)) e c = c
 says bytes q ys (Err front.Spawn) e c = c
 says bytes q ys (Err front.Accept) e c = c

@@ -1,5 +1,6 @@
 -- More bytes behind a head change nothing of it.
-use Rattle.std.proofs.Common.{◌≡◌, ◌≤◌, ◌<◌, ℕ, ◌+◌, ◌-◌, arith, List, ◌++◌, take, drop, length, Bool, true, false, cond, ◌||◌, Ok, Err, sym, ◌∙◌, ap, subst, append_assoc, refl, nat_lt, nat_le, nat_eq}
+use Rattle.std.proofs.Common.{◌≡◌, ◌≤◌, ℕ, ◌-◌, arith, List, ◌++◌, take, drop, length, Bool, true, false, cond, ◌||◌, Ok, Err}
+use Rattle.std.proofs.Common.{sym, ◌∙◌, ap, subst, append_assoc, refl, nat_lt, nat_le, nat_eq}
 use Rattle.std.proofs.lemmas.List.{length-append, length-drop, length-take, take-append-le, drop-append-le, take-append-drop}
 use Rattle.std.specs.Str.Parse.{digits_value}
 use Rattle.std.proofs.lemmas.Bool.Decides.{nat_tests}
@@ -7,13 +8,18 @@ use Rattle.httparse.specs.Grammar.{RequestHead}
 use Rattle.httparse.specs.Spans.{IsWithin, span_bytes}
 use Rattle.httparse.specs.declared.spans.Span.{Span}
 use Rattle.http_head.specs.declared.head.Head.{Head}
-use Rattle.http_head.specs.Heads.{Marks, ReadsHead, bad, body_length, is_length, length_given, marks_of, most_body, most_head, over, window, within_limit}
+use Rattle.http_head.specs.Heads.{Marks, ReadsHead, bad, body_length, is_length, length_given, marks_of, most_body, most_head, over, window}
+use Rattle.http_head.specs.Heads.{within_limit}
 use Rattle.http_head.specs.Looks.{IsHead}
 use Rattle.http_input.specs.Buffers.{Extends}
 use Rattle.http_input.specs.Inputs.{HasHead}
 
 pub reads_more : (t more : List ℕ) (h : RequestHead) (rest : List ℕ) → ReadsHead t h rest → ReadsHead (t ++ more) h (rest ++ more)
-reads_more t more h rest r = record { reads = (r.reads.0, ap (λ l. l ++ more) r.reads.1 ∙ append_assoc _ rest more); minor = r.minor; few = r.few }
+reads_more t more h rest r = record {
+  reads = (r.reads.0, ap (λ l. l ++ more) r.reads.1 ∙ append_assoc _ rest more);
+  minor = r.minor;
+  few = r.few;
+}
 
 span_more : (t more : List ℕ) (n : ℕ) (s : Span) → n ≤ length t → IsWithin n s → span_bytes (t ++ more) s ≡ span_bytes t s
 span_more t more n s h w =
@@ -34,7 +40,8 @@ head_more t more x h e = record {
 
 pub extended : (p q : List ℕ) (x : Head) → HasHead p x → Extends p q → HasHead q x
 extended p q x e f =
-    subst (λ (t : List ℕ). HasHead t x) (sym f.is) (record { head = e.head; is = head_more p f.more x e.head e.is; len = e.len; body = e.body })
+    subst (λ (t : List ℕ). HasHead t x) (sym f.is)
+    (record { head = e.head; is = head_more p f.more x e.head e.is; len = e.len; body = e.body })
 
 -- ---- a length is within its limit
 
@@ -63,5 +70,11 @@ small_body m k = by (m.encoded || nat_lt 1 m.lengths) (nat_eq m.lengths 0)
 -- ---- a head in the window is one of all bytes
 
 pub has_head : (p : List ℕ) (x : Head) (h : RequestHead) → IsHead (window p) x h → HasHead p x
-has_head p x h e = extended (window p) p x (record { head = h; is = e; len = omega (arith, e.fits, length-take most_head p); body = small_body (marks_of h.fields) x.body e.body })
-    (record { more = drop most_head p; is = sym (take-append-drop most_head p) })
+has_head p x h e =
+    let small : HasHead (window p) x = record {
+      head = h;
+      is = e;
+      len = omega (arith, e.fits, length-take most_head p);
+      body = small_body (marks_of h.fields) x.body e.body;
+    } in
+    extended (window p) p x small (record { more = drop most_head p; is = sym (take-append-drop most_head p) })

@@ -1,5 +1,6 @@
 -- What is read of a connection's bytes: requests, or why there is none (RFC 9112).
-use Rattle.std.specs.Prelude.{◌≡◌, ℕ, ◌+◌, ◌≤◌, List, [], ◌++◌, length, take, drop, Option, None, Some, Result, Ok, Err, ⊤}
+use Rattle.std.specs.Prelude.{◌≡◌, ℕ, ◌+◌, ◌≤◌, List, [], ◌++◌, length, take, drop, Option, None, Some, Result, Ok, Err}
+use Rattle.std.specs.Prelude.{⊤}
 use Rattle.std.specs.Io.KnownBytes.{IsAtEnd}
 use Rattle.httparse.specs.Grammar.{RequestHead}
 use Rattle.httparse.specs.Spans.{span_bytes}
@@ -39,7 +40,7 @@ abbrev pub request_view : Request → Asked
 request_view r = record { method = r.method.now; target = r.target.now; body = r.body.now; close = r.close }
 
 -- ---- what reading leaves
--- pending are the bytes that were read and not yet used, left are those that the reader still has, where it tells them; both before and after
+-- pending: the bytes that were read and not yet used; left: those that the reader still has, where it tells them
 
 -- no byte is lost, and none is made
 abbrev pub Took : Option (List ℕ) → Option (List ℕ) → List ℕ → List ℕ → Type 0
@@ -59,9 +60,10 @@ Came left pending (Err front.End) = IsCut pending × IsAtEnd left
 Came left pending (Err front.Memory) = 16384 ≤ length pending
 Came left pending (Err _) = ⊥
 
--- what is so of all bytes that were to come: they are this request and then the others, or it is known why there is none
+-- what is so of all bytes that were to come: they are this request and then others, or it is known why they are none
 abbrev pub Says : List ℕ → List ℕ → List ℕ → Result (Option Head) Front → Type 0
-Says bytes pending left (Ok (Some x)) = IsWhole pending x × ReadsAsked bytes (asked_of pending x) (drop (x.len + x.body) pending ++ left)
+Says bytes pending left (Ok (Some x)) = IsWhole pending x
+    × ReadsAsked bytes (asked_of pending x) (drop (x.len + x.body) pending ++ left)
 Says bytes pending left (Ok None) = (bytes ≡ []) × (pending ≡ []) × (left ≡ [])
 Says bytes pending left (Err front.Head) = Names bad_head (window bytes)
 Says bytes pending left (Err front.Length) = Names bad_length (window bytes)

@@ -91,7 +91,8 @@ impl Input {
         ensures tells { Tells (R.remaining (inner_of r.old)) (R.remaining (inner_of r.new))
             self.old self.new result }
         ensures failures { failures_of r.new ≡ failures_after_read result (failures_of r.old) }
-        ensures each { reads_of r.new + length self.old ≤ reads_of r.old + length self.new + empty_reads result }
+        ensures each { reads_of r.new + length self.old
+            ≤ reads_of r.old + length self.new + empty_reads result }
         ensures reads { reads_of r.new ≤ reads_of r.old + most_head + most_body }
     {
         match self.next_head(r) {
@@ -132,7 +133,8 @@ impl Input {
             self.old self.new }
         ensures came { HeadCame (R.remaining (inner_of r.new)) self.new result }
         ensures failures { failures_of r.new ≡ failures_after_read result (failures_of r.old) }
-        ensures each { reads_of r.new + length self.old ≤ reads_of r.old + length self.new + empty_reads result }
+        ensures each { reads_of r.new + length self.old
+            ≤ reads_of r.old + length self.new + empty_reads result }
         ensures reads { reads_of r.new ≤ reads_of r.old + most_head }
     {
         'heads: loop {
@@ -189,7 +191,8 @@ impl Input {
             self.old self.new }
         ensures came { BodyCame (R.remaining (inner_of r.new)) self.new head result }
         ensures failures { failures_of r.new ≡ failures_after_read result (failures_of r.old) }
-        ensures each { reads_of r.new + length self.old ≤ reads_of r.old + length self.new + last_read result }
+        ensures each { reads_of r.new + length self.old
+            ≤ reads_of r.old + length self.new + last_read result }
         ensures reads { reads_of r.new ≤ reads_of r.old + most_body }
     {
         let whole = head.len + head.body;

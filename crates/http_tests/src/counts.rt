@@ -67,7 +67,7 @@ fn calls_are_counted(rt: HostRuntime) {
     assert_eq!(rt; counts_of_writes(rt.alloc()), (0, 0));
 }
 
-const FRONTS: [(Front, u8, &str); 7] = [
+const FRONTS: [(Front, u8, &str); 10] = [
     (Front::Head, 1, "http: bad head"),
     (Front::Length, 2, "http: bad length"),
     (Front::TooLong, 3, "http: too long"),
@@ -75,6 +75,9 @@ const FRONTS: [(Front, u8, &str); 7] = [
     (Front::End, 5, "http: the input ended within a request"),
     (Front::Memory, 6, "http: out of memory"),
     (Front::Write(71), 7, "http: a write failed after 71 bytes"),
+    (Front::Spawn, 8, "http: a thread could not be started"),
+    (Front::Accept, 9, "http: a connection could not be accepted"),
+    (Front::Unclosed, 10, "http: the engine could not be closed"),
 ];
 
 /// The first that has another number or another text.

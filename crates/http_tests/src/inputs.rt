@@ -1,6 +1,6 @@
 //! Requests that are read one after the other from a connection's bytes.
 use crate::limits::of_lines;
-use http_input::Input;
+use http_input::{Input, Request};
 use http_reply::{Counted, Front};
 use std::alloc::{AllocError, Global};
 use std::io;
@@ -57,10 +57,13 @@ enum Told {
     NoMemory,
 }
 
-/// Reads a request: how that came out, and after how many reads and failures.
+/// Reads a request and goes on behind it: how that came out, and after how many reads and failures.
 fn read<R: Read>(input: &mut Input, reader: &mut Counted<R>) -> (Told, u64, u64) {
     let told = match input.next_request(reader) {
-        Ok(Some(head)) => Told::Body(head.body),
+        Ok(Some(head)) => {
+            input.skip(head);
+            Told::Body(head.body)
+        }
         Ok(None) => Told::Nothing,
         Err(front) => Told::Fails(front),
     };
@@ -75,23 +78,22 @@ where
     let mut reader = Counted::new(reader);
     match Input::new(alloc) {
         Ok(mut input) => read(&mut input, &mut reader),
-        Err(_) => (Told::NoMemory, 0, 0),
+        Err(AllocError) => (Told::NoMemory, 0, 0),
     }
 }
 
-/// How the put's first bytes come out, where the reader then ends or fails.
-fn begun(alloc: Global, count: usize, fails: bool) -> (Told, u64, u64) {
+/// How these bytes come out, where the reader then ends or fails.
+fn begun(alloc: Global, first: &[u8], fails: bool) -> (Told, u64, u64) {
     let then = b"".as_slice();
-    let first = &PUT[..count];
     outcome(alloc, Cut { first, then, fails })
 }
 
-/// The first number of bytes at which a beginning of the put comes out otherwise than the papers
+/// The first number of bytes at which a beginning of a request comes out otherwise than the papers
 /// say.
-fn first_wrong_beginning(alloc: Global) -> Option<usize> {
-    for count in 1..PUT.len() {
-        let ends = begun(alloc, count, false) == (Told::Fails(Front::End), 2, 0);
-        let fails = begun(alloc, count, true) == (Told::Fails(Front::Read), 2, 1);
+fn first_wrong_beginning(alloc: Global, bytes: &[u8]) -> Option<usize> {
+    for count in 1..bytes.len() {
+        let ends = begun(alloc, &bytes[..count], false) == (Told::Fails(Front::End), 2, 0);
+        let fails = begun(alloc, &bytes[..count], true) == (Told::Fails(Front::Read), 2, 1);
         if !ends || !fails {
             return Some(count);
         }
@@ -102,44 +104,50 @@ fn first_wrong_beginning(alloc: Global) -> Option<usize> {
 #[test]
 fn a_put_that_is_cut(rt: HostRuntime) {
     assert_eq!(rt; PUT.len(), 86);
-    assert_eq!(rt; begun(rt.alloc(), 0, false), (Told::Nothing, 1, 0));
+    assert_eq!(rt; begun(rt.alloc(), b"", false), (Told::Nothing, 1, 0));
     assert_eq!(rt;
-        begun(rt.alloc(), 0, true),
+        begun(rt.alloc(), b"", true),
         (Told::Fails(Front::Read), 1, 1)
     );
-    assert_eq!(rt; begun(rt.alloc(), 86, false), (Told::Body(29), 1, 0));
-    assert_eq!(rt; first_wrong_beginning(rt.alloc()), None);
+    assert_eq!(rt; begun(rt.alloc(), PUT, false), (Told::Body(29), 1, 0));
+    assert_eq!(rt; first_wrong_beginning(rt.alloc(), PUT), None);
 }
 
-/// Whether the request is the put, after so many reads, and the input ends behind it.
-fn is_put<R: Read>(alloc: Global, reader: R, reads: u64) -> bool
+/// After how many reads there is the put, and after how many the input ends behind it.
+fn reads_of_put<R: Read>(alloc: Global, reader: R) -> Option<(u64, u64)>
 where
     R: Drop,
 {
     let mut reader = Counted::new(reader);
     let Ok(mut input) = Input::new(alloc) else {
-        return false;
+        return None;
     };
     let Ok(Some(head)) = input.next_request(&mut reader) else {
-        return false;
+        return None;
     };
-    let request = input.request(head);
-    let is = request.method == b"POST".as_slice()
+    let reads = reader.reads();
+    let is_put = is_put(&input.request(head));
+    input.skip(head);
+    match read(&mut input, &mut reader) {
+        (Told::Nothing, more, 0) if is_put => Some((reads, more)),
+        _ => None,
+    }
+}
+
+fn is_put(request: &Request<'_>) -> bool {
+    request.method == b"POST".as_slice()
         && request.target == b"/v3/kv/put".as_slice()
         && request.body == b"{\"key\":\"Zm9v\",\"value\":\"YmFy\"}".as_slice()
         && !request.close
-        && reader.reads() == reads;
-    input.skip(head);
-    is && read(&mut input, &mut reader) == (Told::Nothing, reads + 1, 0)
 }
 
-/// The first place at which the put, split into two reads, is not read.
-fn first_wrong_split(alloc: Global) -> Option<usize> {
-    for place in 1..PUT.len() {
-        let first = &PUT[..place];
-        let then = &PUT[place..];
+/// The first place at which the put, split into two reads, is not read by these.
+fn first_wrong_split(alloc: Global, put: &[u8]) -> Option<usize> {
+    for place in 1..put.len() {
+        let first = &put[..place];
+        let then = &put[place..];
         let fails = false;
-        if !is_put(alloc, Cut { first, then, fails }, 2) {
+        if reads_of_put(alloc, Cut { first, then, fails }) != Some((2, 3)) {
             return Some(place);
         }
     }
@@ -148,29 +156,21 @@ fn first_wrong_split(alloc: Global) -> Option<usize> {
 
 #[test]
 fn a_put_that_comes_in_two_reads(rt: HostRuntime) {
-    assert!(rt; is_put(rt.alloc(), PUT, 1));
-    assert_eq!(rt; first_wrong_split(rt.alloc()), None);
+    assert_eq!(rt; reads_of_put(rt.alloc(), PUT), Some((1, 2)));
+    assert_eq!(rt; first_wrong_split(rt.alloc(), PUT), None);
 }
 
-/// The lengths of bodies of requests that come with one read, one after the other.
-fn lengths(alloc: Global, bytes: &[u8]) -> [(Told, u64, u64); 3] {
-    let mut told = [(Told::NoMemory, 0, 0); 3];
+/// How three requests come out, one after the other.
+fn three(alloc: Global, bytes: &[u8]) -> [(Told, u64, u64); 3] {
     let mut reader = Counted::new(bytes);
-    let Ok(mut input) = Input::new(alloc) else {
-        return told;
-    };
-    for entry in told.iter_mut() {
-        let head = input.next_request(&mut reader);
-        *entry = match head {
-            Ok(Some(head)) => (Told::Body(head.body), reader.reads(), 0),
-            Ok(None) => (Told::Nothing, reader.reads(), 0),
-            Err(front) => (Told::Fails(front), reader.reads(), 0),
-        };
-        if let Ok(Some(head)) = head {
-            input.skip(head);
+    match Input::new(alloc) {
+        Ok(mut input) => {
+            let first = read(&mut input, &mut reader);
+            let second = read(&mut input, &mut reader);
+            [first, second, read(&mut input, &mut reader)]
         }
+        Err(AllocError) => [(Told::NoMemory, 0, 0); 3],
     }
-    told
 }
 
 #[test]
@@ -178,7 +178,7 @@ fn requests_that_come_together(rt: HostRuntime) {
     let bytes =
         b"GET /a HTTP/1.1\r\n\r\nPOST /b HTTP/1.1\r\nContent-Length: 3\r\n\r\nabcPOST /c HTTP/1.1\r\nContent-Length: 5\r\n\r\n1234";
     assert_eq!(rt;
-        lengths(rt.alloc(), bytes),
+        three(rt.alloc(), bytes),
         [
             (Told::Body(0), 1, 0),
             (Told::Body(3), 1, 0),

@@ -5,7 +5,8 @@ use Rattle.http_input.proofs.input.Input.next_request.Goals as goal
 
 pub returns-in-Ok-clause-tells : goal.returns-in-Ok-clause-tells
 returns-in-Ok-clause-tells g c =
-    tells_of _ _ _ _ (Ok (Some c.in-Ok-Some.head)) (took_trans _ _ _ _ _ _ c.next_head.ensures.took c.read_body.ensures.took) c.in-Ok.ensures.came
+    tells_of _ _ _ _ (Ok (Some c.in-Ok-Some.head)) (took_trans _ _ _ _ _ _ c.next_head.ensures.took c.read_body.ensures.took)
+    c.in-Ok.ensures.came
 
 pub returns-in-Err-read_body-clause-came : goal.returns-in-Err-read_body-clause-came
 returns-in-Err-read_body-clause-came g c = body_failed _ _ c.in-Ok-Some.head c.in-Err-read_body.front c.in-Err-read_body.ensures.came
