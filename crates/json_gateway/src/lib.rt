@@ -49,5 +49,5 @@ pub use messages::message;
 pub use outcome::{Certified, Message, Outcome, Reply, Settled};
 pub use range_view::tables::Trim;
 pub use request_core::answer::Expiry;
-pub use wire::{Unexpired, WireEvent, WireOutcome, WireRun, run_wire};
+pub use wire::{Unexpired, WireEvent, WireOutcome, WireRun, post_and_trim, run_wire};
 pub use witness_core::{Certificate, Claim, Dump, Need};

@@ -81,7 +81,8 @@ pub struct WireRun {
     pub outcomes: Vec<WireOutcome>,
 }
 
-ghost use Rattle.json_gateway.specs.Runs.{IsBareIn, event_view, outcome_view};
+ghost use Rattle.json_gateway.specs.Outcomes.{IsBare};
+ghost use Rattle.json_gateway.specs.Runs.{IsBareIn, command_view, event_view, outcome_view};
 ghost use Rattle.json_gateway.specs.Steps.{Steps, TrimsAll, TrimsWhere};
 
 /// Runs events on a fresh store. **Each outcome's bytes are those of the model of the whole
@@ -134,9 +135,26 @@ fn step_post(alloc: Global, core: &mut Core, path: &[u8], body: &[u8], ids: &Ids
     ensures steps { (w : World) → StandsFor core.old.store w
         → Steps ids.now w (model_post path.now body.now) (outcome_view result) core.old core.new }
 {
+    WireOutcome::Posted(post_and_trim(alloc, core, path, body, ids))
+}
+
+/// Does what a request asks on a core, as [`post`] does, and makes the trimming steps that its
+/// answer waits for (the etcd documentation's CompactionRequest: physical). The outcome is that of
+/// a request in a run.
+pub fn post_and_trim(
+    alloc: Global,
+    core: &mut Core,
+    path: &[u8],
+    body: &[u8],
+    ids: &Ids,
+) -> Outcome
+    ensures bare { IsBare result }
+    ensures steps { (w : World) → StandsFor core.old.store w
+        → Steps ids.now w (model_post path.now body.now) (command_view result) core.old core.new }
+{
     let outcome = post(alloc, core, path, body, ids);
     trim_where(core, outcome.waits);
-    WireOutcome::Posted(outcome)
+    outcome
 }
 
 /// Makes trimming steps until one is done, where an answer waits for it.

@@ -1,5 +1,5 @@
 use Rattle.json_gateway.proofs.Events.{post_steps}
-use Rattle.json_gateway.proofs.wire.step_post.Goals as goal
+use Rattle.json_gateway.proofs.wire.post_and_trim.Goals as goal
 
 pub returns-clause-steps : goal.returns-clause-steps
 returns-clause-steps c = λ w h.
