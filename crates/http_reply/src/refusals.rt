@@ -22,7 +22,8 @@ pub fn write_refusal<W: Write>(
         (refusal_bytes front) }
     ensures failures { failures_of w.new ≡ failures_after result (failures_of w.old) }
     ensures memory { IfErr result (λ f. f ≡ Front.Memory → (w.new ≡ w.old)
-        × (buffer.old < length (refusal_bytes front))) }
+        × (buffer.old < length (refusal_bytes front))
+        × (1024 < length (refusal_bytes front))) }
     ensures room { buffer.old ≤ buffer.new }
 {
     match refusal_body(front) {

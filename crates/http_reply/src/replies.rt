@@ -32,7 +32,8 @@ pub fn write_reply<W: Write>(
         (reply_bytes (record { status = status; body = body.now }) close) }
     ensures failures { failures_of w.new ≡ failures_after result (failures_of w.old) }
     ensures memory { IfErr result (λ f. f ≡ Front.Memory → (w.new ≡ w.old)
-        × (buffer.old < length (reply_bytes (record { status = status; body = body.now }) close))) }
+        × (buffer.old < length (reply_bytes (record { status = status; body = body.now }) close))
+        × (1024 < length (reply_bytes (record { status = status; body = body.now }) close))) }
     ensures room { buffer.old ≤ buffer.new }
 {
     let (mut code, mut length) = (Buffer::new(), Buffer::new());
@@ -65,7 +66,8 @@ pub fn write_stream_head<W: Write>(
         stream_head }
     ensures failures { failures_of w.new ≡ failures_after result (failures_of w.old) }
     ensures memory { IfErr result (λ f. f ≡ Front.Memory → (w.new ≡ w.old)
-        × (buffer.old < length stream_head)) }
+        × (buffer.old < length stream_head)
+        × (1024 < length stream_head)) }
     ensures room { buffer.old ≤ buffer.new }
 {
     buffer.send(
@@ -88,7 +90,8 @@ pub fn write_chunk<W: Write>(
         (chunk message.now) }
     ensures failures { failures_of w.new ≡ failures_after result (failures_of w.old) }
     ensures memory { IfErr result (λ f. f ≡ Front.Memory → (w.new ≡ w.old)
-        × (buffer.old < length (chunk message.now))) }
+        × (buffer.old < length (chunk message.now))
+        × (1024 < length (chunk message.now))) }
     ensures room { buffer.old ≤ buffer.new }
 {
     let mut digits = [0; 16];
@@ -103,7 +106,8 @@ pub fn write_last_chunk<W: Write>(buffer: &mut ReplyBuffer, w: &mut Counted<W>) 
         last_chunk }
     ensures failures { failures_of w.new ≡ failures_after result (failures_of w.old) }
     ensures memory { IfErr result (λ f. f ≡ Front.Memory → (w.new ≡ w.old)
-        × (buffer.old < length last_chunk)) }
+        × (buffer.old < length last_chunk)
+        × (1024 < length last_chunk)) }
     ensures room { buffer.old ≤ buffer.new }
 {
     buffer.send(w, &[b"0\r\n\r\n"])

@@ -50,7 +50,8 @@ impl ReplyBuffer {
             (joined pieces.now) }
         ensures failures { failures_of w.new ≡ failures_after result (failures_of w.old) }
         ensures memory { IfErr result (λ f. f ≡ Front.Memory
-            → (w.new ≡ w.old) × (self.old < length (joined pieces.now))) }
+            → (w.new ≡ w.old) × (self.old < length (joined pieces.now))
+            × (1024 < length (joined pieces.now))) }
         ensures room { self.old ≤ self.new }
     {
         match put(&mut self.text, pieces) {
