@@ -1,0 +1,4 @@
+pub mod Rooms
+pub mod Taking
+pub mod Told
+pub mod Whole

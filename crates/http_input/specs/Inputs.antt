@@ -4,7 +4,7 @@ use Rattle.std.specs.Io.KnownBytes.{IsAtEnd}
 use Rattle.httparse.specs.Grammar.{RequestHead}
 use Rattle.httparse.specs.Spans.{span_bytes}
 use Rattle.http_head.specs.declared.head.Head.{Head}
-use Rattle.http_head.specs.Heads.{Fault, Names, bad_head, bad_length, too_long, most_body, most_head, window}
+use Rattle.http_head.specs.Heads.{Names, bad_head, bad_length, too_long, most_body, most_head, window}
 use Rattle.http_head.specs.Looks.{IsHead}
 use Rattle.http_head.specs.Requests.{Asked, IsCut, ReadsAsked}
 use Rattle.http_reply.specs.Counts.{one_more}
@@ -47,13 +47,6 @@ Took None left' pending pending' = ⊤
 Took (Some left) None pending pending' = ⊥
 Took (Some left) (Some left') pending pending' = pending ++ left ≡ pending' ++ left'
 
--- the fault that an end names, where it is one of the head
-abbrev pub fault_of : Front → Option Fault
-fault_of front.Head = Some bad_head
-fault_of front.Length = Some bad_length
-fault_of front.TooLong = Some too_long
-fault_of _ = None
-
 -- what is so of the bytes that were read
 abbrev pub Came : Option (List ℕ) → List ℕ → Result (Option Head) Front → Type 0
 Came left pending (Ok (Some x)) = IsWhole pending x
@@ -64,7 +57,7 @@ Came left pending (Err front.TooLong) = Names too_long (window pending)
 Came left pending (Err front.Read) = ⊤
 Came left pending (Err front.End) = IsCut pending × IsAtEnd left
 Came left pending (Err front.Memory) = 16384 ≤ length pending
-Came left pending (Err (front.Write n)) = ⊥
+Came left pending (Err _) = ⊥
 
 -- what is so of all bytes that were to come: they are this request and then the others, or it is known why there is none
 abbrev pub Says : List ℕ → List ℕ → List ℕ → Result (Option Head) Front → Type 0
@@ -76,7 +69,7 @@ Says bytes pending left (Err front.TooLong) = Names too_long (window bytes)
 Says bytes pending left (Err front.Read) = ⊤
 Says bytes pending left (Err front.End) = IsCut bytes
 Says bytes pending left (Err front.Memory) = 16384 ≤ length bytes
-Says bytes pending left (Err (front.Write n)) = ⊥
+Says bytes pending left (Err _) = ⊥
 
 -- the same, where the reader tells its bytes
 abbrev pub Tells : Option (List ℕ) → Option (List ℕ) → List ℕ → List ℕ → Result (Option Head) Front → Type 0
@@ -87,9 +80,13 @@ Tells (Some left) (Some left') pending pending' r = Says (pending ++ left) pendi
 -- ---- what a counted reader then tells
 
 -- its failures: one more where a read failed, and no other
+abbrev pub failures_at : Front → ℕ → ℕ
+failures_at front.Read failures = one_more failures
+failures_at _ failures = failures
+
 abbrev pub failures_after_read : {T : Type 0} → Result T Front → ℕ → ℕ
-failures_after_read (Err front.Read) failures = one_more failures
-failures_after_read _ failures = failures
+failures_after_read (Ok x) failures = failures
+failures_after_read (Err f) failures = failures_at f failures
 
 -- the reads that gave no byte: none before a request, and else the last one, where it was made
 abbrev pub empty_reads : Result (Option Head) Front → ℕ

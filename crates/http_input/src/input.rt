@@ -1,10 +1,10 @@
 //! The requests of a connection, one after the other.
-ghost use Rattle.std.specs.Prelude.{◌≡◌, ◌+◌, ◌≤◌, [], length, drop, Some, IfOk};
+ghost use Rattle.std.specs.Prelude.{◌≡◌, ◌+◌, ◌≤◌, [], length, drop, IfOk};
 ghost use Rattle.http_head.specs.Heads.{most_body, most_head};
-ghost use Rattle.http_head.specs.Looks.{fault_view};
 ghost use Rattle.http_reply.specs.Counts.{failures_of, inner_of, reads_of};
 ghost use Rattle.http_input.specs.Inputs.{Came, IsWhole, Tells, Took};
-ghost use Rattle.http_input.specs.Inputs.{asked_of, empty_reads, failures_after_read, fault_of, request_view};
+ghost use Rattle.http_input.specs.Parts as parts;
+ghost use Rattle.http_input.specs.Inputs.{asked_of, empty_reads, failures_after_read, request_view};
 
 use crate::buffer::Buffer;
 use http_head::{Fault, Head, Look, look_at};
@@ -48,7 +48,8 @@ impl Model for Input {
 }
 
 impl Input {
-    ghost use Rattle.http_input.specs.Parts.{BodyCame, HasHead, HeadCame, last_read};
+    ghost use Rattle.http_input.specs.Inputs.{HasHead};
+    ghost use Rattle.http_input.specs.Parts.{BodyCame, HeadCame, Sees, last_read};
 
     /// Nothing is read yet. Fails for want of memory for the least room.
     pub fn new(alloc: Global) -> Result<Input, AllocError>
@@ -133,8 +134,8 @@ impl Input {
         ensures each { reads_of r.new + length self.old ≤ reads_of r.old + length self.new + empty_reads result }
         ensures reads { reads_of r.new ≤ reads_of r.old + most_head }
     {
-        loop {
-            match look_at(self.buffer.as_slice(), &mut self.lines) {
+        'heads: loop {
+            match self.seen() {
                 Look::Head(head) => return Ok(Some(head)),
                 Look::Fault(fault) => return Err(front_of(fault)),
                 Look::More => {}
@@ -150,6 +151,14 @@ impl Input {
                 Err(front) => return Err(front),
             }
         }
+    }
+
+    /// What the bytes begin with.
+    fn seen(&mut self) -> Look
+        ensures same { self.new ≡ self.old }
+        ensures sees { Sees self.new result }
+    {
+        look_at(self.buffer.as_slice(), &mut self.lines)
     }
 
     /// Reads until the body of a head is there.
@@ -176,7 +185,7 @@ impl Input {
 
 /// The same fault, as the end of a connection.
 fn front_of(fault: Fault) -> Front
-    ensures { fault_of result ≡ Some (fault_view fault) }
+    ensures { result ≡ parts.front_of fault }
 {
     match fault {
         Fault::Head => Front::Head,

@@ -12,3 +12,6 @@ number_of front.Read = 4
 number_of front.End = 5
 number_of front.Memory = 6
 number_of (front.Write n) = 7
+number_of front.Spawn = 8
+number_of front.Accept = 9
+number_of front.Unclosed = 10

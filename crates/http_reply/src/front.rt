@@ -1,11 +1,12 @@
-//! Why a connection ends before its requests do.
+//! Why a connection, or a server, ends before its requests do.
 ghost use Rattle.std.specs.Prelude.{◌≡◌};
 ghost use Rattle.http_reply.specs.Fronts.{number_of};
 
 use thiserror::Error;
 
 /// Why a connection is not answered to its end. The first three have a reply of their own, which
-/// [`write_refusal`](crate::write_refusal) writes; after the others nothing more is written.
+/// [`write_refusal`](crate::write_refusal) writes; after the others nothing more is written. The
+/// last three are of a server and not of one connection.
 #[derive(Clone, Copy, Debug, PartialEq, Eq, Error)]
 pub enum Front {
     /// No head of a request can come of the bytes: they are none by RFC 9112, they are of another
@@ -31,6 +32,15 @@ pub enum Front {
     /// A write failed, or took nothing, when so many bytes of the text had gone out.
     #[error("http: a write failed after {0} bytes")]
     Write(u64),
+    /// A thread of the server could not be started.
+    #[error("http: a thread could not be started")]
+    Spawn,
+    /// A connection could not be accepted.
+    #[error("http: a connection could not be accepted")]
+    Accept,
+    /// The engine has no place for the server's clients, or not all of its clients came back.
+    #[error("http: the engine could not be closed")]
+    Unclosed,
 }
 
 impl Front {
@@ -46,6 +56,9 @@ impl Front {
             Front::End => 5,
             Front::Memory => 6,
             Front::Write(_) => 7,
+            Front::Spawn => 8,
+            Front::Accept => 9,
+            Front::Unclosed => 10,
         }
     }
 }

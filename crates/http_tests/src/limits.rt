@@ -4,7 +4,7 @@ use http_head::{Fault, Look, MOST_HEAD, MOST_LINES};
 use std::alloc::{AllocError, Global};
 
 /// A head of so many header lines.
-fn of_lines(alloc: Global, count: usize) -> Result<Vec<u8>, AllocError> {
+pub(super) fn of_lines(alloc: Global, count: usize) -> Result<Vec<u8>, AllocError> {
     let mut text = Vec::new(alloc);
     text.extend_from_slice(b"GET / HTTP/1.1\r\n")?;
     for _ in 0..count {
