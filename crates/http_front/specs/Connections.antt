@@ -1,5 +1,5 @@
 -- What the requests of a connection are answered, over a world of the store and what is kept of it (RFC 9112).
-use Rattle.std.specs.Prelude.{◌≡◌, ℕ, suc, ◌+◌, ◌<◌, ◌≤◌, List, [], ◌++◌, length, take, Bool, true, false, if◌then◌else◌, nat_eq, Option, None, Some, Result, Ok, Err, codes, ⊤}
+use Rattle.std.specs.Prelude.{◌≡◌, ℕ, ◌+◌, ◌<◌, ◌≤◌, List, [], ◌++◌, length, take, Bool, true, false, if◌then◌else◌, nat_eq, Option, None, Some, Result, Ok, Err, codes, ⊤}
 use Rattle.std.specs.Cmp.Lexicographic.{pointwise}
 use Rattle.kv_model.specs.declared.ids.Ids.{Ids}
 use Rattle.kv_model.specs.declared.refusal.Refusal.TheVariants as refusal
@@ -88,7 +88,7 @@ pub data AreMessages (ids : Ids) (n : ℕ) : Standing → List ℕ → Standing 
 -- the stream of a watch: its head, its created message as the first chunk, and its messages
 pub data IsStream (ids : Ids) (n : ℕ) (created : List ℕ) (s : Standing) : List ℕ → Standing → Result Bool Front → Type 0 where
   headless : {out : List ℕ} {f : Front} → IsSent true stream_head out (Err f) → IsStream ids n created s out s (Err f)
-  uncreated : {out : List ℕ} {f : Front} → IsSent true (chunk created) out (Err f) → IsStream ids n created s (stream_head ++ out) s (Err f)
+  uncreated : (out : List ℕ) {f : Front} → IsSent true (chunk created) out (Err f) → IsStream ids n created s (stream_head ++ out) s (Err f)
   whole : {out : List ℕ} {t : Standing} {r : Result Bool Front} → AreMessages ids n s out t r
       → IsStream ids n created s (stream_head ++ (chunk created ++ out)) t r
 
@@ -107,36 +107,36 @@ front_of bad_length = front.Length
 front_of too_long = front.TooLong
 
 -- a refusal ends the connection with its fault, or with what cut its reply
-abbrev pub refusal_end : Fault → Result Bool Front → Front
-refusal_end f (Ok b) = front_of f
-refusal_end f (Err e) = e
+abbrev pub end_of : Front → Result Bool Front → Front
+end_of f (Ok b) = f
+end_of f (Err e) = e
 
--- one reply more
-abbrev pub one_reply_more : Result ℕ Front → Result ℕ Front
-one_reply_more (Ok n) = Ok (suc n)
-one_reply_more (Err f) = Err f
+-- so many replies more
+abbrev pub replies_more : ℕ → Result ℕ Front → Result ℕ Front
+replies_more n (Ok m) = Ok (n + m)
+replies_more n (Err f) = Err f
 
 -- From what stands, these bytes and so many requests at most: what is written, what stands then, and the number of replies, or why there are no more.
 pub data Conn (ids : Ids) : Standing → List ℕ → ℕ → List ℕ → Standing → Result ℕ Front → Type 0 where
   -- no more requests are to be answered
   at_limit : {s : Standing} {bytes : List ℕ} → Conn ids s bytes 0 [] s (Ok 0)
   -- the input ends before a first byte
-  at_end : {s : Standing} {limit : ℕ} → Conn ids s [] (suc limit) [] s (Ok 0)
+  at_end : {s : Standing} (limit : ℕ) → Conn ids s [] (1 + limit) [] s (Ok 0)
   -- the input ends within a request
-  in_request : {s : Standing} {bytes : List ℕ} {limit : ℕ} → IsCut bytes → Conn ids s bytes (suc limit) [] s (Err front.End)
+  within : {s : Standing} {bytes : List ℕ} (limit : ℕ) → IsCut bytes → Conn ids s bytes (1 + limit) [] s (Err front.End)
   -- the bytes begin with no request that is answered
-  refusal : {s : Standing} {bytes out : List ℕ} {limit : ℕ} {r : Result Bool Front} (f : Fault) → Names f (window bytes)
-      → IsSent true (refusal_bytes (front_of f)) out r → Conn ids s bytes (suc limit) out s (Err (refusal_end f r))
+  unanswered : {s : Standing} {bytes out : List ℕ} {r : Result Bool Front} (limit : ℕ) (f : Fault) → Names f (window bytes)
+      → IsSent true (refusal_bytes (front_of f)) out r → Conn ids s bytes (1 + limit) out s (Err (end_of (front_of f) r))
   -- a read failed
-  unread : {s : Standing} {bytes : List ℕ} {limit : ℕ} → Conn ids s bytes (suc limit) [] s (Err front.Read)
+  unread : {s : Standing} {bytes : List ℕ} (limit : ℕ) → Conn ids s bytes (1 + limit) [] s (Err front.Read)
   -- no memory was found for as many bytes as wait
-  unheld : {s : Standing} {bytes : List ℕ} {limit : ℕ} → 16384 ≤ length bytes → Conn ids s bytes (suc limit) [] s (Err front.Memory)
+  unheld : {s : Standing} {bytes : List ℕ} (limit : ℕ) → 16384 ≤ length bytes → Conn ids s bytes (1 + limit) [] s (Err front.Memory)
   -- a request, and then the others
-  more : {s t u : Standing} {bytes rest text out : List ℕ} {limit : ℕ} {r : Result ℕ Front} (a : Asked) → ReadsAsked bytes a rest
-      → IsAnswered ids s a text t (Ok false) → Conn ids t rest limit out u r → Conn ids s bytes (suc limit) (text ++ out) u (one_reply_more r)
+  more : {s t u : Standing} {bytes rest text out : List ℕ} {r : Result ℕ Front} (limit : ℕ) (a : Asked) → ReadsAsked bytes a rest
+      → IsAnswered ids s a text t (Ok false) → Conn ids t rest limit out u r → Conn ids s bytes (1 + limit) (text ++ out) u (replies_more 1 r)
   -- a request that closes the connection
-  closing : {s t : Standing} {bytes rest text : List ℕ} {limit : ℕ} (a : Asked) → ReadsAsked bytes a rest
-      → IsAnswered ids s a text t (Ok true) → Conn ids s bytes (suc limit) text t (Ok 1)
+  closing : {s t : Standing} {bytes rest text : List ℕ} (limit : ℕ) (a : Asked) → ReadsAsked bytes a rest
+      → IsAnswered ids s a text t (Ok true) → Conn ids s bytes (1 + limit) text t (Ok 1)
   -- a request that was done, and whose reply was not written to its end
-  broken : {s t : Standing} {bytes rest text : List ℕ} {limit : ℕ} {f : Front} (a : Asked) → ReadsAsked bytes a rest
-      → IsAnswered ids s a text t (Err f) → Conn ids s bytes (suc limit) text t (Err f)
+  broken : {s t : Standing} {bytes rest text : List ℕ} {f : Front} (limit : ℕ) (a : Asked) → ReadsAsked bytes a rest
+      → IsAnswered ids s a text t (Err f) → Conn ids s bytes (1 + limit) text t (Err f)

@@ -1,5 +1,5 @@
 -- What serving a connection does: to its bytes, to what is written, and to the core.
-use Rattle.std.specs.Prelude.{◌≡◌, ℕ, suc, ◌+◌, ◌⊎◌, List, [], ◌++◌, Bool, Option, None, Some, Result, Ok, Err, ⊤}
+use Rattle.std.specs.Prelude.{◌≡◌, ℕ, ◌+◌, List, [], ◌++◌, Bool, true, Option, None, Some, Result, Ok, Err, ⊤}
 use Rattle.std.specs.Io.KnownBytes.{Appends}
 use Rattle.kv_model.specs.declared.ids.Ids.{Ids}
 use Rattle.store_laws.specs.Stands.{StandsFor}
@@ -7,7 +7,12 @@ use Rattle.request_core.specs.State.{CoreState, keeping_of}
 use Rattle.http_head.specs.Requests.{Asked}
 use Rattle.http_reply.specs.declared.front.Front.{Front}
 use Rattle.http_reply.specs.declared.front.Front.TheVariants as front
-use Rattle.http_front.specs.Connections.{Standing, IsSent, IsAnswered, IsStream, AreMessages, Conn}
+use Rattle.http_reply.specs.Replies.{refusal_bytes, reply_bytes}
+use Rattle.http_reply.specs.Sends.{failures_after}
+use Rattle.json_gateway.specs.declared.outcome.Settled.{Settled}
+use Rattle.json_gateway.specs.declared.outcome.Settled.TheVariants as settled
+use Rattle.json_gateway.specs.Outcomes.{wire_response}
+use Rattle.http_front.specs.Connections.{Standing, IsSent, IsAnswered, IsStream, AreMessages, Conn, end_of, replies_more}
 use Rattle.http_front.specs.declared.serving.Turn.{Turn}
 use Rattle.http_front.specs.declared.serving.Turn.TheVariants as turn
 
@@ -23,6 +28,15 @@ pub record Writes (close : Bool) (text : List ℕ) (c c' : Option (List ℕ)) (r
   pub out : List ℕ
   pub wrote : Appends c c' out
   pub sent : IsSent close text out r
+
+-- the reply that tells why a request is not read was written, as far as it was, and the connection ends so
+pub record Declines (f : Front) (c c' : Option (List ℕ)) (failures failures' : ℕ) (end : Front) : Type 0 where
+  pub out : List ℕ
+  pub sending : Result Bool Front
+  pub wrote : Appends c c' out
+  pub sent : IsSent true (refusal_bytes f) out sending
+  pub failed : failures' ≡ failures_after sending failures
+  pub ends : end ≡ end_of f sending
 
 -- a request was done and answered
 pub record Does (ids : Ids) (s : Standing) (a : Asked) (c : Option (List ℕ)) (core : CoreState) (c' : Option (List ℕ)) (r : Result Bool Front) : Type 0 where
@@ -40,6 +54,12 @@ pub record DoesStream (ids : Ids) (n : ℕ) (created : List ℕ) (s : Standing) 
   pub wrote : Appends c c' out
   pub stream : IsStream ids n created s out after r
 
+-- what a request is told that made a watch: its stream, or that its answer was lost
+abbrev pub IsTold : Settled → Bool → Ids → ℕ → Standing → Option (List ℕ) → CoreState → CoreState → Option (List ℕ) → Result Bool Front → Type 0
+IsTold (settled.Reply x) close ids n s c old new c' r = DoesStream ids n x.body.items s c new c' r
+IsTold settled.Memory close ids n s c old new c' r = (new ≡ old) × Writes close (reply_bytes (wire_response settled.Memory) close) c c' r
+IsTold (settled.Lost at) close ids n s c old new c' r = (new ≡ old) × Writes close (reply_bytes (wire_response (settled.Lost at)) close) c c' r
+
 -- the messages of a watch were written
 pub record DoesMessages (ids : Ids) (n : ℕ) (s : Standing) (c : Option (List ℕ)) (core : CoreState) (c' : Option (List ℕ)) (r : Result Bool Front) : Type 0 where
   pub after : Standing
@@ -49,11 +69,6 @@ pub record DoesMessages (ids : Ids) (n : ℕ) (s : Standing) (c : Option (List �
   pub messages : AreMessages ids n s out after r
 
 -- ---- a connection
-
--- so many replies more
-abbrev pub replies_more : ℕ → Result ℕ Front → Result ℕ Front
-replies_more n (Ok m) = Ok (n + m)
-replies_more n (Err f) = Err f
 
 -- n requests were answered: whatever answers the bytes that are left, from what stands now, ends the answering of all
 pub record GoesOn (ids : Ids) (s : Standing) (bytes : List ℕ) (n : ℕ) (c : Option (List ℕ)) (left : List ℕ) (core : CoreState) (c' : Option (List ℕ)) : Type 0 where
@@ -70,7 +85,7 @@ pub record Stops (ids : Ids) (s : Standing) (bytes : List ℕ) (c : Option (List
   pub out : List ℕ
   pub stands : Stands core after
   pub wrote : Appends c c' out
-  pub conn : (limit : ℕ) → Conn ids s bytes (suc limit) out after r
+  pub conn : (limit : ℕ) → Conn ids s bytes (1 + limit) out after r
 
 -- What is written is what the bytes are answered, the core then stands for what stands after that, and the result is the number of replies, or
 -- why there are no more.

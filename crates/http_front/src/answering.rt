@@ -1,13 +1,12 @@
 //! What a request asks, and how its outcome is written.
-ghost use Rattle.std.specs.Prelude.{◌≡◌, true};
-ghost use Rattle.http_head.specs.Heads.{Names};
+ghost use Rattle.std.specs.Prelude.{◌≡◌};
 ghost use Rattle.http_input.specs.Inputs.{request_view};
 ghost use Rattle.http_reply.specs.Counts.{failures_of, inner_of};
-ghost use Rattle.http_reply.specs.Replies.{refusal_bytes, reply_bytes};
+ghost use Rattle.http_reply.specs.Replies.{reply_bytes};
 ghost use Rattle.http_reply.specs.Sends.{failures_after};
 ghost use Rattle.json_gateway.specs.Outcomes.{wire_response};
 ghost use Rattle.http_front.specs.Connections.{path_asked};
-ghost use Rattle.http_front.specs.Served.{Writes};
+ghost use Rattle.http_front.specs.Served.{Declines, Writes};
 
 use http_head::path_of;
 use http_input::Request;
@@ -55,9 +54,12 @@ pub fn write_settled<W: Write>(
 
 /// Writes the reply that tells why a request is not read, where there is one, and gives why the
 /// connection ends: the same, or why that reply was not written to its end.
-pub fn decline<W: Write>(buffer: &mut ReplyBuffer, w: &mut Counted<W>, front: Front) -> Front {
+pub fn decline<W: Write>(buffer: &mut ReplyBuffer, w: &mut Counted<W>, front: Front) -> Front
+    ensures { Declines front (W.contents (inner_of w.old)) (W.contents (inner_of w.new))
+        (failures_of w.old) (failures_of w.new) result }
+{
     match write_refusal(buffer, w, front) {
         Ok(()) => front,
-        Err(front) => front,
+        Err(cut) => cut,
     }
 }

@@ -3,8 +3,8 @@ ghost use Rattle.std.specs.Prelude.{◌≡◌, ◌⊎◌, []};
 ghost use Rattle.http_input.specs.Inputs.{failures_after_read, request_view};
 ghost use Rattle.http_reply.specs.Counts.{failures_of, inner_of};
 ghost use Rattle.http_reply.specs.Sends.{failures_after};
-ghost use Rattle.http_front.specs.Connections.{Standing, event_of};
-ghost use Rattle.http_front.specs.Served.{Does, NotBegun, ServesOf, Stands, Turns, ids_alone};
+ghost use Rattle.http_front.specs.Connections.{Standing};
+ghost use Rattle.http_front.specs.Served.{Does, IsTold, NotBegun, ServesOf, Stands, Turns, ids_alone};
 
 use crate::answering::{command_path, decline, write_settled};
 use crate::streaming::stream;
@@ -178,6 +178,8 @@ fn tell<W: Write>(
     w: &mut Counted<W>,
     ids: &Ids,
 ) -> Result<bool, Front>
+    ensures tells { (s : Standing) → Stands core.old s → IsTold settled.now close ids.now number s
+        (W.contents (inner_of w.old)) core.old core.new (W.contents (inner_of w.new)) result }
     ensures writes { failures_of w.new ≡ failures_after result (failures_of w.old) }
 {
     match settled {

@@ -28,17 +28,17 @@ pub(crate) fn stream<W: Write>(
         (W.contents (inner_of w.old)) core.new (W.contents (inner_of w.new)) result }
     ensures failures { failures_of w.new ≡ failures_after result (failures_of w.old) }
 {
-    if let Err(front) = begin(buffer, w) {
-        return Err(front);
+    match begin(buffer, w) {
+        Ok(_) => match tell(buffer, w, created) {
+            Ok(_) => write_messages(alloc, core, number, buffer, w, ids),
+            Err(front) => Err(front),
+        },
+        Err(front) => Err(front),
     }
-    if let Err(front) = tell(buffer, w, created) {
-        return Err(front);
-    }
-    write_messages(alloc, core, number, buffer, w, ids)
 }
 
 /// Writes the messages of a watch until a delivery tells nothing or finds no watch, and the last
-/// chunk. Each message goes on by a revision at least, so there are no more than revisions.
+/// chunk. Each message goes on by a revision at least, so behind as many and one more there is none.
 fn write_messages<W: Write>(
     alloc: Global,
     core: &mut Core,
@@ -51,18 +51,23 @@ fn write_messages<W: Write>(
         (W.contents (inner_of w.old)) core.new (W.contents (inner_of w.new)) result }
     ensures failures { failures_of w.new ≡ failures_after result (failures_of w.old) }
 {
-    for _ in 0..=core.status().revision {
+    let mut rounds = core.status().revision;
+    loop {
         match message(alloc, core, number, ids) {
-            Ok(Message::Text(text)) => {
-                if let Err(front) = tell(buffer, w, text.as_slice()) {
-                    return Err(front);
+            Ok(Message::Text(text)) => match tell(buffer, w, text.as_slice()) {
+                Ok(_) => {
+                    if rounds == 0 {
+                        return end(buffer, w);
+                    }
+                    rounds -= 1;
                 }
-            }
-            Ok(_) => return end(buffer, w),
+                Err(front) => return Err(front),
+            },
+            Ok(Message::Nothing) => return end(buffer, w),
+            Ok(Message::NoWatch) => return end(buffer, w),
             Err(AllocError) => return Err(Front::Memory),
         }
     }
-    end(buffer, w)
 }
 
 /// Writes the head of a stream.
