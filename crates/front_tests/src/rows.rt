@@ -126,6 +126,38 @@ fn wrong_row(alloc: Global) -> Option<usize> {
     ROWS.iter().position(|row| !holds(alloc, row))
 }
 
+/// Whether the first put's request, ended behind so many bytes, is answered by nothing.
+fn ends_within(alloc: Global, count: usize) -> bool {
+    holds(alloc, &(&PUT[..count], 9, b"", Err(Front::End), 1))
+}
+
+/// Whether of its reply, to a writer that takes so many bytes, just these go out, and the put stands.
+fn is_cut(alloc: Global, count: usize) -> bool {
+    let mut core = Core::new(alloc);
+    let mut room = [0; 147];
+    let mut reader = Counted::new(PUT);
+    let mut writer = Counted::new(&mut room[..count]);
+    let result = serve_alone(alloc, &mut core, &mut reader, &mut writer, 9);
+    let (at, failures) = (core.status().revision, writer.failures());
+    result == Err(Front::Write(count as u64))
+        && at == 2
+        && failures == 1
+        && room[..count] == PUT_REPLY[..count]
+}
+
+#[test]
+fn cut_input_and_output(rt: HostRuntime) {
+    let alloc = rt.alloc();
+    assert_eq!(rt;
+        (1..PUT.len()).find(|count| !ends_within(alloc, *count)),
+        None
+    );
+    assert_eq!(rt;
+        (0..PUT_REPLY.len()).find(|count| !is_cut(alloc, *count)),
+        None
+    );
+}
+
 #[test]
 fn rows(rt: HostRuntime) {
     assert_eq!(rt; wrong_row(rt.alloc()), None);

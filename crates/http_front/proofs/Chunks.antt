@@ -1,20 +1,23 @@
 -- The messages of a watch, one after the other.
-use Rattle.std.proofs.Common.{◌≡◌, ◌≤◌, ℕ, List, [], ◌++◌, Bool, true, false, Option, None, Some, Result, Ok, Err, refl, sym, ◌∙◌, ap, subst, append_assoc}
+use Rattle.std.proofs.Common.{◌≡◌, ◌≤◌, ℕ, ◌+◌, ◌-◌, arith, List, [], ◌++◌, Bool, true, false, Option, None, Some, Result, Ok, Err, refl, sym, ◌∙◌, ap, subst, append_assoc}
 use Rattle.std.specs.Prelude.{is_some}
 use Rattle.std.specs.Io.KnownBytes.{Appends}
 use Rattle.kv_model.specs.declared.ids.Ids.{Ids}
-use Rattle.kv_model.specs.Watches.{deliver}
-use Rattle.kv_model.specs.Wire.{WireTold, message_to, tell_message}
-use Rattle.kv_model.specs.World.{World}
+use Rattle.kv_model.specs.Answers.{message_text}
+use Rattle.kv_model.specs.Watches.{Delivery, after_delivery, deliver, delivery}
+use Rattle.kv_model.specs.Wire.{WireEvent, WireTold, client_id, message_to, tell_message, wire_step}
+use Rattle.kv_model.specs.World.{World, revision, watch_at}
 use Rattle.store_laws.specs.Stands.{StandsFor}
 use Rattle.request_core.specs.State.{CoreState, keeping_of, with_watches}
+use Rattle.json_gateway.specs.declared.outcome.Message.{Message}
+use Rattle.json_gateway.specs.Runs.{message_view}
 use Rattle.http_reply.specs.declared.front.Front.{Front}
 use Rattle.http_reply.specs.declared.front.Front.TheVariants as front
 use Rattle.http_reply.specs.Replies.{chunk, last_chunk, stream_head}
 use Rattle.http_front.specs.Connections.{AreMessages, IsStream, Standing, with_world}
 use Rattle.http_front.specs.Served.{DoesMessages, DoesStream, Stands, Writes}
 use Rattle.http_front.proofs.Conns.{wrote_more, wrote_none}
-use Rattle.http_front.proofs.Rests.{rest}
+use Rattle.http_front.proofs.Rests.{less_at, quiet_at, rest}
 
 -- ---- what a delivery told
 
@@ -94,6 +97,55 @@ module _ (ids : Ids) (n : ℕ) (s : Standing) where
       wrote = wrote_more a b b g.out [] g.wrote (wrote_none b);
       messages = g.goes [] g.after (Err front.Memory) AreMessages.untold;
     }
+
+-- ---- one delivery
+
+-- a delivery that tells nothing leaves the world
+quiet_same : (ids : Ids) (w : World) (n : ℕ) → message_to ids w n ≡ None → (deliver w n).1 ≡ w
+quiet_same ids w n e = by (delivery w (watch_at w.watches n)) e
+  where
+    by : (d : Delivery) → message_text ids (revision w) (client_id (watch_at w.watches n)) d ≡ None → after_delivery w n d ≡ w
+    by Delivery.no_watch e = refl
+    by Delivery.nothing e = refl
+    by (Delivery.events es) e = absurd (cc)
+    by (Delivery.cancelled c) e = absurd (cc)
+
+-- some messages were told, and then the delivery m was made
+module _ (ids : Ids) (n : ℕ) (s : Standing) (a b : Option (List ℕ)) (core : CoreState) (rounds : ℕ) (g : Chunks ids n s a core b (rounds + 1)) (new : CoreState) (m : Message)
+    (tells : (w : World) → StandsFor core.store w → message_view m ≡ (wire_step ids w (WireEvent.deliver n)).0)
+    (on : (w : World) → StandsFor core.store w → StandsFor new.store (wire_step ids w (WireEvent.deliver n)).1) (others : new ≡ with_watches new.store.watches core) where
+  on_then : Stands new (with_world g.after (deliver g.after.world n).1)
+  on_then = went_on n core new g.after g.stands on others
+
+  module _ (text : List ℕ) (view : message_view m ≡ WireTold.message text) where
+    is_told : message_to ids g.after.world n ≡ Some text
+    is_told = text_told _ _ text (sym view ∙ tells g.after.world g.stands.world)
+
+    less : rest (deliver g.after.world n).1 n ≤ rounds
+    less = let l = less_at ids g.after.world n g.stands.world.sound text is_told in omega (arith, l, g.room_is)
+
+    pub text_more : (c : Option (List ℕ)) (x : Bool) → Writes true (chunk text) b c (Ok x) → Chunks ids n s a new c (rounds - 1 + 1)
+    text_more c x w = one_more ids n s a b core (rounds + 1) g c new text x (rounds - 1 + 1) is_told w on_then (omega (arith, less))
+
+    pub text_cut : (c : Option (List ℕ)) (f : Front) → Writes true (chunk text) b c (Err f) → DoesMessages ids n s a new c (Err f)
+    text_cut c f w = at_cut ids n s a b core (rounds + 1) g c new text f is_told w on_then
+
+    pub text_last : (c d : Option (List ℕ)) (x : Bool) (r : Result Bool Front) → rounds ≡ 0 → Writes true (chunk text) b c (Ok x) → Writes true last_chunk c d r
+        → DoesMessages ids n s a new d r
+    text_last c d x r e w v =
+        let k : Chunks ids n s a new c 0 = one_more ids n s a b core (rounds + 1) g c new text x 0 is_told w on_then (omega (arith, less, e)) in
+        at_quiet ids n s a c new 0 k d r new k.stands (quiet_at ids k.after.world n k.stands.world.sound (omega (arith, k.room_is))) v
+
+  module _ (quiet : message_to ids g.after.world n ≡ None) where
+    ends_quiet : (c : Option (List ℕ)) (r : Result Bool Front) → Writes true last_chunk b c r → DoesMessages ids n s a new c r
+    ends_quiet c r w = at_quiet ids n s a b core (rounds + 1) g c r new
+        (record { world = subst (StandsFor new.store) (quiet_same ids g.after.world n quiet) on_then.world; keeping = on_then.keeping }) quiet w
+
+  pub nothing_ends : message_view m ≡ WireTold.nothing → (c : Option (List ℕ)) (r : Result Bool Front) → Writes true last_chunk b c r → DoesMessages ids n s a new c r
+  nothing_ends view = ends_quiet (nothing_told _ _ (sym view ∙ tells g.after.world g.stands.world))
+
+  pub none_ends : message_view m ≡ WireTold.no_watch → (c : Option (List ℕ)) (r : Result Bool Front) → Writes true last_chunk b c r → DoesMessages ids n s a new c r
+  none_ends view = ends_quiet (none_told _ _ (sym view ∙ tells g.after.world g.stands.world))
 
 -- ---- a stream
 

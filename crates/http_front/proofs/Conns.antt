@@ -1,15 +1,16 @@
 -- A connection by one request more, and the runs of turns.
-use Rattle.std.proofs.Common.{◌≡◌, ◌≤◌, ◌<◌, ℕ, ◌+◌, ◌-◌, arith, List, [], ◌++◌, Bool, true, false, Option, None, Some, Result, Ok, Err, refl, sym, ◌∙◌, ap, subst, append_assoc}
+use Rattle.std.proofs.Common.{◌≡◌, ◌≤◌, ◌<◌, ◌⊎◌, inl, inr, ℕ, ◌+◌, ◌-◌, arith, List, [], ◌++◌, Bool, true, false, Option, None, Some, Result, Ok, Err, refl, sym, ◌∙◌, ap, subst, append_assoc}
 use Rattle.std.specs.Io.KnownBytes.{Appends}
 use Rattle.std.proofs.lemmas.List.{append-nil}
 use Rattle.kv_model.specs.declared.ids.Ids.{Ids}
 use Rattle.request_core.specs.State.{CoreState}
 use Rattle.http_head.specs.Requests.{Asked, ReadsAsked}
 use Rattle.http_reply.specs.declared.front.Front.{Front}
+use Rattle.http_reply.specs.declared.front.Front.TheVariants as front
 use Rattle.http_front.specs.declared.serving.Turn.{Turn}
 use Rattle.http_front.specs.declared.serving.Turn.TheVariants as turn
 use Rattle.http_front.specs.Connections.{Standing, Conn, replies_more}
-use Rattle.http_front.specs.Served.{Does, GoesOn, Serves, ServesOf, SoFar, Stands, Stops, Turned, Turns}
+use Rattle.http_front.specs.Served.{Does, GoesOn, NotBegun, Serves, ServesOf, SoFar, Stands, Stops, Turned, Turns}
 
 -- ---- what is written
 
@@ -160,3 +161,12 @@ module _ (ids : Ids) (old : CoreState) where
       pub failed : (most : ℕ) (x : Front) → n < most → Takes ids core b d q o c' core' c'' (Err x) → (s : Standing) → Stands old s
           → ServesOf ids s a p most c core' c'' (Err x)
       failed most x l k = stop most (Err x) (Err x) (Err x) l refl (λ u bytes left h. h) k
+
+-- ---- the buffers
+
+pub not_begun : (X : Type 0) (core : CoreState) (c : Option (List ℕ)) → NotBegun core core c c (Err front.Memory) ⊎ X
+not_begun X core c = inl (record { memory = refl; core = refl; wrote = wrote_none c })
+
+pub begun : (X : Type 0) (ids : Ids) (s : Standing) (a : Option (List ℕ)) (p : List ℕ) (most : ℕ) (c c' : Option (List ℕ)) (core : CoreState) (r : Result ℕ Front)
+    → p ≡ [] → ServesOf ids s a p most c core c' r → X ⊎ ServesOf ids s a [] most c core c' r
+begun X ids s a p most c c' core r e h = inr (subst (λ (p : List ℕ). ServesOf ids s a p most c core c' r) e h)

@@ -23,7 +23,7 @@ module _ (ids : Ids) (s : Standing) (bytes : List ℕ) (c c' : Option (List ℕ)
     out = d.out;
     stands = h;
     wrote = d.wrote;
-    conn = λ l. subst (λ (e : Front). Conn ids s bytes (1 + l) d.out s (Err e)) (sym d.ends) (Conn.unanswered l f n d.sent);
+    conn = λ l. subst (λ (e : Front). Conn ids s bytes (1 + l) d.out s (Err e)) (sym d.ends) (Conn.unanswered l f d.sending n d.sent);
   }
 
   -- an end without words
@@ -58,67 +58,83 @@ declined ids s (Some xs) (Some ys) p q c c' core m m' x end h t d = no_request i
 
 -- ---- what reader and writer tell of failures
 
--- the reader's failures go by what it ended with
-reads_by : (x : Front) (r : Result Bool Front) (out : List ℕ) (n : ℕ) → IsSent true (refusal_bytes x) out r
-    → failures_after_read {T = ℕ} (Err (end_of x r)) n ≡ failures_after_read {T = ℕ} (Err x) n
-reads_by x (Ok b) out n h = refl
-reads_by x (Err front.Head) out n h = absurd h
-reads_by x (Err front.Length) out n h = absurd h
-reads_by x (Err front.TooLong) out n h = absurd h
-reads_by x (Err front.Read) out n h = absurd h
-reads_by x (Err front.End) out n h = absurd h
-reads_by x (Err front.Memory) out n h = by x (silent_at x front.Memory out h)
-  where
-    silent_at : (x e : Front) (out : List ℕ) → IsSent true (refusal_bytes x) out (Err e) → refusal_bytes x ≡ [] → e ≡ x
-    silent_at x e out h none = (silent (refusal_bytes x) out x (Err e) none h).1
+module _ (T U : Type 0) where
+  -- the reader's failures go by what it ended with
+  reads_by : (x : Front) (r : Result Bool Front) (out : List ℕ) (n : ℕ) → IsSent true (refusal_bytes x) out r
+      → failures_after_read {T = T} (Err (end_of x r)) n ≡ failures_after_read {T = U} (Err x) n
+  reads_by front.Head (Ok b) out n h = refl
+  reads_by front.Length (Ok b) out n h = refl
+  reads_by front.TooLong (Ok b) out n h = refl
+  reads_by front.Read (Ok b) out n h = refl
+  reads_by front.End (Ok b) out n h = refl
+  reads_by front.Memory (Ok b) out n h = refl
+  reads_by (front.Write m) (Ok b) out n h = refl
+  reads_by front.Spawn (Ok b) out n h = refl
+  reads_by front.Accept (Ok b) out n h = refl
+  reads_by front.Unclosed (Ok b) out n h = refl
+  reads_by x (Err front.Head) out n h = absurd h
+  reads_by x (Err front.Length) out n h = absurd h
+  reads_by x (Err front.TooLong) out n h = absurd h
+  reads_by x (Err front.Read) out n h = absurd h
+  reads_by x (Err front.End) out n h = absurd h
+  reads_by x (Err front.Memory) out n h = by x (λ none. (silent (refusal_bytes x) out x (Err front.Memory) none h).1)
+    where
+      by : (x : Front) → (refusal_bytes x ≡ [] → front.Memory ≡ x) → failures_after_read {T = T} (Err front.Memory) n ≡ failures_after_read {T = U} (Err x) n
+      by front.Head k = refl
+      by front.Length k = refl
+      by front.TooLong k = refl
+      by front.Read k = ap (λ (e : Front). failures_after_read {T = T} (Err e) n) (k refl)
+      by front.End k = refl
+      by front.Memory k = refl
+      by (front.Write m) k = refl
+      by front.Spawn k = refl
+      by front.Accept k = refl
+      by front.Unclosed k = refl
+  reads_by x (Err (front.Write w)) out n h = by x (λ none. (silent (refusal_bytes x) out x (Err (front.Write w)) none h).1)
+    where
+      by : (x : Front) → (refusal_bytes x ≡ [] → front.Write w ≡ x) → failures_after_read {T = T} (Err (front.Write w)) n ≡ failures_after_read {T = U} (Err x) n
+      by front.Head k = refl
+      by front.Length k = refl
+      by front.TooLong k = refl
+      by front.Read k = ap (λ (e : Front). failures_after_read {T = T} (Err e) n) (k refl)
+      by front.End k = refl
+      by front.Memory k = refl
+      by (front.Write m) k = refl
+      by front.Spawn k = refl
+      by front.Accept k = refl
+      by front.Unclosed k = refl
+  reads_by x (Err front.Spawn) out n h = absurd h
+  reads_by x (Err front.Accept) out n h = absurd h
+  reads_by x (Err front.Unclosed) out n h = absurd h
 
-    by : (x : Front) → (refusal_bytes x ≡ [] → front.Memory ≡ x) → failures_after_read {T = ℕ} (Err front.Memory) n ≡ failures_after_read {T = ℕ} (Err x) n
-    by front.Head k = refl
-    by front.Length k = refl
-    by front.TooLong k = refl
-    by front.Read k = ap (λ (e : Front). failures_after_read {T = ℕ} (Err e) n) (k refl)
-    by front.End k = refl
-    by front.Memory k = refl
-    by (front.Write m) k = refl
-    by front.Spawn k = refl
-    by front.Accept k = refl
-    by front.Unclosed k = refl
-reads_by x (Err (front.Write w)) out n h = by x (λ none. (silent (refusal_bytes x) out x (Err (front.Write w)) none h).1)
-  where
-    by : (x : Front) → (refusal_bytes x ≡ [] → front.Write w ≡ x) → failures_after_read {T = ℕ} (Err (front.Write w)) n ≡ failures_after_read {T = ℕ} (Err x) n
-    by front.Head k = refl
-    by front.Length k = refl
-    by front.TooLong k = refl
-    by front.Read k = ap (λ (e : Front). failures_after_read {T = ℕ} (Err e) n) (k refl)
-    by front.End k = refl
-    by front.Memory k = refl
-    by (front.Write m) k = refl
-    by front.Spawn k = refl
-    by front.Accept k = refl
-    by front.Unclosed k = refl
-reads_by x (Err front.Spawn) out n h = absurd h
-reads_by x (Err front.Accept) out n h = absurd h
-reads_by x (Err front.Unclosed) out n h = absurd h
+  pub reads_told : (x end : Front) (c c' : Option (List ℕ)) (m m' n : ℕ) → Declines x c c' m m' end
+      → failures_after_read {T = T} (Err end) n ≡ failures_after_read {T = U} (Err x) n
+  reads_told x end c c' m m' n d = ap (λ (e : Front). failures_after_read {T = T} (Err e) n) d.ends ∙ reads_by x d.sending d.out n d.sent
 
-pub reads_told : (x end : Front) (c c' : Option (List ℕ)) (m m' n : ℕ) → Declines x c c' m m' end
-    → failures_after_read {T = ℕ} (Err end) n ≡ failures_after_read {T = ℕ} (Err x) n
-reads_told x end c c' m m' n d = ap (λ (e : Front). failures_after_read {T = ℕ} (Err e) n) d.ends ∙ reads_by x d.sending d.out n d.sent
+  -- the writer's failures go by what it ended with, where that came of no write before
+  writes_by : (x : Front) (r : Result Bool Front) (left : Option (List ℕ)) (q : List ℕ) (n : ℕ) → Came left q (Err x)
+      → failures_after {T = T} (Err (end_of x r)) n ≡ failures_after r n
+  writes_by x (Err front.Head) left q n h = refl
+  writes_by x (Err front.Length) left q n h = refl
+  writes_by x (Err front.TooLong) left q n h = refl
+  writes_by x (Err front.Read) left q n h = refl
+  writes_by x (Err front.End) left q n h = refl
+  writes_by x (Err front.Memory) left q n h = refl
+  writes_by x (Err (front.Write m)) left q n h = refl
+  writes_by x (Err front.Spawn) left q n h = refl
+  writes_by x (Err front.Accept) left q n h = refl
+  writes_by x (Err front.Unclosed) left q n h = refl
+  writes_by front.Head (Ok b) left q n h = refl
+  writes_by front.Length (Ok b) left q n h = refl
+  writes_by front.TooLong (Ok b) left q n h = refl
+  writes_by front.Read (Ok b) left q n h = refl
+  writes_by front.End (Ok b) left q n h = refl
+  writes_by front.Memory (Ok b) left q n h = refl
+  writes_by (front.Write m) (Ok b) left q n h = absurd h
+  writes_by front.Spawn (Ok b) left q n h = refl
+  writes_by front.Accept (Ok b) left q n h = refl
+  writes_by front.Unclosed (Ok b) left q n h = refl
 
--- the writer's failures go by what it ended with, where that came of no write before
-writes_by : (x : Front) (r : Result Bool Front) (left : Option (List ℕ)) (q : List ℕ) (n : ℕ) → Came left q (Err x)
-    → failures_after {T = ℕ} (Err (end_of x r)) n ≡ failures_after r n
-writes_by x (Err f) left q n h = refl
-writes_by front.Head (Ok b) left q n h = refl
-writes_by front.Length (Ok b) left q n h = refl
-writes_by front.TooLong (Ok b) left q n h = refl
-writes_by front.Read (Ok b) left q n h = refl
-writes_by front.End (Ok b) left q n h = refl
-writes_by front.Memory (Ok b) left q n h = refl
-writes_by (front.Write m) (Ok b) left q n h = absurd h
-writes_by front.Spawn (Ok b) left q n h = refl
-writes_by front.Accept (Ok b) left q n h = refl
-writes_by front.Unclosed (Ok b) left q n h = refl
-
-pub writes_told : (x end : Front) (c c' : Option (List ℕ)) (m m' : ℕ) (left : Option (List ℕ)) (q : List ℕ) → Came left q (Err x) → Declines x c c' m m' end
-    → m' ≡ failures_after {T = ℕ} (Err end) m
-writes_told x end c c' m m' left q h d = d.failed ∙ sym (ap (λ (e : Front). failures_after {T = ℕ} (Err e) m) d.ends ∙ writes_by x d.sending left q m h)
+  pub writes_told : (x end : Front) (c c' : Option (List ℕ)) (m m' : ℕ) (left : Option (List ℕ)) (q : List ℕ) → Came left q (Err x) → Declines x c c' m m' end
+      → m' ≡ failures_after {T = T} (Err end) m
+  writes_told x end c c' m m' left q h d = d.failed ∙ sym (ap (λ (e : Front). failures_after {T = T} (Err e) m) d.ends ∙ writes_by x d.sending left q m h)

@@ -4,9 +4,10 @@ use Rattle.std.specs.Prelude.{⊤}
 use Rattle.std.specs.Io.KnownBytes.{Appends}
 use Rattle.http_reply.specs.declared.front.Front.{Front}
 use Rattle.http_reply.specs.declared.front.Front.TheVariants as front
-use Rattle.http_reply.specs.Sends.{Sends}
+use Rattle.http_reply.specs.Replies.{refusal_bytes}
+use Rattle.http_reply.specs.Sends.{Sends, failures_after}
 use Rattle.http_front.specs.Connections.{IsSent, end_of}
-use Rattle.http_front.specs.Served.{Writes}
+use Rattle.http_front.specs.Served.{Declines, Writes}
 
 pub sent_whole : (close : Bool) (text : List ℕ) (c c' : Option (List ℕ)) → Appends c c' text → Writes close text c c' (Ok close)
 sent_whole close text c c' h = record { out = text; wrote = h; sent = (refl, refl) }
@@ -37,3 +38,11 @@ silent text out x (Err (front.Write n)) e h = absurd (omega (arith, h.0, ap leng
 silent text out x (Err front.Spawn) e h = absurd h
 silent text out x (Err front.Accept) e h = absurd h
 silent text out x (Err front.Unclosed) e h = absurd h
+
+-- ---- the reply that tells why a request is not read
+
+pub said : (f : Front) (c c' : Option (List ℕ)) (m m' : ℕ) → Appends c c' (refusal_bytes f) → m' ≡ m → Declines f c c' m m' f
+said f c c' m m' h e = record { out = refusal_bytes f; sending = Ok true; wrote = h; sent = (refl, refl); failed = e; ends = refl }
+
+pub unsaid : (f x : Front) (c c' : Option (List ℕ)) (m m' : ℕ) → Writes true (refusal_bytes f) c c' (Err x) → m' ≡ failures_after {T = Bool} (Err x) m → Declines f c c' m m' x
+unsaid f x c c' m m' w e = record { out = w.out; sending = Err x; wrote = w.wrote; sent = w.sent; failed = e; ends = refl }

@@ -25,6 +25,11 @@ pub cancelled : (n : ℕ) (old new : CoreState) (t : Standing) → Stands old t
     → new ≡ with_watches new.store.watches old → Stands new (dropped (Some n) t)
 cancelled n old new t h gone others = record { world = gone t.world h.world; keeping = ap keeping_of others ∙ h.keeping }
 
+-- the event, by what the request asks
+pub pathed : (ids : Ids) (w : World) (a : Asked) (path : List ℕ) (o : WireOutcome) (old new : CoreState) → path ≡ path_asked a
+    → Steps ids w (WireEvent.post path a.body) o old new → Steps ids w (event_of a) o old new
+pathed ids w a path o old new e h = subst (λ (p : List ℕ). Steps ids w (WireEvent.post p a.body) o old new) e h
+
 module _ (ids : Ids) (s : Standing) (a : Asked) (old new : CoreState) (h : Stands old s) where
   -- what stands after an outcome
   abbrev left_by : WireOutcome → Standing

@@ -9,7 +9,7 @@ use Rattle.http_reply.specs.declared.front.Front.{Front}
 use Rattle.http_front.specs.declared.serving.Turn.{Turn}
 use Rattle.http_front.specs.declared.serving.Turn.TheVariants as turn
 use Rattle.http_front.specs.Connections.{Standing, Conn}
-use Rattle.http_front.specs.Served.{Does, Stands, Turns}
+use Rattle.http_front.specs.Served.{Does, Stands, Turns, turn_of}
 use Rattle.http_front.proofs.Conns.{turn_more, turn_last, turn_broken, wrote_none}
 
 -- a request was read: of the bytes p the reader left q, which begin with it
@@ -43,6 +43,14 @@ module _ (ids : Ids) (s : Standing) (left left' : Option (List ℕ)) (p q q' : L
       by None l' t d = tt
       by (Some xs) None t d = absurd t
       by (Some xs) (Some ys) t d = turn_broken ids s (p ++ xs) (drop (x.len + x.body) q ++ ys) (asked_of q x) c c' core t.1 f d
+
+  pub asked : (r : Result Bool Front) (t : Result Turn Front) → t ≡ turn_of r → Does ids s a c core c' r → Turns ids s left left' p q' c core c' t
+  asked r t f d = subst (λ (t : Result Turn Front). Turns ids s left left' p q' c core c' t) (sym f) (by r d)
+    where
+      by : (r : Result Bool Front) → Does ids s a c core c' r → Turns ids s left left' p q' c core c' (turn_of r)
+      by (Ok true) d = asked_last d
+      by (Ok false) d = asked_more d
+      by (Err f) d = asked_broken f d
 
 -- the input has ended
 pub ended : (ids : Ids) (s : Standing) (left left' : Option (List ℕ)) (p q : List ℕ) (c : Option (List ℕ)) (core : CoreState) (o : Option Head) → o ≡ None

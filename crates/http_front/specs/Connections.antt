@@ -125,7 +125,7 @@ pub data Conn (ids : Ids) : Standing → List ℕ → ℕ → List ℕ → Stand
   -- the input ends within a request
   within : {s : Standing} {bytes : List ℕ} (limit : ℕ) → IsCut bytes → Conn ids s bytes (1 + limit) [] s (Err front.End)
   -- the bytes begin with no request that is answered
-  unanswered : {s : Standing} {bytes out : List ℕ} {r : Result Bool Front} (limit : ℕ) (f : Fault) → Names f (window bytes)
+  unanswered : {s : Standing} {bytes out : List ℕ} (limit : ℕ) (f : Fault) (r : Result Bool Front) → Names f (window bytes)
       → IsSent true (refusal_bytes (front_of f)) out r → Conn ids s bytes (1 + limit) out s (Err (end_of (front_of f) r))
   -- a read failed
   unread : {s : Standing} {bytes : List ℕ} (limit : ℕ) → Conn ids s bytes (1 + limit) [] s (Err front.Read)

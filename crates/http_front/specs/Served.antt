@@ -1,5 +1,5 @@
 -- What serving a connection does: to its bytes, to what is written, and to the core.
-use Rattle.std.specs.Prelude.{◌≡◌, ℕ, ◌+◌, List, [], ◌++◌, Bool, true, Option, None, Some, Result, Ok, Err, ⊤}
+use Rattle.std.specs.Prelude.{◌≡◌, ℕ, ◌+◌, List, [], ◌++◌, Bool, true, false, Option, None, Some, Result, Ok, Err, ⊤}
 use Rattle.std.specs.Io.KnownBytes.{Appends}
 use Rattle.kv_model.specs.declared.ids.Ids.{Ids}
 use Rattle.store_laws.specs.Stands.{StandsFor}
@@ -95,6 +95,12 @@ pub record Serves (ids : Ids) (s : Standing) (bytes : List ℕ) (limit : ℕ) (c
   pub stands : Stands core after
   pub wrote : Appends c c' out
   pub conn : Conn ids s bytes limit out after r
+
+-- what a turn is whose request was answered so
+abbrev pub turn_of : Result Bool Front → Result Turn Front
+turn_of (Ok true) = Ok turn.Last
+turn_of (Ok false) = Ok turn.More
+turn_of (Err f) = Err f
 
 -- what one turn comes to
 abbrev pub Turned : Ids → Standing → List ℕ → Option (List ℕ) → List ℕ → CoreState → Option (List ℕ) → Result Turn Front → Type 0

@@ -4,7 +4,7 @@ ghost use Rattle.http_input.specs.Inputs.{failures_after_read, request_view};
 ghost use Rattle.http_reply.specs.Counts.{failures_of, inner_of};
 ghost use Rattle.http_reply.specs.Sends.{failures_after};
 ghost use Rattle.http_front.specs.Connections.{Standing};
-ghost use Rattle.http_front.specs.Served.{Does, IsTold, NotBegun, ServesOf, Stands, Turns, ids_alone};
+ghost use Rattle.http_front.specs.Served.{Does, IsTold, NotBegun, ServesOf, Stands, Turns, ids_alone, turn_of};
 
 use crate::answering::{command_path, decline, write_settled};
 use crate::streaming::stream;
@@ -122,14 +122,21 @@ fn take_turn<R: Read, W: Write>(
         Ok(Some(head)) => {
             let answered = answer(alloc, core, &input.request(head), buffer, w, ids);
             input.skip(head);
-            match answered {
-                Ok(true) => Ok(Turn::Last),
-                Ok(false) => Ok(Turn::More),
-                Err(front) => Err(front),
-            }
+            turn_after(answered)
         }
         Ok(None) => Ok(Turn::End),
         Err(front) => Err(decline(buffer, w, front)),
+    }
+}
+
+/// What a turn came to whose request was answered so.
+fn turn_after(answered: Result<bool, Front>) -> Result<Turn, Front>
+    ensures { result ≡ turn_of answered }
+{
+    match answered {
+        Ok(true) => Ok(Turn::Last),
+        Ok(false) => Ok(Turn::More),
+        Err(front) => Err(front),
     }
 }
 
