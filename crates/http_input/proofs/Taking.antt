@@ -48,6 +48,10 @@ took_failed a b p q e h = subst (λ (t : List ℕ). Took a b p t) (sym e) (took_
 pub extends_failed : (p q : List ℕ) → q ≡ p → Extends p q
 extends_failed p q e = record { more = []; is = e ∙ sym (append-nil p) }
 
+pub nil_of : (l : List ℕ) → length l ≡ 0 → l ≡ []
+nil_of [] z = refl
+nil_of (x ∷ l) z = absurd (omega (arith, z))
+
 pub filled_by : (left : Option (List ℕ)) (p q bs : List ℕ) (n : ℕ) → q ≡ p ++ bs → n ≡ length bs → (n ≡ 0 → IsAtEnd left) → Filled left p q (Ok (nat_lt 0 n))
 filled_by left p q bs n e long h = by (nat_lt 0 n) refl
   where
@@ -57,6 +61,6 @@ filled_by left p q bs n e long h = by (nat_lt 0 n) refl
         let none : n ≡ 0 = grind (arith, nat_tests, t) in
         (e ∙ ap (λ l. p ++ l) (nil_of bs (sym long ∙ none)) ∙ append-nil p, h none)
 
-    nil_of : (l : List ℕ) → length l ≡ 0 → l ≡ []
-    nil_of [] z = refl
-    nil_of (x ∷ l) z = absurd (omega (arith, z))
+-- nothing came
+pub ended : (left : Option (List ℕ)) (p q : List ℕ) (b : Bool) → b ≡ false → Filled left p q (Ok b) → (q ≡ p) × IsAtEnd left
+ended left p q b e h = subst (λ (b : Bool). Filled left p q (Ok b)) e h

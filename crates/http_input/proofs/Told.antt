@@ -1,5 +1,5 @@
 -- What was read of a request, said of all the bytes that were to come.
-use Rattle.std.proofs.Common.{◌≡◌, ◌≢◌, ◌≤◌, ◌<◌, ◌⊎◌, ℕ, ◌+◌, ◌-◌, arith, List, [], ◌++◌, take, drop, length, Bool, true, false, Option, None, Some, Result, Ok, Err, refl, sym, ◌∙◌, ap, subst, append_assoc, inl, inr, nat_le, ⊤}
+use Rattle.std.proofs.Common.{◌≡◌, ◌≢◌, ◌≤◌, ◌<◌, ◌⊎◌, ℕ, ◌+◌, ◌-◌, arith, List, [], ◌++◌, take, drop, length, Bool, true, false, Option, None, Some, Result, Ok, Err, refl, sym, ◌∙◌, ap, subst, append_assoc, inl, inr, nat_le}
 use Rattle.std.specs.Io.KnownBytes.{IsAtEnd}
 use Rattle.std.proofs.lemmas.List.{append-nil, length-append, length-drop, length-take, length-take-le, take-append-le, take-append-drop, take_all, take-take, drop-drop}
 use Rattle.std.proofs.lemmas.Bool.Decides.{nat_tests}
@@ -18,6 +18,7 @@ use Rattle.http_reply.specs.declared.front.Front.TheVariants as front
 use Rattle.http_input.specs.Buffers.{Filled}
 use Rattle.http_input.specs.Inputs.{Came, HasHead, IsWhole, Says, Tells, Took, asked_of}
 use Rattle.http_input.specs.Parts.{BodyCame, HeadCame, Sees, front_of}
+use Rattle.http_input.proofs.Taking.{ended}
 use Rattle.http_input.proofs.Whole.{has_head, reads_more}
 
 -- ---- the window
@@ -112,30 +113,19 @@ sees_of p look.More h =
     (small, subst HasNoRequest is h.1, subst MayBecomeRequest is h.2)
 sees_of p (look.Fault f) h = h
 
--- a read that did not come
-pub head_unfilled : (left : Option (List ℕ)) (p q : List ℕ) (f : Front) → Filled left p q (Err f) → HeadCame left q (Err f)
-head_unfilled left p q front.Head h = absurd h
-head_unfilled left p q front.Length h = absurd h
-head_unfilled left p q front.TooLong h = absurd h
-head_unfilled left p q front.Read h = tt
-head_unfilled left p q front.End h = absurd h
-head_unfilled left p q front.Memory h = subst (λ (t : List ℕ). 16384 ≤ length t) (sym h.0) h.1
-head_unfilled left p q (front.Write n) h = h
-head_unfilled left p q front.Spawn h = h
-head_unfilled left p q front.Accept h = h
-head_unfilled left p q front.Unclosed h = h
+-- the input ends within a head
+pub cut_head : (left : Option (List ℕ)) (p q : List ℕ) (b : Bool) → Sees p look.More → b ≡ false → Filled left p q (Ok b) → length q ≢ 0 → EndsInHead q × IsAtEnd left
+cut_head left p q b h e f some =
+    let none = ended left p q b e f in
+    let cut : EndsInHead p = ((λ nil. some (ap length (none.0 ∙ nil))), h.0, h.1, h.2) in
+    (subst EndsInHead (sym none.0) cut, none.1)
 
-pub body_unfilled : (left : Option (List ℕ)) (p q : List ℕ) (x : Head) (f : Front) → Filled left p q (Err f) → BodyCame {⊤} left q x (Err f)
-body_unfilled left p q x front.Head h = h
-body_unfilled left p q x front.Length h = h
-body_unfilled left p q x front.TooLong h = h
-body_unfilled left p q x front.Read h = tt
-body_unfilled left p q x front.End h = absurd h
-body_unfilled left p q x front.Memory h = subst (λ (t : List ℕ). 16384 ≤ length t) (sym h.0) h.1
-body_unfilled left p q x (front.Write n) h = h
-body_unfilled left p q x front.Spawn h = h
-body_unfilled left p q x front.Accept h = h
-body_unfilled left p q x front.Unclosed h = h
+-- and within a body
+pub cut_in_body : (left : Option (List ℕ)) (p q : List ℕ) (x : Head) (b : Bool) → HasHead p x → length p < x.len + x.body → b ≡ false → Filled left p q (Ok b)
+    → HasHead q x × (length q < x.len + x.body) × IsAtEnd left
+cut_in_body left p q x b h short e f =
+    let none = ended left p q b e f in
+    (subst (λ (t : List ℕ). HasHead t x) (sym none.0) h, subst (λ (t : List ℕ). length t < x.len + x.body) (sym none.0) short, none.1)
 
 pub head_failed : (left : Option (List ℕ)) (p : List ℕ) (f : Front) → HeadCame left p (Err f) → Came left p (Err f)
 head_failed left p front.Head h = h
@@ -149,7 +139,7 @@ head_failed left p front.Spawn h = h
 head_failed left p front.Accept h = h
 head_failed left p front.Unclosed h = h
 
-pub body_failed : (left : Option (List ℕ)) (p : List ℕ) (x : Head) (f : Front) → BodyCame {⊤} left p x (Err f) → Came left p (Err f)
+pub body_failed : (left : Option (List ℕ)) (p : List ℕ) (x : Head) (f : Front) → BodyCame {T = ℕ} left p x (Err f) → Came left p (Err f)
 body_failed left p x front.Head h = absurd h
 body_failed left p x front.Length h = absurd h
 body_failed left p x front.TooLong h = absurd h

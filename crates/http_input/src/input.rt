@@ -48,6 +48,7 @@ impl Model for Input {
 }
 
 impl Input {
+    ghost use Rattle.http_input.specs.Buffers.{Extends, Filled};
     ghost use Rattle.http_input.specs.Inputs.{HasHead};
     ghost use Rattle.http_input.specs.Parts.{BodyCame, HeadCame, Sees, last_read};
 
@@ -140,10 +141,10 @@ impl Input {
                 Look::Fault(fault) => return Err(front_of(fault)),
                 Look::More => {}
             }
-            match self.buffer.fill(r) {
+            match self.fill(r) {
                 Ok(true) => {}
                 Ok(false) => {
-                    if self.buffer.len() == 0 {
+                    if self.len() == 0 {
                         return Ok(None);
                     }
                     return Err(Front::End);
@@ -151,6 +152,25 @@ impl Input {
                 Err(front) => return Err(front),
             }
         }
+    }
+
+    /// Makes one read: true where bytes came, false at the end of the input.
+    fn fill<R: Read>(&mut self, r: &mut Counted<R>) -> Result<bool, Front>
+        ensures kept { Extends self.old self.new }
+        ensures took { Took (R.remaining (inner_of r.old)) (R.remaining (inner_of r.new))
+            self.old self.new }
+        ensures filled { Filled (R.remaining (inner_of r.new)) self.old self.new result }
+        ensures failures { failures_of r.new ≡ failures_after_read result (failures_of r.old) }
+        ensures reads { reads_of r.new ≤ reads_of r.old + 1 }
+    {
+        self.buffer.fill(r)
+    }
+
+    /// How many bytes wait.
+    fn len(&self) -> usize
+        ensures { result ≡ length self.now }
+    {
+        self.buffer.len()
     }
 
     /// What the bytes begin with.
@@ -162,6 +182,7 @@ impl Input {
     }
 
     /// Reads until the body of a head is there.
+    #[tactic(auto, using(crate::proofs::Whole::extended, crate::proofs::Taking::took_trans))]
     fn read_body<R: Read>(&mut self, r: &mut Counted<R>, head: Head) -> Result<(), Front>
         requires { HasHead self.old head }
         ensures took { Took (R.remaining (inner_of r.old)) (R.remaining (inner_of r.new))
@@ -172,8 +193,8 @@ impl Input {
         ensures reads { reads_of r.new ≤ reads_of r.old + most_body }
     {
         let whole = head.len + head.body;
-        while self.buffer.len() < whole {
-            match self.buffer.fill(r) {
+        while self.len() < whole {
+            match self.fill(r) {
                 Ok(true) => {}
                 Ok(false) => return Err(Front::End),
                 Err(front) => return Err(front),
