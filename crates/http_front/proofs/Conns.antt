@@ -53,10 +53,10 @@ module _ (ids : Ids) (s : Standing) (bytes rest : List ℕ) (a : Asked) (c c' : 
   }
 
   pub turn_last : Does ids s a c core c' (Ok true) → Stops ids s bytes c core c' (Ok 1)
-  turn_last d = record { after = d.after; out = d.out; stands = d.stands; wrote = d.wrote; conn = λ l. Conn.closing l a x d.answered }
+  turn_last d = record { after = d.after; out = d.out; stands = d.stands; wrote = d.wrote; conn = λ l. Conn.closing l a rest x d.answered }
 
   pub turn_broken : (f : Front) → Does ids s a c core c' (Err f) → Stops ids s bytes c core c' (Err f)
-  turn_broken f d = record { after = d.after; out = d.out; stands = d.stands; wrote = d.wrote; conn = λ l. Conn.broken l a x d.answered }
+  turn_broken f d = record { after = d.after; out = d.out; stands = d.stands; wrote = d.wrote; conn = λ l. Conn.broken l a rest x d.answered }
 
 -- ---- runs of turns
 

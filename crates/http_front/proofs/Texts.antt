@@ -1,13 +1,15 @@
 -- A text that was written, or not to its end.
-use Rattle.std.proofs.Common.{◌≡◌, ◌≤◌, ◌<◌, ℕ, arith, List, [], ◌++◌, length, take, Bool, true, Option, Result, Ok, Err, refl, ap, ◌∙◌, subst}
-use Rattle.std.specs.Prelude.{⊤}
+use Rattle.std.proofs.Common.{◌≡◌, ◌≤◌, ◌<◌, ℕ, arith, List, [], ◌++◌, length, take, Bool, true, false, Option, Result, Ok, Err, refl, ap, ◌∙◌, subst}
+use Rattle.std.specs.Prelude.{⊤, IfErr}
 use Rattle.std.specs.Io.KnownBytes.{Appends}
 use Rattle.http_reply.specs.declared.front.Front.{Front}
 use Rattle.http_reply.specs.declared.front.Front.TheVariants as front
 use Rattle.http_reply.specs.Replies.{refusal_bytes}
 use Rattle.http_reply.specs.Sends.{Sends, failures_after}
+use Rattle.http_input.specs.Inputs.{failures_after_read}
+use Rattle.http_front.specs.declared.serving.Turn.{Turn}
 use Rattle.http_front.specs.Connections.{IsSent, end_of}
-use Rattle.http_front.specs.Served.{Declines, Writes}
+use Rattle.http_front.specs.Served.{Declines, IsOfWriting, Writes, turn_of}
 
 pub sent_whole : (close : Bool) (text : List ℕ) (c c' : Option (List ℕ)) → Appends c c' text → Writes close text c c' (Ok close)
 sent_whole close text c c' h = record { out = text; wrote = h; sent = (refl, refl) }
@@ -41,8 +43,39 @@ silent text out x (Err front.Unclosed) e h = absurd h
 
 -- ---- the reply that tells why a request is not read
 
-pub said : (f : Front) (c c' : Option (List ℕ)) (m m' : ℕ) → Appends c c' (refusal_bytes f) → m' ≡ m → Declines f c c' m m' f
-said f c c' m m' h e = record { out = refusal_bytes f; sending = Ok true; wrote = h; sent = (refl, refl); failed = e; ends = refl }
+pub by_writing : (f : Front) (c c' : Option (List ℕ)) (m m' : ℕ) (r : Result Bool Front) → Writes true (refusal_bytes f) c c' r → m' ≡ failures_after r m
+    → Declines f c c' m m' (end_of f r)
+by_writing f c c' m m' r w e = record { out = w.out; sending = r; wrote = w.wrote; sent = w.sent; failed = e; ends = refl }
 
-pub unsaid : (f x : Front) (c c' : Option (List ℕ)) (m m' : ℕ) → Writes true (refusal_bytes f) c c' (Err x) → m' ≡ failures_after {T = Bool} (Err x) m → Declines f c c' m m' x
-unsaid f x c c' m m' w e = record { out = w.out; sending = Err x; wrote = w.wrote; sent = w.sent; failed = e; ends = refl }
+-- ---- what writing ends with
+
+of_sent : (close : Bool) (text out : List ℕ) (r : Result Bool Front) → IsSent close text out r → IfErr r IsOfWriting
+of_sent close text out (Ok b) h = tt
+of_sent close text out (Err front.Head) h = absurd h
+of_sent close text out (Err front.Length) h = absurd h
+of_sent close text out (Err front.TooLong) h = absurd h
+of_sent close text out (Err front.Read) h = absurd h
+of_sent close text out (Err front.End) h = absurd h
+of_sent close text out (Err front.Memory) h = tt
+of_sent close text out (Err (front.Write n)) h = tt
+of_sent close text out (Err front.Spawn) h = absurd h
+of_sent close text out (Err front.Accept) h = absurd h
+of_sent close text out (Err front.Unclosed) h = absurd h
+
+pub of_writing : (close : Bool) (text : List ℕ) (c c' : Option (List ℕ)) (r : Result Bool Front) → Writes close text c c' r → IfErr r IsOfWriting
+of_writing close text c c' r w = of_sent close text w.out r w.sent
+
+-- no read failed of it
+pub reads_asked : (r : Result Bool Front) (t : Result Turn Front) (n : ℕ) → t ≡ turn_of r → IfErr r IsOfWriting → failures_after_read t n ≡ n
+reads_asked (Ok true) t n e h = ap (λ (t : Result Turn Front). failures_after_read t n) e
+reads_asked (Ok false) t n e h = ap (λ (t : Result Turn Front). failures_after_read t n) e
+reads_asked (Err front.Head) t n e h = absurd h
+reads_asked (Err front.Length) t n e h = absurd h
+reads_asked (Err front.TooLong) t n e h = absurd h
+reads_asked (Err front.Read) t n e h = absurd h
+reads_asked (Err front.End) t n e h = absurd h
+reads_asked (Err front.Memory) t n e h = ap (λ (t : Result Turn Front). failures_after_read t n) e
+reads_asked (Err (front.Write m)) t n e h = ap (λ (t : Result Turn Front). failures_after_read t n) e
+reads_asked (Err front.Spawn) t n e h = absurd h
+reads_asked (Err front.Accept) t n e h = absurd h
+reads_asked (Err front.Unclosed) t n e h = absurd h

@@ -135,8 +135,8 @@ pub data Conn (ids : Ids) : Standing → List ℕ → ℕ → List ℕ → Stand
   more : {s t u : Standing} {bytes rest text out : List ℕ} {r : Result ℕ Front} (limit : ℕ) (a : Asked) → ReadsAsked bytes a rest
       → IsAnswered ids s a text t (Ok false) → Conn ids t rest limit out u r → Conn ids s bytes (1 + limit) (text ++ out) u (replies_more 1 r)
   -- a request that closes the connection
-  closing : {s t : Standing} {bytes rest text : List ℕ} (limit : ℕ) (a : Asked) → ReadsAsked bytes a rest
+  closing : {s t : Standing} {bytes text : List ℕ} (limit : ℕ) (a : Asked) (rest : List ℕ) → ReadsAsked bytes a rest
       → IsAnswered ids s a text t (Ok true) → Conn ids s bytes (1 + limit) text t (Ok 1)
   -- a request that was done, and whose reply was not written to its end
-  broken : {s t : Standing} {bytes rest text : List ℕ} {f : Front} (limit : ℕ) (a : Asked) → ReadsAsked bytes a rest
+  broken : {s t : Standing} {bytes text : List ℕ} {f : Front} (limit : ℕ) (a : Asked) (rest : List ℕ) → ReadsAsked bytes a rest
       → IsAnswered ids s a text t (Err f) → Conn ids s bytes (1 + limit) text t (Err f)

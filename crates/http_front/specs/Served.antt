@@ -23,6 +23,12 @@ pub record Stands (core : CoreState) (s : Standing) : Type 0 where
 
 -- ---- one text, and one request
 
+-- an end that comes of writing
+abbrev pub IsOfWriting : Front → Type 0
+IsOfWriting front.Memory = ⊤
+IsOfWriting (front.Write n) = ⊤
+IsOfWriting _ = ⊥
+
 -- a text was written, as far as it was
 pub record Writes (close : Bool) (text : List ℕ) (c c' : Option (List ℕ)) (r : Result Bool Front) : Type 0 where
   pub out : List ℕ

@@ -1,8 +1,8 @@
 //! What a request asks, and how its outcome is written.
-ghost use Rattle.std.specs.Prelude.{◌≡◌};
+ghost use Rattle.std.specs.Prelude.{◌≡◌, true};
 ghost use Rattle.http_input.specs.Inputs.{request_view};
 ghost use Rattle.http_reply.specs.Counts.{failures_of, inner_of};
-ghost use Rattle.http_reply.specs.Replies.{reply_bytes};
+ghost use Rattle.http_reply.specs.Replies.{refusal_bytes, reply_bytes};
 ghost use Rattle.http_reply.specs.Sends.{failures_after};
 ghost use Rattle.json_gateway.specs.Outcomes.{wire_response};
 ghost use Rattle.http_front.specs.Connections.{path_asked};
@@ -58,8 +58,24 @@ pub fn decline<W: Write>(buffer: &mut ReplyBuffer, w: &mut Counted<W>, front: Fr
     ensures { Declines front (W.contents (inner_of w.old)) (W.contents (inner_of w.new))
         (failures_of w.old) (failures_of w.new) result }
 {
-    match write_refusal(buffer, w, front) {
-        Ok(()) => front,
+    match refuse(buffer, w, front) {
+        Ok(_) => front,
         Err(cut) => cut,
+    }
+}
+
+/// Writes that reply.
+fn refuse<W: Write>(
+    buffer: &mut ReplyBuffer,
+    w: &mut Counted<W>,
+    front: Front,
+) -> Result<bool, Front>
+    ensures writes { Writes true (refusal_bytes front)
+        (W.contents (inner_of w.old)) (W.contents (inner_of w.new)) result }
+    ensures failures { failures_of w.new ≡ failures_after result (failures_of w.old) }
+{
+    match write_refusal(buffer, w, front) {
+        Ok(()) => Ok(true),
+        Err(front) => Err(front),
     }
 }

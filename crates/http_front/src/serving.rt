@@ -1,10 +1,10 @@
 //! A connection over a core.
-ghost use Rattle.std.specs.Prelude.{◌≡◌, ◌⊎◌, []};
+ghost use Rattle.std.specs.Prelude.{◌≡◌, ◌⊎◌, [], IfErr};
 ghost use Rattle.http_input.specs.Inputs.{failures_after_read, request_view};
 ghost use Rattle.http_reply.specs.Counts.{failures_of, inner_of};
 ghost use Rattle.http_reply.specs.Sends.{failures_after};
 ghost use Rattle.http_front.specs.Connections.{Standing};
-ghost use Rattle.http_front.specs.Served.{Does, IsTold, NotBegun, ServesOf, Stands, Turns, ids_alone, turn_of};
+ghost use Rattle.http_front.specs.Served.{Does, IsOfWriting, IsTold, NotBegun, ServesOf, Stands, Turns, ids_alone, turn_of};
 
 use crate::answering::{command_path, decline, write_settled};
 use crate::streaming::stream;
@@ -152,6 +152,7 @@ fn answer<W: Write>(
 ) -> Result<bool, Front>
     ensures does { (s : Standing) → Stands core.old s → Does ids.now s (request_view request.now)
         (W.contents (inner_of w.old)) core.new (W.contents (inner_of w.new)) result }
+    ensures ends { IfErr result IsOfWriting }
     ensures writes { failures_of w.new ≡ failures_after result (failures_of w.old) }
 {
     let outcome = post_and_trim(alloc, core, command_path(request), request.body, ids);
@@ -175,6 +176,7 @@ fn answer<W: Write>(
 }
 
 /// Writes what a request is answered that made a watch: its stream, or that the answer was lost.
+#[tactic(auto, using(crate::proofs::Texts::of_writing))]
 fn tell<W: Write>(
     alloc: Global,
     core: &mut Core,
@@ -187,6 +189,7 @@ fn tell<W: Write>(
 ) -> Result<bool, Front>
     ensures tells { (s : Standing) → Stands core.old s → IsTold settled.now close ids.now number s
         (W.contents (inner_of w.old)) core.old core.new (W.contents (inner_of w.new)) result }
+    ensures ends { IfErr result IsOfWriting }
     ensures writes { failures_of w.new ≡ failures_after result (failures_of w.old) }
 {
     match settled {

@@ -1,10 +1,10 @@
 //! The stream of a watch.
-ghost use Rattle.std.specs.Prelude.{◌≡◌, true};
+ghost use Rattle.std.specs.Prelude.{◌≡◌, true, IfErr};
 ghost use Rattle.http_reply.specs.Counts.{failures_of, inner_of};
 ghost use Rattle.http_reply.specs.Replies.{chunk, last_chunk, stream_head};
 ghost use Rattle.http_reply.specs.Sends.{failures_after};
 ghost use Rattle.http_front.specs.Connections.{Standing};
-ghost use Rattle.http_front.specs.Served.{DoesMessages, DoesStream, Stands, Writes};
+ghost use Rattle.http_front.specs.Served.{DoesMessages, DoesStream, IsOfWriting, Stands, Writes};
 
 use http_reply::{Counted, Front, ReplyBuffer, write_chunk, write_last_chunk, write_stream_head};
 use json_gateway::{Ids, Message, message};
@@ -26,6 +26,7 @@ pub(crate) fn stream<W: Write>(
 ) -> Result<bool, Front>
     ensures does { (s : Standing) → Stands core.old s → DoesStream ids.now number created.now s
         (W.contents (inner_of w.old)) core.new (W.contents (inner_of w.new)) result }
+    ensures ends { IfErr result IsOfWriting }
     ensures failures { failures_of w.new ≡ failures_after result (failures_of w.old) }
 {
     match begin(buffer, w) {
@@ -49,6 +50,7 @@ fn write_messages<W: Write>(
 ) -> Result<bool, Front>
     ensures does { (s : Standing) → Stands core.old s → DoesMessages ids.now number s
         (W.contents (inner_of w.old)) core.new (W.contents (inner_of w.new)) result }
+    ensures ends { IfErr result IsOfWriting }
     ensures failures { failures_of w.new ≡ failures_after result (failures_of w.old) }
 {
     let mut rounds = core.status().revision;

@@ -1,6 +1,9 @@
-use Rattle.std.proofs.Common.{sym, ◌∙◌}
+use Rattle.std.proofs.Common.{Option, sym, ◌∙◌}
+use Rattle.http_head.specs.declared.head.Head.{Head}
 use Rattle.http_reply.specs.Counts.{failures_of}
+use Rattle.http_front.specs.declared.serving.Turn.{Turn}
 use Rattle.http_front.proofs.Declined.{declined, reads_told, writes_told}
+use Rattle.http_front.proofs.Texts.{reads_asked}
 use Rattle.http_front.proofs.Turns.{asked, ended}
 use Rattle.http_front.proofs.serving.take_turn.Goals as goal
 
@@ -19,7 +22,12 @@ returns-in-Err-clause-turns g c = λ s h.
 
 pub returns-in-Err-clause-reads : goal.returns-in-Err-clause-reads
 returns-in-Err-clause-reads g c =
-    c.in-Err.ensures.failures ∙ sym (reads_told _ _ c.in-Err.front c.decline.result _ _ _ _ (failures_of c.args.r.now) c.decline.ensures)
+    c.in-Err.ensures.failures ∙ sym (reads_told Turn (Option Head) c.in-Err.front c.decline.result _ _ _ _ (failures_of c.args.r.now) c.decline.ensures)
 
 pub returns-in-Err-clause-writes : goal.returns-in-Err-clause-writes
-returns-in-Err-clause-writes g c = writes_told _ _ c.in-Err.front c.decline.result _ _ _ _ _ _ c.in-Err.ensures.came c.decline.ensures
+returns-in-Err-clause-writes g c = writes_told Turn Turn c.in-Err.front c.decline.result _ _ _ _ _ _ c.in-Err.ensures.came c.decline.ensures
+
+pub returns-in-Ok-Some-clause-reads : goal.returns-in-Ok-Some-clause-reads
+returns-in-Ok-Some-clause-reads g c =
+    c.in-Ok-Some.ensures.failures
+    ∙ sym (reads_asked c.answer-answered.result c.turn_after.result (failures_of c.args.r.now) c.turn_after.ensures c.answer-answered.ensures.ends)

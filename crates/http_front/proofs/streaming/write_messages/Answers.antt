@@ -2,6 +2,7 @@ use Rattle.std.proofs.Common.{◌≡◌, ℕ, ◌+◌, List, sym, ◌∙◌, ap}
 use Rattle.kv_model.specs.Wire.{WireTold}
 use Rattle.json_gateway.specs.Runs.{message_view}
 use Rattle.http_front.proofs.Chunks.{at_want, none_ends, nothing_ends, text_cut, text_last, text_more}
+use Rattle.http_front.proofs.Texts.{of_writing}
 use Rattle.http_front.proofs.streaming.write_messages.Goals as goal
 
 pub returns-then-rounds-eq0-clause-does : goal.returns-then-rounds-eq0-clause-does
@@ -38,3 +39,15 @@ returns-in-Ok-NoWatch-clause-does g c = λ s h.
 pub returns-in-Err-clause-does : goal.returns-in-Err-clause-does
 returns-in-Err-clause-does g c = λ s h.
     at_want c.args.ids.now c.args.number s _ _ c.loop-text.core (c.loop-text.rounds + 1) (c.loop-text.invariant.1 s h) c.message.new.core c.in-Err.ensures.unchanged
+
+pub returns-then-rounds-eq0-clause-ends : goal.returns-then-rounds-eq0-clause-ends
+returns-then-rounds-eq0-clause-ends g c = of_writing _ _ _ _ _ c.end.ensures.writes
+
+pub returns-in-Err-tell-clause-ends : goal.returns-in-Err-tell-clause-ends
+returns-in-Err-tell-clause-ends g c = of_writing _ _ _ _ _ c.in-Err-tell.ensures.writes
+
+pub returns-in-Ok-Nothing-clause-ends : goal.returns-in-Ok-Nothing-clause-ends
+returns-in-Ok-Nothing-clause-ends g c = of_writing _ _ _ _ _ c.end-in-Ok-Nothing.ensures.writes
+
+pub returns-in-Ok-NoWatch-clause-ends : goal.returns-in-Ok-NoWatch-clause-ends
+returns-in-Ok-NoWatch-clause-ends g c = of_writing _ _ _ _ _ c.end-in-Ok-NoWatch.ensures.writes
