@@ -1,6 +1,5 @@
 -- The messages of a watch, one after the other.
 use Rattle.std.proofs.Common.{◌≡◌, ◌≤◌, ℕ, ◌+◌, ◌-◌, arith, List, [], ◌++◌, Bool, true, false, Option, None, Some, Result, Ok, Err, refl, sym, ◌∙◌, ap, subst, append_assoc}
-use Rattle.std.specs.Prelude.{is_some}
 use Rattle.std.specs.Io.KnownBytes.{Appends}
 use Rattle.kv_model.specs.declared.ids.Ids.{Ids}
 use Rattle.kv_model.specs.Answers.{message_text}

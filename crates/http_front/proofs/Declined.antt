@@ -1,16 +1,14 @@
 -- Bytes that begin with no request, and the turn that they make.
-use Rattle.std.proofs.Common.{◌≡◌, ◌≤◌, ℕ, ◌+◌, List, [], ◌++◌, length, Bool, true, Option, None, Some, Result, Ok, Err, refl, sym, ◌∙◌, ap, subst}
+use Rattle.std.proofs.Common.{◌≡◌, ℕ, ◌+◌, List, [], ◌++◌, Bool, true, Option, None, Some, Result, Ok, Err, refl, sym, ◌∙◌, ap, subst}
 use Rattle.std.specs.Io.KnownBytes.{Appends}
 use Rattle.kv_model.specs.declared.ids.Ids.{Ids}
 use Rattle.request_core.specs.State.{CoreState}
-use Rattle.http_head.specs.declared.head.Head.{Head}
 use Rattle.http_head.specs.Heads.{Fault, Names, bad_head, bad_length, too_long, window}
 use Rattle.http_input.specs.Inputs.{Came, Says, Tells, failures_after_read}
 use Rattle.http_reply.specs.declared.front.Front.{Front}
 use Rattle.http_reply.specs.declared.front.Front.TheVariants as front
 use Rattle.http_reply.specs.Replies.{refusal_bytes}
 use Rattle.http_reply.specs.Sends.{failures_after}
-use Rattle.http_front.specs.declared.serving.Turn.{Turn}
 use Rattle.http_front.specs.Connections.{IsSent, Standing, Conn, end_of, front_of}
 use Rattle.http_front.specs.Served.{Declines, Stands, Stops, Turns}
 use Rattle.http_front.proofs.Texts.{silent}

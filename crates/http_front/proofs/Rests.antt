@@ -1,12 +1,12 @@
 -- How many messages a watch can still be told at most: each goes on by a revision at least.
-use Rattle.std.proofs.Common.{◌≡◌, ◌≤◌, ◌<◌, ℕ, ◌+◌, ◌-◌, arith, List, [], ◌∷◌, ◌==◌, Bool, true, false, cond, not, ◌&&◌, Option, None, Some, filter, find, refl, sym, ◌∙◌, ap, subst, nat_le, nat_lt}
+use Rattle.std.proofs.Common.{◌≡◌, ◌≤◌, ◌<◌, ℕ, ◌+◌, ◌-◌, arith, List, [], ◌∷◌, ◌==◌, Bool, true, false, cond, not, ◌&&◌, Option, None, Some, filter, refl, ◌∙◌, ap, nat_le, nat_lt}
 use Rattle.std.specs.List.{AllByRecursion, list_any}
 use Rattle.std.proofs.lemmas.Bool.Decides.{nat_tests}
 use Rattle.kv_model.specs.declared.version.Version.{Version}
 use Rattle.kv_model.specs.declared.ids.Ids.{Ids}
 use Rattle.kv_model.specs.Answers.{message_text}
 use Rattle.kv_model.specs.Events.{matches}
-use Rattle.kv_model.specs.Watches.{Delivery, advanced, after_delivery, deliver, delivery, delivery_of, last_revision, message_of, undelivered, watch_delivery}
+use Rattle.kv_model.specs.Watches.{Delivery, advanced, after_delivery, deliver, delivery, delivery_of, last_revision, message_of, undelivered}
 use Rattle.kv_model.specs.Wire.{client_id, message_to}
 use Rattle.kv_model.specs.World.{IsSound, Watch, World, revision, versions, watch_at, without_watch}
 use Rattle.store_laws.proofs.BatchLaws.{dressed-mains}

@@ -1,6 +1,6 @@
 -- A text that was written, or not to its end.
-use Rattle.std.proofs.Common.{◌≡◌, ◌≤◌, ◌<◌, ℕ, arith, List, [], ◌++◌, length, take, Bool, true, false, Option, Result, Ok, Err, refl, ap, ◌∙◌, subst}
-use Rattle.std.specs.Prelude.{⊤, IfErr}
+use Rattle.std.proofs.Common.{◌≡◌, ◌<◌, ℕ, arith, List, [], length, take, Bool, true, false, Option, Result, Ok, Err, refl, ap, ◌∙◌}
+use Rattle.std.specs.Prelude.{IfErr}
 use Rattle.std.specs.Io.KnownBytes.{Appends}
 use Rattle.http_reply.specs.declared.front.Front.{Front}
 use Rattle.http_reply.specs.declared.front.Front.TheVariants as front

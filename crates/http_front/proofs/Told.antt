@@ -1,6 +1,5 @@
 -- A request that was done, and what it is told.
-use Rattle.std.proofs.Common.{◌≡◌, ℕ, List, [], ◌++◌, Bool, true, false, Option, None, Some, Result, Ok, Err, refl, sym, ◌∙◌, ap, subst}
-use Rattle.std.specs.Io.KnownBytes.{Appends}
+use Rattle.std.proofs.Common.{◌≡◌, ℕ, List, Bool, false, Option, None, Some, Result, refl, sym, ◌∙◌, ap, subst}
 use Rattle.kv_model.specs.declared.ids.Ids.{Ids}
 use Rattle.kv_model.specs.Follows as follows
 use Rattle.kv_model.specs.Kept.{Keeping, Keeps}
@@ -16,7 +15,7 @@ use Rattle.json_gateway.specs.Steps.{Steps}
 use Rattle.http_head.specs.Requests.{Asked}
 use Rattle.http_reply.specs.declared.front.Front.{Front}
 use Rattle.http_reply.specs.Replies.{reply_bytes}
-use Rattle.http_front.specs.Connections.{Standing, IsAnswered, IsOutcome, dropped, event_of, path_asked, response_of, streamed, watch_of}
+use Rattle.http_front.specs.Connections.{Standing, IsAnswered, IsOutcome, dropped, event_of, path_asked}
 use Rattle.http_front.specs.Served.{Does, DoesStream, IsTold, Stands, Writes}
 
 -- the watch of a number goes, and with it nothing else

@@ -1,10 +1,10 @@
 -- A request that was read, or why there is none, and the turn that it makes.
-use Rattle.std.proofs.Common.{◌≡◌, ◌≤◌, ◌<◌, ℕ, ◌+◌, arith, List, [], ◌++◌, drop, length, Bool, true, false, Option, None, Some, Result, Ok, Err, refl, sym, ◌∙◌, ap, subst}
+use Rattle.std.proofs.Common.{◌≡◌, ℕ, ◌+◌, List, [], ◌++◌, drop, Bool, true, false, Option, None, Some, Result, Ok, Err, sym, subst}
 use Rattle.kv_model.specs.declared.ids.Ids.{Ids}
 use Rattle.request_core.specs.State.{CoreState}
 use Rattle.http_head.specs.declared.head.Head.{Head}
-use Rattle.http_head.specs.Requests.{Asked, ReadsAsked}
-use Rattle.http_input.specs.Inputs.{IsWhole, Says, Tells, asked_of}
+use Rattle.http_head.specs.Requests.{Asked}
+use Rattle.http_input.specs.Inputs.{Tells, asked_of}
 use Rattle.http_reply.specs.declared.front.Front.{Front}
 use Rattle.http_front.specs.declared.serving.Turn.{Turn}
 use Rattle.http_front.specs.declared.serving.Turn.TheVariants as turn

@@ -1,4 +1,4 @@
-use Rattle.std.proofs.Common.{◌-◌, ◌≡◌, ℕ, ◌≤◌}
+use Rattle.std.proofs.Common.{◌-◌, ◌≡◌, ◌≤◌}
 use Rattle.http_reply.specs.Counts.{failures_of, inner_of}
 use Rattle.http_front.specs.Served.{ids_alone}
 use Rattle.http_front.proofs.Conns.{Far}

@@ -1,4 +1,4 @@
-use Rattle.std.proofs.Common.{◌≡◌, ℕ, ◌+◌, List, sym, ◌∙◌, ap}
+use Rattle.std.proofs.Common.{ℕ, ◌+◌, List, sym, ◌∙◌, ap}
 use Rattle.kv_model.specs.Wire.{WireTold}
 use Rattle.json_gateway.specs.Runs.{message_view}
 use Rattle.http_front.proofs.Chunks.{at_want, none_ends, nothing_ends, text_cut, text_last, text_more}
