@@ -128,11 +128,13 @@ fn wrong_row(alloc: Global) -> Option<usize> {
 
 /// Whether the first put's request, ended behind so many bytes, is answered by nothing.
 fn ends_within(alloc: Global, count: usize) -> bool {
+    let count = count.min(PUT.len());
     holds(alloc, &(&PUT[..count], 9, b"", Err(Front::End), 1))
 }
 
 /// Whether of its reply, to a writer that takes so many bytes, just these go out, and the put stands.
 fn is_cut(alloc: Global, count: usize) -> bool {
+    let count = count.min(147);
     let mut core = Core::new(alloc);
     let mut room = [0; 147];
     let mut reader = Counted::new(PUT);
@@ -142,7 +144,7 @@ fn is_cut(alloc: Global, count: usize) -> bool {
     result == Err(Front::Write(count as u64))
         && at == 2
         && failures == 1
-        && room[..count] == PUT_REPLY[..count]
+        && PUT_REPLY.starts_with(&room[..count])
 }
 
 #[test]
