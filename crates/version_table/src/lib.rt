@@ -21,6 +21,14 @@
 //! The tests stand in the crate `store_tests`, in `src/table.rt`.
 #![tactic(auto)]
 
+mod growth;
+mod halving;
+mod page;
+pub mod paged;
+mod pages;
 pub mod table;
+mod walk;
 
+pub use paged::PagedTable;
 pub use table::VersionTable;
+pub use walk::Versions;
