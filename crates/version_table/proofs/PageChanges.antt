@@ -1,10 +1,13 @@
 -- What a change of one page makes of the versions of all.
 use Rattle.std.proofs.Common.{◌≡◌, ℕ, zero, suc, ◌+◌, ◌-◌, ◌<◌, ◌≤◌, List, [], ◌∷◌, ◌++◌, length, get_or, set, drop, Bool, true, false}
 use Rattle.std.proofs.Common.{not, cond, IsTrue, ◌↔◌, Option, None, Some, filter, refl, sym, ◌∙◌, ap, append_assoc}
-use Rattle.std.proofs.Common.{arith, length-append}
+use Rattle.std.proofs.Common.{Result, Ok, Err, OnOk, arith, length-append}
 use Rattle.std.proofs.lemmas.List.{append-nil, length_push}
 use Rattle.std.proofs.lemmas.List.Elements.{filter-append}
 use Rattle.std.proofs.lemmas.Grind.{flat_map-append}
+use Rattle.std.proofs.lemmas.Option.{slice_get-get_or}
+use Rattle.std.proofs.lemmas.Bool.Decides.{nat_tests}
+use Rattle.std.specs.Prelude.{nat_lt}
 use Rattle.std.specs.List.{remove, slice_get}
 use Rattle.kv_model.specs.Lists.{is_empty}
 use Rattle.kv_model.specs.declared.version.Rev.{Rev}
@@ -12,10 +15,10 @@ use Rattle.kv_model.specs.declared.version.Version.{Version}
 use Rattle.kv_model.specs.Kept.{is_at, without_rev}
 use Rattle.store_laws.proofs.PlaceLaws.{each-append}
 use Rattle.store_laws.proofs.RevOrder.{is_rev-before}
-use Rattle.store_laws.proofs.Rising.{others-above}
-use Rattle.version_table.specs.Rising.{IsBehind, IsRising, rev_of}
+use Rattle.store_laws.proofs.Rising.{others-above, slice_get-newest}
+use Rattle.version_table.specs.Rising.{IsBehind, IsRising, newest, rev_of}
 use Rattle.version_table.specs.Paged.{Places, HaveVersions, change_at, flat, freed, fresh, has_room, is_past, is_void, pages_before}
-use Rattle.version_table.specs.Paged.{pushed, versions_in, with_version, without_version}
+use Rattle.version_table.specs.Paged.{pushed, room_in, used_in, versions_in, with_version, without_version}
 use Rattle.version_table.proofs.PageLookups.{parted, past-behind, unpast-above}
 
 -- ---- one page changed
@@ -133,6 +136,30 @@ flat-pushed v ps = by (has_room ps) refl
         → flat (cond b (change_at (with_version v) (length ps - 1) ps) (ps ++ fresh v ∷ [])) ≡ flat ps ++ v ∷ []
     by true e = flat-last v ps e
     by false e = flat_map-append versions_in ps (fresh v ∷ [])
+
+pub on-ok : {T E : Type 0} (A B : Type 0) → (A → B) → (r : Result T E) → OnOk r A → OnOk r B
+on-ok A B f (Ok x) h = f h
+on-ok A B f (Err e) h = h
+
+pub room-some : (ps : List Places) → has_room ps ≡ true → 0 < length ps
+room-some [] h = cc
+room-some (p ∷ ps) h = omega arith
+
+room-number : (n : ℕ) → nat_lt n 256 ≡ true → n < 256
+room-number n h = grind (arith, nat_tests)
+
+-- the last page has room
+pub room-last : (ps : List Places) (d : Places) → has_room ps ≡ true → used_in (get_or ps (length ps - 1) d) < 256
+room-last ps d h =
+    let some : 0 < length ps = room-some ps h in
+    let last : Some (get_or ps (length ps - 1) d) ≡ newest ps = sym (slice_get-get_or ps (length ps - 1) d (omega arith)) ∙ slice_get-newest ps in
+    room-number (used_in (get_or ps (length ps - 1) d)) (ap room_in last ∙ h)
+
+pub pushed-last : (v : Version) (ps : List Places) → has_room ps ≡ true → change_at (with_version v) (length ps - 1) ps ≡ pushed v ps
+pushed-last v ps h = sym (ap (λ b. cond b (change_at (with_version v) (length ps - 1) ps) (ps ++ fresh v ∷ [])) h)
+
+pub pushed-fresh : (v : Version) (ps : List Places) → has_room ps ≡ false → ps ++ fresh v ∷ [] ≡ pushed v ps
+pushed-fresh v ps h = sym (ap (λ b. cond b (change_at (with_version v) (length ps - 1) ps) (ps ++ fresh v ∷ [])) h)
 
 held-grown : (v : Version) (i : ℕ) (ps : List Places) → HaveVersions ps → HaveVersions (change_at (with_version v) i ps)
 held-grown v i [] h = tt

@@ -267,6 +267,11 @@ pub some-other : {X : Type 0} (P Q : X → Type 0) → ((x : X) → P x → Q x)
 some-other P Q f None h = h
 some-other P Q f (Some x) h = f x h
 
+pub rising-at : (ps : List Places) (i : ℕ) (d : Places) → IsRising (flat ps) → i < length ps → IsRising (versions_in (get_or ps i d))
+rising-at [] i d r l = absurd (omega arith)
+rising-at (q ∷ ps) zero d r l = (parted q.versions (flat ps) r).front
+rising-at (q ∷ ps) (suc i) d r l = rising-at ps i d (parted q.versions (flat ps) r).back (omega arith)
+
 -- ---- the last and the first version
 
 or-assoc : {X : Type 0} (a b c : Option X) → option_or (option_or a b) c ≡ option_or a (option_or b c)

@@ -18,6 +18,9 @@ pub record Places : Type 0 where
 abbrev pub versions_in : Places → List Version
 versions_in p = p.versions
 
+abbrev pub used_in : Places → ℕ
+used_in p = p.used
+
 -- the versions of all pages
 abbrev pub flat : List Places → List Version
 flat ps = flat_map versions_in ps

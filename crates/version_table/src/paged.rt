@@ -111,7 +111,7 @@ impl PagedTable {
         ensures value { result ≡ self.now }
         ensures rising { IsRising self.now }
     {
-        Versions::of(&[], &self.pages)
+        Versions::all(&self.pages)
     }
 
     /// The versions that are not before a revision, lent one after another. Takes no memory, and

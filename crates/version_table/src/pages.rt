@@ -156,6 +156,6 @@ pub(crate) fn walk_from(pages: &[Page], rev: Rev) -> Versions<'_>
     let rest = pages_from(pages, pages_before(pages, rev));
     match rest.split_first() {
         Some((page, later)) => Versions::of(halving::versions_from(page.versions(), rev), later),
-        None => Versions::of(&[], rest),
+        None => Versions::all(rest),
     }
 }

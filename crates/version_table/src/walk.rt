@@ -34,6 +34,14 @@ impl<'a> Versions<'a> {
         Versions { page, pages }
     }
 
+    /// A walk over the versions of pages.
+    pub(crate) fn all(pages: &'a [Page]) -> Self
+        requires { HaveVersions pages.now }
+        ensures { result ≡ flat pages.now }
+    {
+        Versions { page: &[], pages }
+    }
+
     /// The next version. Takes no memory, and constant time.
     pub fn next(&mut self) -> Option<&'a Version>
         ensures { MatchOption result ((self.old ≡ []) × (self.new ≡ []))

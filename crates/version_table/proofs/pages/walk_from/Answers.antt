@@ -8,27 +8,44 @@ use Rattle.version_table.specs.Rising.{IsRising}
 use Rattle.version_table.specs.Paged.{Places, HaveVersions, flat, is_past, pages_before}
 use Rattle.version_table.proofs.PageLookups.{from-page, held-drop, left_from, parted, rising-drop}
 use Rattle.version_table.proofs.pages.walk_from.Goals as goal
+use Rattle.version_table.proofs.pages.walk_from.Goals.{After-pages_from-rest}
 
-pub pages_from-requires : goal.pages_from-requires
-pages_from-requires c = subst (λ k. k ≤ length c.args.pages.now) (sym c.pages_before.ensures) (count_while-le (is_past c.args.rev) c.args.pages.now)
+rest : (c : After-pages_from-rest) → drop (pages_before c.args.rev c.args.pages.now) c.args.pages.now ≡ c.pages_from-rest.result.now
+rest c = ap (λ k. drop k c.args.pages.now) (sym c.pages_before.ensures) ∙ sym c.pages_from-rest.ensures
+
+pub pages_from-rest-requires : goal.pages_from-rest-requires
+pages_from-rest-requires c =
+    subst (λ k. k ≤ length c.args.pages.now) (sym c.pages_before.ensures)
+    (count_while-le (λ p. is_past c.args.rev p) c.args.pages.now)
 
 pub versions_from-requires : goal.versions_from-requires
 versions_from-requires c =
-    let rest = sym c.pages_from-rest.ensures ∙ c.in-Some.ensures.cases.0 in
+    let ps = c.args.pages.now in
+    let k = pages_before c.args.rev ps in
     subst IsRising (sym c.versions.ensures)
     (parted c.in-Some.page.now.versions (flat c.in-Some.later.now)
-    (subst (λ (ps : List Places). IsRising (flat ps)) rest (rising-drop c.pages_before.result c.args.pages.now c.requires.rising))).front
+    (subst (λ (qs : List Places). IsRising (flat qs)) (rest c ∙ c.in-Some.ensures.cases.0) (rising-drop k ps c.requires.rising))).front
 
 pub of-requires : goal.of-requires
 of-requires c =
-    let rest = sym c.pages_from-rest.ensures ∙ c.in-Some.ensures.cases.0 in
-    (subst HaveVersions rest (held-drop c.pages_before.result c.args.pages.now c.requires.held)).1
+    let ps = c.args.pages.now in
+    (subst HaveVersions (rest c ∙ c.in-Some.ensures.cases.0) (held-drop (pages_before c.args.rev ps) ps c.requires.held)).1
 
 pub returns-in-Some : goal.returns-in-Some
 returns-in-Some c =
-    let rest : drop (pages_before c.args.rev c.args.pages.now) c.args.pages.now ≡ c.in-Some.page.now ∷ c.in-Some.later.now =
-    ap (λ k. drop k c.args.pages.now) (sym c.pages_before.ensures) ∙ sym c.pages_from-rest.ensures ∙ c.in-Some.ensures.cases.0 in
     c.of.ensures
     ∙ ap (λ (us : List Version). us ++ flat c.in-Some.later.now)
     (c.versions_from.ensures ∙ ap (filter (λ (v : Version). not (rev_lt v.rev c.args.rev))) c.versions.ensures)
-    ∙ ap (left_from c.args.rev) (sym rest) ∙ sym (from-page c.args.rev c.args.pages.now c.requires.rising)
+    ∙ ap (left_from c.args.rev) (sym (rest c ∙ c.in-Some.ensures.cases.0))
+    ∙ sym (from-page c.args.rev c.args.pages.now c.requires.rising)
+
+pub all-requires : goal.all-requires
+all-requires c =
+    let ps = c.args.pages.now in
+    subst HaveVersions (rest c) (held-drop (pages_before c.args.rev ps) ps c.requires.held)
+
+pub returns-in-None : goal.returns-in-None
+returns-in-None c =
+    let none : c.pages_from-rest.result.now ≡ [] = nil_from_length c.pages_from-rest.result.now c.in-None.ensures.cases in
+    c.all.ensures ∙ ap flat none ∙ ap (left_from c.args.rev) (sym (rest c ∙ none))
+    ∙ sym (from-page c.args.rev c.args.pages.now c.requires.rising)
