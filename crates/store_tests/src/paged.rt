@@ -47,8 +47,9 @@ fn slices(walk: Versions<'_>) -> usize {
     count
 }
 
-// 1,024 puts of one key, at the revisions from 2 to 1025, and one of another: 5 pages. A compaction at the last one
-// leaves the last put of each key: the one at the end of the fourth page, and the one on the fifth.
+// 1,024 puts of one key, at the revisions from 2 to 1025, and one of another make 5 pages. A
+// compaction at the last one leaves the last put of each key: the one at the end of the fourth
+// page, and the one on the fifth.
 #[test]
 fn fills_pages_and_frees_them(rt: HostRuntime) {
     let mut table = table(rt.alloc(), 1_027);

@@ -24,7 +24,8 @@ use Rattle.version_table.proofs.PageLookups.{parted, past-behind, unpast-above}
 -- ---- one page changed
 
 -- a write at an index
-pub set-change : (f : Places → Places) (ps : List Places) (i : ℕ) (d : Places) → i < length ps → set ps i (f (get_or ps i d)) ≡ change_at f i ps
+pub set-change : (f : Places → Places) (ps : List Places) (i : ℕ) (d : Places) → i < length ps
+    → set ps i (f (get_or ps i d)) ≡ change_at f i ps
 set-change f [] i d l = absurd (omega arith)
 set-change f (p ∷ ps) zero d l = refl
 set-change f (p ∷ ps) (suc i) d l = ap (λ qs. p ∷ qs) (set-change f ps i d (omega arith))
@@ -96,7 +97,8 @@ held-freed f (suc i) (p ∷ ps) h = by (is_void (slice_get (change_at f i ps) i)
 
 others-behind : (p : Rev) (vs : List Version) → IsBehind p vs → filter (λ v. not (is_at p v)) vs ≡ vs
 others-behind p [] b = refl
-others-behind p (v ∷ vs) b = ap (λ c. cond (not c) (v ∷ filter (λ w. not (is_at p w)) vs) (filter (λ w. not (is_at p w)) vs)) (is_rev-before p v.rev b.0)
+others-behind p (v ∷ vs) b =
+    ap (λ c. cond (not c) (v ∷ filter (λ w. not (is_at p w)) vs) (filter (λ w. not (is_at p w)) vs)) (is_rev-before p v.rev b.0)
     ∙ ap (λ us. v ∷ us) (others-behind p vs b.1)
 
 -- it is taken out of the first page that does not stand wholly before its place
@@ -119,7 +121,8 @@ flat-without p (q ∷ ps) r = by (is_past p q) refl (flat-without p ps (parted q
 
 -- ---- a version is added
 
-flat-grown : (v : Version) (p : Places) (ps : List Places) → flat (change_at (with_version v) (length ps) (p ∷ ps)) ≡ flat (p ∷ ps) ++ v ∷ []
+flat-grown : (v : Version) (p : Places) (ps : List Places)
+    → flat (change_at (with_version v) (length ps) (p ∷ ps)) ≡ flat (p ∷ ps) ++ v ∷ []
 flat-grown v p [] = append-nil (p.versions ++ v ∷ []) ∙ ap (λ us. us ++ v ∷ []) (sym (append-nil p.versions))
 flat-grown v p (q ∷ ps) = ap (λ us. p.versions ++ us) (flat-grown v q ps) ∙ sym (append_assoc p.versions (flat (q ∷ ps)) (v ∷ []))
 
@@ -152,7 +155,8 @@ room-number n h = grind (arith, nat_tests)
 pub room-last : (ps : List Places) (d : Places) → has_room ps ≡ true → used_in (get_or ps (length ps - 1) d) < 256
 room-last ps d h =
     let some : 0 < length ps = room-some ps h in
-    let last : Some (get_or ps (length ps - 1) d) ≡ newest ps = sym (slice_get-get_or ps (length ps - 1) d (omega arith)) ∙ slice_get-newest ps in
+    let last : Some (get_or ps (length ps - 1) d) ≡ newest ps =
+    sym (slice_get-get_or ps (length ps - 1) d (omega arith)) ∙ slice_get-newest ps in
     room-number (used_in (get_or ps (length ps - 1) d)) (ap room_in last ∙ h)
 
 pub pushed-last : (v : Version) (ps : List Places) → has_room ps ≡ true → change_at (with_version v) (length ps - 1) ps ≡ pushed v ps

@@ -1,6 +1,6 @@
 -- Versions in pages: each page has 256 places, filled one after another.
-use Rattle.std.specs.Prelude.{◌≡◌, ℕ, suc, zero, ◌<◌, ◌+◌, ◌-◌, List, [], ◌∷◌, ◌++◌, Bool, true, false, Option, None, Some, length}
-use Rattle.std.specs.Prelude.{if◌then◌else◌, nat_lt}
+use Rattle.std.specs.Prelude.{◌≡◌, ℕ, suc, zero, ◌<◌, ◌+◌, ◌-◌, List, [], ◌∷◌, ◌++◌, Bool, true, false}
+use Rattle.std.specs.Prelude.{Option, None, Some, if◌then◌else◌, length, nat_lt}
 use Rattle.std.specs.List.{AllByRecursion, flat_map, slice_get, remove}
 use Rattle.kv_model.specs.Lists.{is_empty, last_that}
 use Rattle.kv_model.specs.Kept.{without_rev}

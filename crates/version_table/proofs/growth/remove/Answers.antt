@@ -4,10 +4,6 @@ use Rattle.kv_model.specs.declared.version.Version.{Version}
 use Rattle.version_table.specs.Paged.{HaveVersions, change_at, flat, freed, pages_before, without_version}
 use Rattle.version_table.proofs.PageChanges.{change-past, flat-freed, flat-without, held-freed, length-change}
 use Rattle.version_table.proofs.growth.remove.Goals as goal
-use Rattle.version_table.proofs.growth.remove.Goals.{After-pages_before-index}
-
-at : (c : After-pages_before-index) → c.pages_before-index.result ≡ pages_before c.args.rev c.args.pages.now.items
-at c = c.pages_before-index.ensures ∙ ap (pages_before c.args.rev) c.deref.ensures.value
 
 pub returns-then-index-len-clause-value : goal.returns-then-index-len-clause-value
 returns-then-index-len-clause-value c =
@@ -16,7 +12,7 @@ returns-then-index-len-clause-value c =
     let same : c.len.result ≡ length ps = search rules in
     let past : length ps ≤ c.pages_before-index.result = omega (arith, same, c.if-index-len.true) in
     ap flat (sym (change-past f c.pages_before-index.result ps past))
-    ∙ ap (λ k. flat (change_at f k ps)) (at c)
+    ∙ ap (λ k. flat (change_at f k ps)) (c.pages_before-index.ensures ∙ ap (pages_before c.args.rev) c.deref.ensures.value)
     ∙ flat-without c.args.rev ps c.requires.rising
 
 pub free-requires : goal.free-requires
@@ -32,8 +28,9 @@ pub returns-clause-value : goal.returns-clause-value
 returns-clause-value c =
     let f = without_version c.args.rev in
     let ps = c.args.pages.now.items in
-    ap flat c.free.ensures ∙ flat-freed c.pages_before-index.result c.remove_in-gone.new.pages.items ∙ ap flat c.remove_in-gone.ensures.value
-    ∙ ap (λ k. flat (change_at f k ps)) (at c)
+    ap flat c.free.ensures ∙ flat-freed c.pages_before-index.result c.remove_in-gone.new.pages.items
+    ∙ ap flat c.remove_in-gone.ensures.value
+    ∙ ap (λ k. flat (change_at f k ps)) (c.pages_before-index.ensures ∙ ap (pages_before c.args.rev) c.deref.ensures.value)
     ∙ flat-without c.args.rev ps c.requires.rising
 
 pub returns-clause-held : goal.returns-clause-held

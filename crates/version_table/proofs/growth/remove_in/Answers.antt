@@ -26,7 +26,8 @@ returns-clause-count c =
     let n = c.remove.result in
     let is : c.remove.new.self ≡ f (get_or ps c.args.index q) = c.remove.ensures.value ∙ ap f c.index_mut.ensures.value in
     let gone : n + length (versions_in (f (get_or ps c.args.index q))) ≡ length (versions_in (get_or ps c.args.index q)) =
-    sym (ap (λ (w : Places). n + length w.versions) is) ∙ c.remove.ensures.count ∙ ap (λ (w : Places). length w.versions) c.index_mut.ensures.value in
+    sym (ap (λ (w : Places). n + length w.versions) is) ∙ c.remove.ensures.count
+    ∙ ap (λ (w : Places). length w.versions) c.index_mut.ensures.value in
     ap (λ (w : Places). n + length (flat (set ps c.args.index w))) is
     ∙ ap (λ (ws : List Places). n + length (flat ws)) (set-change f ps c.args.index q c.requires.inside)
     ∙ fewer f n c.args.index ps q c.requires.inside gone

@@ -11,4 +11,5 @@ rest_from-requires c =
     (count_while-le (λ v. rev_lt v.rev c.args.rev) c.args.versions.now)
 
 pub returns : goal.returns
-returns c = c.rest_from.ensures ∙ ap (λ k. drop k c.args.versions.now) c.count_before.ensures ∙ from-here c.args.rev c.args.versions.now c.requires
+returns c =
+    c.rest_from.ensures ∙ ap (λ k. drop k c.args.versions.now) c.count_before.ensures ∙ from-here c.args.rev c.args.versions.now c.requires

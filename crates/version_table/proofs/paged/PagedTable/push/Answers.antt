@@ -7,9 +7,9 @@ use Rattle.version_table.specs.Paged.{HaveVersions, flat}
 use Rattle.version_table.specs.Rising.{IsBehind, IsRising, rev_of}
 use Rattle.version_table.proofs.PageChanges.{flat-pushed, held-pushed}
 use Rattle.version_table.proofs.paged.PagedTable.push.Goals as goal
-use Rattle.version_table.proofs.paged.PagedTable.push.Goals.{In_ok-push}
+use Rattle.version_table.proofs.paged.PagedTable.push.Goals.{After-self-1}
 
-whole : (c : In_ok-push) → flat c.push.new.pages.items ≡ flat c.self.inside.pages.items ++ c.args.version ∷ []
+whole : (c : After-self-1) → flat c.push.new.pages.items ≡ flat c.self.inside.pages.items ++ c.args.version ∷ []
 whole c = ap flat c.in_ok-push.ensures.ok ∙ flat-pushed c.args.version c.self.inside.pages.items
 
 pub invariant_of-self-2 : goal.invariant_of-self-2
