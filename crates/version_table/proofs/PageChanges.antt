@@ -1,6 +1,6 @@
 -- What a change of one page makes of the versions of all.
-use Rattle.std.proofs.Common.{◌≡◌, ℕ, zero, suc, ◌+◌, ◌-◌, ◌<◌, ◌≤◌, List, [], ◌∷◌, ◌++◌, length, get_or, set, drop, Bool, true, false}
-use Rattle.std.proofs.Common.{not, cond, IsTrue, ◌↔◌, Option, None, Some, filter, refl, sym, ◌∙◌, ap, append_assoc}
+use Rattle.std.proofs.Common.{◌≡◌, ℕ, zero, suc, ◌+◌, ◌-◌, ◌<◌, ◌≤◌, List, [], ◌∷◌, ◌++◌, length, get_or, set, Bool, true, false}
+use Rattle.std.proofs.Common.{not, cond, IsTrue, ◌↔◌, Some, filter, refl, sym, ◌∙◌, ap, append_assoc}
 use Rattle.std.proofs.Common.{Result, Ok, Err, OnOk, arith, length-append}
 use Rattle.std.proofs.lemmas.List.{append-nil, length_push}
 use Rattle.std.proofs.lemmas.List.Elements.{filter-append}

@@ -7,22 +7,21 @@ use Rattle.version_table.specs.Paged.{HaveVersions, flat}
 use Rattle.version_table.specs.Rising.{IsBehind, IsRising, rev_of}
 use Rattle.version_table.proofs.PageChanges.{flat-pushed, held-pushed}
 use Rattle.version_table.proofs.paged.PagedTable.push.Goals as goal
-use Rattle.version_table.proofs.paged.PagedTable.push.Goals.{After-self-1}
-
-whole : (c : After-self-1) → flat c.push.new.pages.items ≡ flat c.self.inside.pages.items ++ c.args.version ∷ []
-whole c = ap flat c.in_ok-push.ensures.ok ∙ flat-pushed c.args.version c.self.inside.pages.items
 
 pub invariant_of-self-2 : goal.invariant_of-self-2
 invariant_of-self-2 c =
     let ps = c.self.inside.pages.items in
     let v = c.args.version in
     let behind : IsBehind v.rev (flat ps) = rw (← c.self.view_is) at c.requires in
-    let longer : length (flat c.push.new.pages.items) ≡ length (flat ps) + 1 = ap length (whole c) ∙ length_push (flat ps) v in
+    let whole : flat c.push.new.pages.items ≡ flat ps ++ v ∷ [] = ap flat c.in_ok-push.ensures.ok ∙ flat-pushed v ps in
+    let longer : length (flat c.push.new.pages.items) ≡ length (flat ps) + 1 = ap length whole ∙ length_push (flat ps) v in
     record {
-      rising = subst IsRising (sym (whole c)) (rising-push rev_of (flat ps) v c.self.invariant.rising behind);
+      rising = subst IsRising (sym whole) (rising-push rev_of (flat ps) v c.self.invariant.rising behind);
       held = subst HaveVersions (sym c.in_ok-push.ensures.ok) (held-pushed v ps c.self.invariant.held);
       counted = omega (arith, longer, c.in-Some.ensures.1, c.self.invariant.counted);
     }
 
 pub returns-clause-ok : goal.returns-clause-ok
-returns-clause-ok c = whole c ∙ ap (λ (vs : List Version). vs ++ c.args.version ∷ []) c.self.view_is
+returns-clause-ok c =
+    ap flat c.in_ok-push.ensures.ok ∙ flat-pushed c.args.version c.self.inside.pages.items
+    ∙ ap (λ (vs : List Version). vs ++ c.args.version ∷ []) c.self.view_is
