@@ -15,6 +15,8 @@ mod keys_of_leases;
 #[cfg(test)]
 mod leases;
 #[cfg(test)]
+mod paged;
+#[cfg(test)]
 mod plans;
 #[cfg(test)]
 mod spans;

@@ -1,2 +1,4 @@
 pub mod Rising
 pub mod Changes
+pub mod PageLookups
+pub mod PageChanges

@@ -18,10 +18,10 @@ IsAbove p vs = rising.IsAbove rev_of p vs
 
 -- ---- what stands at a place
 
-above-not : (p : Rev) (v : Version) (vs : List Version) → rev_lt v.rev p ≡ false → IsAbove v.rev vs → IsAbove p vs
+pub above-not : (p : Rev) (v : Version) (vs : List Version) → rev_lt v.rev p ≡ false → IsAbove v.rev vs → IsAbove p vs
 above-not p v vs h = each-map (λ w. rev_lt v.rev w.rev ≡ true) (λ w. rev_lt p w.rev ≡ true) (λ w a. rev_lt-not p v.rev w.rev h a) vs
 
-none-above : (p : Rev) (vs : List Version) → IsAbove p vs → find (is_at p) vs ≡ None
+pub none-above : (p : Rev) (vs : List Version) → IsAbove p vs → find (is_at p) vs ≡ None
 none-above p [] a = refl
 none-above p (v ∷ vs) a = ap (λ b. cond b (Some v) (find (is_at p) vs)) (is_rev-behind p v.rev a.0) ∙ none-above p vs a.1
 

@@ -18,9 +18,29 @@
 //! retract 2                  2.0 3.1, since 2 is not
 //! ```
 //!
-//! The tests stand in the crate `store_tests`, in `src/table.rt`.
+//! [`PagedTable`] is the same list in pages of 256 places, with no `retract`, and with walks in
+//! place of a slice. What is taken out of it moves the versions behind it on its own page alone,
+//! and a page that has no version left is freed. Nothing uses it yet. With a page written in
+//! brackets, and with four places to a page:
+//!
+//! ```text
+//! push 2.0, 3.0, 3.1, 5.0, 6.0, 7.0   [2.0 3.0 3.1 5.0] [6.0 7.0]
+//! remove 3.0                          [2.0 3.1 5.0] [6.0 7.0]: its place is not used again
+//! next_from 5.1                       6.0: the last version of its page is not before 5.1
+//! remove 2.0, 3.1, 5.0                [6.0 7.0]
+//! ```
+//!
+//! The tests stand in the crate `store_tests`, in `src/table.rt` and `src/paged.rt`.
 #![tactic(auto)]
 
+mod growth;
+mod halving;
+mod page;
+pub mod paged;
+mod pages;
 pub mod table;
+mod walk;
 
+pub use paged::PagedTable;
 pub use table::VersionTable;
+pub use walk::Versions;

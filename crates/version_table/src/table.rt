@@ -1,13 +1,14 @@
 //! A table of versions, rising by revision (etcd: data model).
-ghost use Rattle.std.specs.Prelude.{◌≡◌, ◌↔◌, List, [], ◌∷◌, ◌++◌, ◌<◌, length};
-ghost use Rattle.std.specs.Prelude.{not, option_and_then, IfSome, option_map};
-ghost use Rattle.std.specs.Prelude.{option_copied, OnOk, OnErr, IsTrue, Some, None};
+ghost use Rattle.std.specs.Prelude.{◌≡◌, ◌↔◌, [], ◌∷◌, ◌++◌, length, not, option_map};
+ghost use Rattle.std.specs.Prelude.{option_copied, OnOk, OnErr, IsTrue, Some};
 ghost use Rattle.std.specs.List.{find, slice_get};
 ghost use Rattle.kv_model.specs.History.{rev_lt};
 ghost use Rattle.kv_model.specs.Kept.{is_at, without_rev};
-ghost use Rattle.version_table.specs.Rising.{IsBehind, IsRising, guess, is_newest};
-ghost use Rattle.version_table.specs.Rising.{newest, count_before, retracted, without_index};
+ghost use Rattle.version_table.specs.Rising.{IsBehind, IsRising, guess, is_newest, retracted};
 
+use crate::halving::{
+    count_before, is_before, newest, remove_at, rev_at, search, version_at, version_if,
+};
 use kv_model::version::{Rev, Version};
 use std::alloc::{AllocError, Global};
 use std::marker::Model;
@@ -106,7 +107,7 @@ impl VersionTable {
     pub fn remove(&mut self, rev: Rev)
         ensures { self.new ≡ without_rev (Some rev) self.old }
     {
-        remove_at(&mut self.versions, rev);
+        let _ = remove_at(&mut self.versions, rev);
     }
 
     /// The version at a revision. Takes no memory.
@@ -137,20 +138,6 @@ impl VersionTable {
     }
 }
 
-/// Whether a revision stands before another, by main and then by sub.
-fn is_before(left: Rev, right: Rev) -> bool
-    ensures { result ≡ rev_lt left right }
-{
-    left.cmp(&right).is_lt()
-}
-
-/// The last version.
-fn newest(versions: &[Version]) -> Option<&Version>
-    ensures { option_copied result ≡ newest versions.now }
-{
-    versions.last()
-}
-
 /// Whether the last version is of a main revision.
 fn is_newest(versions: &[Version], main: u64) -> bool
     ensures { result ≡ is_newest main versions.now }
@@ -161,20 +148,6 @@ fn is_newest(versions: &[Version], main: u64) -> bool
     }
 }
 
-/// The version at an index.
-fn version_at(versions: &[Version], index: usize) -> Option<&Version>
-    ensures { option_copied result ≡ slice_get versions.now index }
-{
-    versions.get(index)
-}
-
-/// The revision at an index.
-fn rev_at(versions: &[Version], index: usize) -> Option<Rev>
-    ensures { result ≡ option_map (λ v. v.rev) (slice_get versions.now index) }
-{
-    version_at(versions, index).map(|version| version.rev)
-}
-
 /// The index at which a revision stands where each main revision from that of the first version on
 /// has one version.
 fn guess(versions: &[Version], rev: Rev) -> usize
@@ -183,60 +156,5 @@ fn guess(versions: &[Version], rev: Rev) -> usize
     match version_at(versions, 0) {
         Some(first) => rev.main.saturating_sub(first.rev.main) as usize,
         None => 0,
-    }
-}
-
-/// The version at an index, where it is at the revision: none of the others, which rise, is.
-fn version_if(versions: &[Version], index: usize, rev: Rev) -> Option<&Version>
-    requires { IsRising versions.now }
-    ensures { IfSome result (λ v. find (is_at rev) versions.now ≡ Some v.now) }
-{
-    match version_at(versions, index) {
-        Some(version) if version.rev == rev => Some(version),
-        _ => None,
-    }
-}
-
-/// The version at a revision. It halves.
-fn search(versions: &[Version], rev: Rev) -> Option<&Version>
-    requires { IsRising versions.now }
-    ensures { option_copied result ≡ find (is_at rev) versions.now }
-{
-    match index_of(versions, rev) {
-        Some(index) => version_at(versions, index),
-        None => None,
-    }
-}
-
-/// How many of the versions, which rise, stand before a revision. It halves.
-fn count_before(versions: &[Version], rev: Rev) -> usize
-    requires { IsRising versions.now }
-    ensures { result ≡ count_before rev versions.now }
-{
-    versions.partition_point(|v| is_before(v.rev, rev))
-}
-
-/// The index of the version at a revision. It halves.
-fn index_of(versions: &[Version], rev: Rev) -> Option<usize>
-    requires { IsRising versions.now }
-    ensures bound { IfSome result (λ i. i < length versions.now) }
-    ensures found { find (is_at rev) versions.now
-        ≡ option_and_then (slice_get versions.now) result }
-    ensures without { without_rev (Some rev) versions.now ≡ without_index versions.now result }
-{
-    let index = count_before(versions, rev);
-    match version_at(versions, index) {
-        Some(version) if version.rev == rev => Some(index),
-        _ => None,
-    }
-}
-
-/// Takes out the version at a revision.
-fn remove_at(versions: &mut Vec<Version>, rev: Rev)
-    requires { IsRising versions.old.items }
-    ensures { versions.new.items ≡ without_rev (Some rev) versions.old.items }
-{
-    if let Some(index) = index_of(versions, rev) {
-        let _ = versions.remove(index);
     }
 }

@@ -6,4 +6,4 @@ use Rattle.version_table.specs.Rising.{rev_of}
 use Rattle.version_table.proofs.table.VersionTable.remove.Goals as goal
 
 pub invariant_of-self : goal.invariant_of-self
-invariant_of-self c = rw c.remove_at.ensures (rising-filter rev_of (λ v. not (is_at c.args.rev v)) _ c.self.invariant)
+invariant_of-self c = rw c.remove_at.ensures.value (rising-filter rev_of (λ v. not (is_at c.args.rev v)) _ c.self.invariant)

@@ -1,7 +1,7 @@
 -- The version before which no other stands is at the revision, or none is.
 use Rattle.std.proofs.Common.{option_copied, sym, ◌∙◌, ap}
 use Rattle.version_table.proofs.Rising.{found, missed, past}
-use Rattle.version_table.proofs.table.index_of.Goals as goal
+use Rattle.version_table.proofs.halving.index_of.Goals as goal
 
 pub returns-in-Some-clause-found : goal.returns-in-Some-clause-found
 returns-in-Some-clause-found c =

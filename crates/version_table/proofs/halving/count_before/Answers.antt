@@ -5,7 +5,7 @@ use Rattle.kv_model.specs.History.{rev_lt}
 use Rattle.store_laws.proofs.RevOrder.{rev_lt-trans}
 use Rattle.store_laws.proofs.Rising.{count_while-point, partitioned}
 use Rattle.version_table.specs.Rising.{rev_of}
-use Rattle.version_table.proofs.table.count_before.Goals as goal
+use Rattle.version_table.proofs.halving.count_before.Goals as goal
 
 pub returns : goal.returns
 returns c =

@@ -1,0 +1,96 @@
+//! A page of a table: so many places, and the versions that stand in them.
+ghost use Rattle.std.specs.Prelude.{◌≡◌, ◌↔◌, ◌+◌, ◌<◌, [], length, nat_lt};
+ghost use Rattle.std.specs.Prelude.{IfOk, OnOk, OnErr, IsTrue};
+ghost use Rattle.version_table.specs.Paged.{fresh, is_past, with_version, without_version};
+ghost use Rattle.version_table.specs.Rising.{IsRising};
+
+use crate::halving::{is_before, newest, remove_at};
+use kv_model::version::{Rev, Version};
+use std::alloc::{AllocError, Global};
+use std::marker::Model;
+
+/// How many places a page has.
+pub(crate) const PLACES: usize = 256;
+
+/// Versions side by side, and how many places of the page were ever used: the place of a version
+/// that was taken out is not used again.
+#[derive(Debug, Drop)]
+pub(crate) struct Page {
+    used: usize,
+    versions: Vec<Version>,
+}
+
+impl Model for Page {
+    ghost use Rattle.std.specs.Prelude.{◌≤◌, length};
+    ghost use Rattle.version_table.specs.Paged.{Places};
+
+    ghost Value = { Places };
+
+    ghost view = { λ p. record { used = p.used; versions = p.versions.items } };
+
+    ghost invariant = { λ p. (length p.versions.items ≤ p.used) × (p.used ≤ 256) };
+}
+
+impl Page {
+    /// A page whose first place has a version, and the others none. The error is want of memory.
+    pub(crate) fn of(alloc: Global, version: Version) -> Result<Page, AllocError>
+        ensures { IfOk result (λ p. p ≡ fresh version) }
+    {
+        let mut versions = Vec::new(alloc);
+        versions.push(version)?;
+        Ok(Page { used: 1, versions })
+    }
+
+    /// The versions, lent.
+    pub(crate) fn versions(&self) -> &[Version]
+        ensures { result.now ≡ self.now.versions }
+    {
+        self.versions.as_slice()
+    }
+
+    /// Whether no version stands in the page.
+    pub(crate) fn is_empty(&self) -> bool
+        ensures { IsTrue result ↔ (self.now.versions ≡ []) }
+    {
+        self.versions.is_empty()
+    }
+
+    /// Whether some place was never used.
+    pub(crate) fn has_room(&self) -> bool
+        ensures { result ≡ nat_lt self.now.used 256 }
+    {
+        self.used < PLACES
+    }
+
+    /// Whether every version stands before a revision: the last one does.
+    pub(crate) fn is_past(&self, rev: Rev) -> bool
+        ensures { result ≡ is_past rev self.now }
+    {
+        match newest(self.versions()) {
+            Some(version) => is_before(version.rev, rev),
+            None => true,
+        }
+    }
+
+    /// Puts a version into the first place that was never used. The error is want of memory, and
+    /// the page is then as it was.
+    pub(crate) fn push(&mut self, version: Version) -> Result<(), AllocError>
+        requires { self.old.used < 256 }
+        ensures ok { OnOk result (self.new ≡ with_version version self.old) }
+        ensures err { OnErr result (self.new ≡ self.old) }
+    {
+        self.versions.push(version)?;
+        self.used += 1;
+        Ok(())
+    }
+
+    /// Takes out the version at a revision, and nothing where there is none. Tells how many went.
+    /// It halves.
+    pub(crate) fn remove(&mut self, rev: Rev) -> usize
+        requires { IsRising self.old.versions }
+        ensures value { self.new ≡ without_version rev self.old }
+        ensures count { result + length self.new.versions ≡ length self.old.versions }
+    {
+        remove_at(&mut self.versions, rev)
+    }
+}

@@ -1,0 +1,158 @@
+//! A table of versions in pages, rising by revision (etcd: data model): what is taken out moves no
+//! version but those on its own page.
+ghost use Rattle.std.specs.Prelude.{◌≡◌, ◌↔◌, ◌≤◌, [], ◌∷◌, ◌++◌, length, filter, not, option_map};
+ghost use Rattle.std.specs.Prelude.{option_copied, OnOk, OnErr, IsTrue, Some};
+ghost use Rattle.std.specs.List.{find};
+ghost use Rattle.kv_model.specs.History.{rev_lt};
+ghost use Rattle.kv_model.specs.Kept.{is_at, without_rev};
+ghost use Rattle.version_table.specs.Rising.{IsBehind, IsRising, newest};
+
+use crate::halving::is_before;
+use crate::page::Page;
+use crate::walk::Versions;
+use crate::{growth, pages};
+use kv_model::version::{Rev, Version};
+use std::alloc::{AllocError, Global};
+use std::marker::Model;
+
+/// The versions of all keys, one list that rises by revision.
+#[derive(Debug, Drop)]
+pub struct PagedTable {
+    alloc: Global,
+    pages: Vec<Page>,
+    len: usize,
+}
+
+impl Model for PagedTable {
+    ghost use Rattle.std.specs.Prelude.{List};
+    ghost use Rattle.kv_model.specs.declared.version.Version.{Version};
+    ghost use Rattle.version_table.specs.Paged.{ArePages, flat};
+
+    ghost Value = { List Version };
+
+    ghost view = { λ t. flat t.pages.items };
+
+    ghost invariant = { λ t. ArePages t.pages.items t.len };
+}
+
+impl PagedTable {
+    /// The empty table, which takes its memory from `alloc` as it grows.
+    pub fn new(alloc: Global) -> Self
+        ensures { result ≡ [] }
+    {
+        PagedTable {
+            alloc,
+            pages: Vec::new(alloc),
+            len: 0,
+        }
+    }
+
+    /// The number of versions. Constant time.
+    pub fn len(&self) -> usize
+        ensures { result ≡ length self.now }
+    {
+        self.len
+    }
+
+    /// Whether there is no version. Constant time.
+    pub fn is_empty(&self) -> bool
+        ensures { IsTrue result ↔ (self.now ≡ []) }
+    {
+        self.len == 0
+    }
+
+    /// The number of pages: never more than there are versions, since one without versions is
+    /// freed. Constant time.
+    pub fn pages(&self) -> usize
+        ensures { result ≤ length self.now }
+    {
+        self.pages.len()
+    }
+
+    /// Whether `push` takes a version at this revision: it is above each one in the table. Constant
+    /// time.
+    pub fn takes(&self, rev: Rev) -> bool
+        ensures { IsTrue result ↔ IsBehind rev self.now }
+    {
+        match self.newest() {
+            Some(newest) => is_before(newest.rev, rev),
+            None => true,
+        }
+    }
+
+    /// The last version. Constant time.
+    pub fn newest(&self) -> Option<&Version>
+        ensures value { option_copied result ≡ newest self.now }
+        ensures rising { IsRising self.now }
+    {
+        pages::newest(&self.pages)
+    }
+
+    /// Adds a version at the end. Its revision is above each one in the table.
+    ///
+    /// The error is want of memory, and the table is then as it was. Constant time, but for the
+    /// growth of a page, and for that of the list of pages.
+    pub fn push(&mut self, version: Version) -> Result<(), AllocError>
+        requires { IsBehind version.rev self.old }
+        ensures ok { OnOk result (self.new ≡ self.old ++ version ∷ []) }
+        ensures err { OnErr result (self.new ≡ self.old) }
+    {
+        // No memory holds 2^64 versions.
+        let Some(len) = self.len.checked_add(1) else {
+            return Err(AllocError);
+        };
+        growth::push(&mut self.pages, self.alloc, version)?;
+        self.len = len;
+        Ok(())
+    }
+
+    /// The versions in order, lent one after another. Takes no memory, and constant time.
+    pub fn versions(&self) -> Versions<'_>
+        ensures value { result ≡ self.now }
+        ensures rising { IsRising self.now }
+    {
+        Versions::all(&self.pages)
+    }
+
+    /// The versions that are not before a revision, lent one after another. Takes no memory, and
+    /// logarithmic time.
+    pub fn versions_from(&self, rev: Rev) -> Versions<'_>
+        ensures value { result ≡ filter (λ v. not (rev_lt v.rev rev)) self.now }
+        ensures rising { IsRising self.now }
+    {
+        pages::walk_from(&self.pages, rev)
+    }
+
+    /// The version at a revision. Takes no memory.
+    ///
+    /// Constant time where the table has one version of each main revision from its first one to
+    /// this: it looks first at the place that the revision then has. Elsewhere, as behind a command
+    /// of several changes or behind trimmed versions, logarithmic time.
+    pub fn get(&self, rev: Rev) -> Option<&Version>
+        ensures value { option_copied result ≡ find (is_at rev) self.now }
+        ensures rising { IsRising self.now }
+    {
+        pages::get(&self.pages, rev)
+    }
+
+    /// The first revision in the table that is not before the given one. Takes no memory, and
+    /// logarithmic time.
+    pub fn next_from(&self, rev: Rev) -> Option<Rev>
+        ensures value { result ≡ option_map (λ v. v.rev)
+            (find (λ v. not (rev_lt v.rev rev)) self.now) }
+        ensures rising { IsRising self.now }
+    {
+        pages::next_from(&self.pages, rev)
+    }
+
+    /// Takes out the version at a revision, and nothing where there is none. Takes no memory.
+    ///
+    /// It is found in logarithmic time; those behind it on its page move one place, and where the
+    /// page has no other version, the pages behind it move one place in the list of pages.
+    pub fn remove(&mut self, rev: Rev)
+        ensures { self.new ≡ without_rev (Some rev) self.old }
+    {
+        let gone = growth::remove(&mut self.pages, rev);
+        self.len -= gone;
+    }
+}
