@@ -141,13 +141,7 @@ fn step_post(alloc: Global, core: &mut Core, path: &[u8], body: &[u8], ids: &Ids
 /// Does what a request asks on a core, as [`post`] does, and makes the trimming steps that its
 /// answer waits for (the etcd documentation's CompactionRequest: physical). The outcome is that of
 /// a request in a run.
-pub fn post_and_trim(
-    alloc: Global,
-    core: &mut Core,
-    path: &[u8],
-    body: &[u8],
-    ids: &Ids,
-) -> Outcome
+pub fn post_and_trim(alloc: Global, core: &mut Core, path: &[u8], body: &[u8], ids: &Ids) -> Outcome
     ensures bare { IsBare result }
     ensures steps { (w : World) → StandsFor core.old.store w
         → Steps ids.now w (model_post path.now body.now) (command_view result) core.old core.new }

@@ -1,0 +1,163 @@
+//! One connection, from its first byte to its end.
+ghost use Rattle.std.specs.Prelude.{◌≡◌, ◌≤◌, ℕ, IfErr};
+ghost use Rattle.http_input.specs.Inputs.{failures_after_read};
+ghost use Rattle.http_reply.specs.Counts.{failures_of};
+ghost use Rattle.http_reply.specs.Sends.{failures_after};
+ghost use Rattle.http_pool.specs.Ends.{IsOfConnection, IsUnread, IsUnsent, failed_reads};
+
+use crate::gate::{Clock, Gate};
+use crate::replying::answer;
+use engine_lock::{Client, Engine, EngineName, Feed};
+use http_input::Input;
+use http_reply::{Counted, Front, ReplyBuffer, write_refusal};
+use std::alloc::Global;
+use std::io::{Read, Write};
+use std::sync::Wait;
+use std::time;
+
+/// Where a connection stands after a turn.
+#[derive(Clone, Copy, Debug, PartialEq, Eq)]
+enum Turn {
+    /// A request was answered, and another may come.
+    Open,
+    /// A request was answered, and it was the last.
+    Closed,
+    /// The input ended before a further request.
+    Clean,
+}
+
+/// Answers the requests of a connection one after the other, each by one `submit` to the engine,
+/// and gives the number of its replies. It ends at the input's end before a request, behind a
+/// request with `Connection: close`, and behind a watch.
+///
+/// `call` is the number of the connection, which the gate is told of before each request is handed
+/// to the engine and after its reply. The clock is read for each request.
+///
+/// Fails as `Input::next_request` does, after the reply that tells why a request is not read; with
+/// `Front::Write` where a write fails or takes nothing; and with `Front::Memory`, where the buffers
+/// or the text of a reply found no memory. A watch of the connection has ended then, too.
+pub fn work<L, F, G, C, R, In, Out>(
+    rt: &R,
+    alloc: Global,
+    engine: &Engine<L, F>,
+    client: &mut Client<L, F>,
+    gate: &G,
+    clock: &C,
+    call: u64,
+    r: &mut Counted<In>,
+    w: &mut Counted<Out>,
+) -> Result<u64, Front>
+where
+    L: EngineName,
+    F: Feed,
+    G: Gate,
+    C: Clock,
+    R: Wait + time::Clock,
+    In: Read,
+    Out: Write,
+    ensures share { client.old.made ≤ client.new.made }
+    ensures reader { failures_of r.new ≡ failures_after_read result (failures_of r.old) }
+    ensures writer { failures_of w.new ≡ failures_after result (failures_of w.old) }
+    ensures fault { IfErr result IsOfConnection }
+{
+    let Ok(mut input) = Input::new(alloc) else {
+        return Err(Front::Memory);
+    };
+    let Ok(mut buffer) = ReplyBuffer::new(alloc) else {
+        return Err(Front::Memory);
+    };
+    for replies in 0..u64::MAX {
+        let turn = take_turn(
+            rt,
+            alloc,
+            engine,
+            client,
+            gate,
+            clock,
+            call,
+            &mut input,
+            &mut buffer,
+            r,
+            w,
+        );
+        match turn {
+            Ok(Turn::Open) => {}
+            Ok(Turn::Closed) => return Ok(replies + 1),
+            Ok(Turn::Clean) => return Ok(replies),
+            Err(front) => return Err(front),
+        }
+    }
+    Ok(u64::MAX)
+}
+
+/// Reads a request and answers it.
+fn take_turn<L, F, G, C, R, In, Out>(
+    rt: &R,
+    alloc: Global,
+    engine: &Engine<L, F>,
+    client: &mut Client<L, F>,
+    gate: &G,
+    clock: &C,
+    call: u64,
+    input: &mut Input,
+    buffer: &mut ReplyBuffer,
+    r: &mut Counted<In>,
+    w: &mut Counted<Out>,
+) -> Result<Turn, Front>
+where
+    L: EngineName,
+    F: Feed,
+    G: Gate,
+    C: Clock,
+    R: Wait + time::Clock,
+    In: Read,
+    Out: Write,
+    ensures share { client.old.made ≤ client.new.made }
+    ensures reader { failures_of r.new ≡ failures_after_read result (failures_of r.old) }
+    ensures writer { failures_of w.new ≡ failures_after result (failures_of w.old) }
+    ensures fault { IfErr result IsOfConnection }
+{
+    match input.next_request(r) {
+        Ok(Some(head)) => {
+            gate.before(call);
+            let request = input.request(head);
+            let closes = answer(rt, alloc, engine, client, clock, &request, buffer, w);
+            gate.after(call);
+            input.skip(head);
+            turn_of(closes)
+        }
+        Ok(None) => Ok(Turn::Clean),
+        Err(front) => decline(buffer, w, front),
+    }
+}
+
+/// The turn of a request that was answered so.
+fn turn_of(closes: Result<bool, Front>) -> Result<Turn, Front>
+    requires { IsUnsent closes }
+    ensures unsent { IsUnsent result }
+    ensures failures { (n : ℕ) → failures_after result n ≡ failures_after closes n }
+{
+    match closes {
+        Ok(true) => Ok(Turn::Closed),
+        Ok(false) => Ok(Turn::Open),
+        Err(front) => Err(front),
+    }
+}
+
+/// Writes the reply that tells why a request is not read, where there is one, and ends the
+/// connection.
+fn decline<Out: Write>(
+    buffer: &mut ReplyBuffer,
+    w: &mut Counted<Out>,
+    front: Front,
+) -> Result<Turn, Front>
+    requires { IsUnread front }
+    ensures reader { (n : ℕ) → failures_after_read result n ≡ failed_reads front n }
+    ensures writer { failures_of w.new ≡ failures_after result (failures_of w.old) }
+    ensures fault { IfErr result IsOfConnection }
+{
+    match write_refusal(buffer, w, front) {
+        Ok(()) => Err(front),
+        Err(unsent) => Err(unsent),
+    }
+}

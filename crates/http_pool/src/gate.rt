@@ -1,0 +1,26 @@
+//! What a server asks of whoever runs it: when a request may go on, and what time it is.
+
+/// Is told of each request of a server. A test holds requests back by it.
+pub trait Gate {
+    /// Comes before the request of a connection of this number is handed to the engine.
+    fn before(&self, call: u64);
+
+    /// Comes after its reply, or after the attempt to write it.
+    fn after(&self, call: u64);
+}
+
+/// Holds no request back.
+#[derive(Clone, Copy, Debug, Drop)]
+pub struct OpenGate;
+
+impl Gate for OpenGate {
+    fn before(&self, _call: u64) {}
+
+    fn after(&self, _call: u64) {}
+}
+
+/// Tells the moments by which leases end.
+pub trait Clock {
+    /// The moment, in milliseconds. One before an earlier one counts as that.
+    fn now(&self) -> u64;
+}

@@ -1,0 +1,96 @@
+//! The stream of a watch.
+ghost use Rattle.std.specs.Prelude.{◌≡◌};
+ghost use Rattle.http_reply.specs.Counts.{failures_of};
+ghost use Rattle.http_reply.specs.Sends.{failures_after};
+ghost use Rattle.http_pool.specs.Ends.{IsUnsent};
+
+use engine_lock::{Engine, EngineName, Feed};
+use http_reply::{Counted, Front, ReplyBuffer, write_chunk, write_last_chunk, write_stream_head};
+use json_gateway::Message;
+use std::io::Write;
+use std::sync::Wait;
+use std::time::Duration;
+use std::{thread, time};
+
+/// How long a watch rests once it is told nothing, in milliseconds.
+const WATCH_REST: u64 = 20;
+
+/// Writes what a watch is told, from the message that it was created on: a chunk for each message,
+/// until no watch has the number, and then the last chunk. Gives `true`: the connection is closed
+/// behind it. A delivery that found no memory is made again after a rest.
+pub(crate) fn stream<L, F, R, Out>(
+    rt: &R,
+    engine: &Engine<L, F>,
+    number: u64,
+    created: &[u8],
+    buffer: &mut ReplyBuffer,
+    w: &mut Counted<Out>,
+) -> Result<bool, Front>
+where
+    L: EngineName,
+    F: Feed,
+    R: Wait + time::Clock,
+    Out: Write,
+    ensures writer { failures_of w.new ≡ failures_after result (failures_of w.old) }
+    ensures unsent { IsUnsent result }
+{
+    if let Err(front) = begin(buffer, w, created) {
+        return Err(front);
+    }
+    for _ in rt.forever() {
+        match tell_next(rt, engine, number, buffer, w) {
+            Ok(true) => {}
+            Ok(false) => break,
+            Err(front) => return Err(front),
+        }
+    }
+    match write_last_chunk(buffer, w) {
+        Ok(()) => Ok(true),
+        Err(front) => Err(front),
+    }
+}
+
+/// Writes the head of a stream, and its first message.
+fn begin<Out: Write>(
+    buffer: &mut ReplyBuffer,
+    w: &mut Counted<Out>,
+    created: &[u8],
+) -> Result<(), Front>
+    ensures writer { failures_of w.new ≡ failures_after result (failures_of w.old) }
+    ensures unsent { IsUnsent result }
+{
+    match write_stream_head(buffer, w) {
+        Ok(()) => write_chunk(buffer, w, created),
+        Err(front) => Err(front),
+    }
+}
+
+/// Writes the next message of a watch, or rests where there is none; `false` where no watch has
+/// the number.
+fn tell_next<L, F, R, Out>(
+    rt: &R,
+    engine: &Engine<L, F>,
+    number: u64,
+    buffer: &mut ReplyBuffer,
+    w: &mut Counted<Out>,
+) -> Result<bool, Front>
+where
+    L: EngineName,
+    F: Feed,
+    R: Wait + time::Clock,
+    Out: Write,
+    ensures writer { failures_of w.new ≡ failures_after result (failures_of w.old) }
+    ensures unsent { IsUnsent result }
+{
+    match engine.deliver(rt, number) {
+        Ok(Message::Text(text)) => match write_chunk(buffer, w, text.as_slice()) {
+            Ok(()) => Ok(true),
+            Err(front) => Err(front),
+        },
+        Ok(Message::NoWatch) => Ok(false),
+        Ok(Message::Nothing) | Err(_) => {
+            thread::sleep(rt, Duration::from_millis(WATCH_REST));
+            Ok(true)
+        }
+    }
+}
