@@ -28,7 +28,7 @@ use std::{thread, time};
 /// Fails, when all threads have ended, with
 ///
 /// - `Front::Memory`, where the lists of clients and of threads find no memory: no connection is
-///   accepted then;
+///   accepted then, unless it was the list of the clients that came back at the end;
 /// - `Front::Spawn`, where a thread could not be started: none is accepted then, either;
 /// - `Front::Accept`, where an accept failed; the worker that made it has ended there, and the
 ///   others went on;
