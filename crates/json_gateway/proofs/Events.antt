@@ -19,13 +19,13 @@ use Rattle.kv_model.specs.Step.{expire}
 use Rattle.kv_model.specs.Told.{Expiry as ModelExpiry, Trimmed}
 use Rattle.kv_model.specs.Watches.{deliver as delivered}
 use Rattle.kv_model.specs.Wire as model
-use Rattle.kv_model.specs.Wire.{WireTold, wire_step, is_free, is_physical_call, takes_memory, MayLose, reply_to, IsChangeBy}
+use Rattle.kv_model.specs.Wire.{WireTold, wire_step, is_free, is_physical_call, takes_memory, MayLose, reply_to, IsChangeBy, trim_told}
 use Rattle.kv_model.specs.World.{World, at_moment, opening, watch_at, without_watch}
 use Rattle.store_laws.specs.Stands.{StandsFor}
-use Rattle.store_laws.specs.TrimmingLaws.{IsVisit, trim_told}
+use Rattle.store_laws.specs.TrimmingLaws.{IsVisit}
 use Rattle.store_laws.proofs.KeepingLaws.{opens_kept, rests_kept}
 use Rattle.trim_core.specs.declared.trimmer.Trim.{Trim}
-use Rattle.trim_core.specs.Steps.{told_of}
+use Rattle.trim_core.specs.Told.{told_of}
 use Rattle.request_core.specs.declared.answer.Expiry.{Expiry}
 use Rattle.request_core.specs.declared.answer.Expiry.TheVariants as expiry
 use Rattle.request_core.specs.Answers.{expiry_view, is_memory}

@@ -8,13 +8,13 @@ use Rattle.kv_model.specs.Step.{perform, refused_or, compact_in, compact_refusal
 use Rattle.kv_model.specs.Told.{Answer, Reply, Trimmed}
 use Rattle.kv_model.specs.Kept.{IsDone, IsTrimmed, Keeping, Trims}
 use Rattle.kv_model.specs.Questions.{IsLeast}
-use Rattle.kv_model.specs.Wire.{WireTold, changes_beside, is_physical_call}
+use Rattle.kv_model.specs.Wire.{WireTold, changes_beside, is_physical_call, trim_told}
 use Rattle.kv_model.specs.Answers.{Response}
 use Rattle.kv_model.specs.World.{World, revision}
 use Rattle.store_laws.specs.Stands.{StandsFor}
-use Rattle.store_laws.specs.TrimmingLaws.{IsVisit, trim_told}
+use Rattle.store_laws.specs.TrimmingLaws.{IsVisit}
 use Rattle.trim_core.specs.declared.trimmer.Trim.{Trim}
-use Rattle.trim_core.specs.Steps.{told_of}
+use Rattle.trim_core.specs.Told.{told_of}
 use Rattle.txn_core.proofs.Walking.{txn_view-out}
 use Rattle.request_core.specs.declared.answer.Receipt.{Receipt}
 use Rattle.request_core.specs.Answers.{has_changed, is_beside}

@@ -4,7 +4,7 @@ use Rattle.std.specs.declared.alloc.AllocError.{AllocError}
 use Rattle.kv_model.specs.Told as told
 use Rattle.kv_model.specs.Follows as follows
 use Rattle.kv_model.specs.Wire as model
-use Rattle.kv_model.specs.Wire.{WireTold}
+use Rattle.kv_model.specs.Wire.{WireTold, trim_told}
 use Rattle.request_core.specs.declared.answer.Expiry.{Expiry}
 use Rattle.request_core.specs.declared.answer.Expiry.TheVariants as expiry
 use Rattle.json_gateway.specs.declared.outcome.Certified.{Certified}
@@ -20,8 +20,7 @@ use Rattle.json_gateway.specs.declared.wire.WireOutcome.TheVariants as outcome
 use Rattle.json_gateway.specs.declared.wire.Unexpired.{Unexpired}
 use Rattle.json_gateway.specs.declared.wire.Unexpired.TheVariants as unexpired
 use Rattle.json_gateway.specs.Outcomes.{response_of, IsBare}
-use Rattle.store_laws.specs.TrimmingLaws.{trim_told}
-use Rattle.trim_core.specs.Steps.{told_of}
+use Rattle.trim_core.specs.Told.{told_of}
 
 abbrev pub event_view : WireEvent → model.WireEvent
 event_view (event.Moment m) = model.WireEvent.moment m

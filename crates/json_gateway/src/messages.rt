@@ -18,7 +18,7 @@ use std::alloc::{AllocError, Global};
 use watch_hub::Delivery;
 
 /// Tells the watch of a number what it is told next (the etcd documentation's WatchResponse), and
-/// has it go on behind that: it stays as it was where it is caught up, and it ends where it is
+/// moves it past that: it stays as it was where it is caught up, and it ends where it is
 /// told that it is cancelled. The header has the core's revision, and `watch_id` is the client's
 /// number for the watch.
 ///

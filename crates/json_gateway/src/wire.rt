@@ -9,7 +9,7 @@ ghost use Rattle.kv_model.specs.Wire.{close as model_close, deliver as model_del
 ghost use Rattle.kv_model.specs.Wire.{expire as model_expire, post as model_post};
 ghost use Rattle.kv_model.specs.Wire.{trim as model_trim, certify as model_certify};
 ghost use Rattle.json_gateway.specs.Endings.{is_done};
-ghost use Rattle.trim_core.specs.Steps.{told_of};
+ghost use Rattle.trim_core.specs.Told.{told_of};
 ghost use Rattle.kv_model.specs.World.{World};
 
 use crate::certifying::{certificate_where, certified};

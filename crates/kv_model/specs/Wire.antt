@@ -6,7 +6,7 @@ use Rattle.kv_model.specs.Calls.{Call}
 use Rattle.kv_model.specs.World.{World, Watch, revision, watch_at, without_watch, at_moment}
 use Rattle.kv_model.specs.Leases.{lease_at}
 use Rattle.kv_model.specs.Watches.{deliver as delivered}
-use Rattle.kv_model.specs.Told.{Expiry}
+use Rattle.kv_model.specs.Told.{Expiry, Trimmed}
 use Rattle.kv_model.specs.Step.{Made, made_in, perform, expire as expired, compact_refusal}
 use Rattle.kv_model.specs.Requests.{Bad, request_of}
 use Rattle.kv_model.specs.declared.ids.Ids.{Ids}
@@ -57,6 +57,12 @@ pub data WireTold : Type 0 where
   done : ℕ → Option (List Claim) → WireTold
   certified : Dump → List Claim → WireTold
   untold : WireTold
+
+-- a trimming step, as it is told
+abbrev pub trim_told : Trimmed → Option (List Claim) → WireTold
+trim_told (Trimmed.removed p) certificate = WireTold.removed p
+trim_told (Trimmed.kept p) certificate = WireTold.kept p
+trim_told (Trimmed.done n) certificate = WireTold.done n certificate
 
 -- what stands of a command whose answer was lost: the revision after it, where it rose, and the number of a watch made
 pub record Loss : Type 0 where

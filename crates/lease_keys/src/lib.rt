@@ -1,5 +1,5 @@
-//! The keys that hang on each lease, so that those of one lease are found without a walk over all
-//! keys.
+//! The keys that are attached to each lease, so that those of one lease are found without a walk
+//! over all keys.
 //!
 //! [`LeaseKeys`] is seen as the pairs of a lease and a key that were added and not taken out. It
 //! may have more than it must: a key that is put under another lease, or deleted, leaves its pair,

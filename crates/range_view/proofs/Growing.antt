@@ -1,10 +1,9 @@
 -- How the versions that are kept grow by those of a revision, and lose them again.
-use Rattle.std.proofs.Common.{◌≡◌, ◌≤◌, ◌<◌, ◌+◌, ◌-◌, ◌==◌, ℕ, zero, suc, List, [], ◌∷◌, ◌++◌, Bool, true, false, ◌&&◌, cond, nat_lt}
-use Rattle.std.proofs.Common.{length, take, drop, refl, sym, ◌∙◌, ap, subst, arith, append_assoc, eq-eqb, None, Some}
+use Rattle.std.proofs.Common.{◌≡◌, ◌≤◌, ◌<◌, ◌+◌, ◌-◌, ◌==◌, ℕ, List, [], ◌∷◌, ◌++◌, Bool, true, false, ◌&&◌, cond, nat_lt}
+use Rattle.std.proofs.Common.{length, refl, sym, ◌∙◌, ap, subst, arith, append_assoc, eq-eqb, None, Some}
 use Rattle.std.proofs.lemmas.Bool.Decides.{nat_tests}
 use Rattle.std.specs.List.{AllByRecursion}
-use Rattle.std.specs.List.Sorted.{IsPartitionPoint, IsPartitionedBy}
-use Rattle.std.proofs.lemmas.List.{append-nil, take-append-drop}
+use Rattle.std.proofs.lemmas.List.{append-nil}
 use Rattle.kv_model.specs.declared.version.Rev.{Rev}
 use Rattle.kv_model.specs.declared.version.Version.{Version}
 use Rattle.kv_model.specs.History.{rev_lt}
@@ -13,8 +12,8 @@ use Rattle.kv_model.specs.Trimming.{oldest_place, trimmed}
 use Rattle.store_laws.specs.Stands.{first_main_of}
 use Rattle.store_laws.proofs.HistoryLaws.{AllByRecursion-split}
 use Rattle.store_laws.proofs.PlaceLaws.{each-map, each-append, each-filter}
-use Rattle.store_laws.proofs.RevOrder.{rev_lt-main, rev_lt-mains, rev_lt-subs, rev_lt-trans}
-use Rattle.store_laws.proofs.Rising.{partitioned, rising-filter, rising-parts}
+use Rattle.store_laws.proofs.RevOrder.{rev_lt-mains, rev_lt-subs, rev_lt-trans}
+use Rattle.store_laws.proofs.Rising.{rising-filter, rising-parts}
 use Rattle.version_table.specs.Rising.{IsBehind, IsRising, rev_of, retracted}
 use Rattle.version_table.proofs.Changes.{retracted-append}
 use Rattle.trim_core.proofs.Stepping.{trimmed-keeps}
@@ -33,12 +32,6 @@ less-number a b h = grind (arith, nat_tests)
 
 other-number : (a b : ℕ) → a < b → (a == b) ≡ false
 other-number a b h = grind (arith, nat_tests)
-
-newest-number : (n main : ℕ) → nat_lt n main ≡ false → n ≤ main → (n == main) ≡ true
-newest-number n main h g = grind (arith, nat_tests)
-
-below-number : (a b main : ℕ) → a ≤ b → nat_lt b main ≡ true → nat_lt a main ≡ true
-below-number a b main h g = grind (arith, nat_tests)
 
 never-present : (r : ℕ) → (r + 1 == r && nat_lt 1 (r + 1)) ≡ false
 never-present r = let other : (r + 1 == r) ≡ false = grind (arith, nat_tests) in ap (λ b. b && nat_lt 1 (r + 1)) other
@@ -67,43 +60,6 @@ below-upto main vs h = each-map (λ (v : Version). v.rev.main < main) (λ v. v.r
 
 pub below-next : (now : ℕ) (vs : List Version) → IsUpTo now vs → IsBelow (now + 1) vs
 below-next now vs h = each-map (λ (v : Version). v.rev.main ≤ now) (λ v. v.rev.main < now + 1) (λ v less. omega arith) vs h
-
--- ---- where the changes of the newest main revision begin
-
-pub mains-partitioned : (main : ℕ) (vs : List Version) → IsRising vs → IsPartitionedBy (λ v. nat_lt v.rev.main main) vs
-mains-partitioned main = partitioned rev_of (λ v. nat_lt v.rev.main main)
-    (λ v w h g. below-number v.rev.main w.rev.main main (rev_lt-main v.rev w.rev h) g)
-
-abbrev Parts : ℕ → List Version → ℕ → Type 0
-Parts main vs n = IsBelow main (take n vs) × AreOf main (drop n vs)
-
-point-parts : (main : ℕ) (vs : List Version) (n : ℕ) → n ≤ length vs → IsUpTo main vs
-    → IsPartitionPoint (λ v. nat_lt v.rev.main main ≡ true) (λ v. nat_lt v.rev.main main ≡ false) vs n → Parts main vs n
-point-parts main [] zero h u t = (tt, tt)
-point-parts main [] (suc n) h u t = absurd (omega arith)
-point-parts main (v ∷ vs) zero h u t =
-    let rest = point-parts main vs zero (omega arith) u.1 ((λ k d l m. absurd (omega arith)), (λ k d l m. t.1 (suc k) d (omega arith) (omega arith))) in
-    (tt, (newest-number v.rev.main main (t.1 0 v (omega arith) (omega arith)) u.0, rest.1))
-point-parts main (v ∷ vs) (suc n) h u t =
-    let rest = point-parts main vs n (omega arith) u.1 ((λ k d l m. t.0 (suc k) d (omega arith) (omega arith)), (λ k d l m. t.1 (suc k) d (omega arith) (omega arith))) in
-    ((less-number v.rev.main main (t.0 0 v (omega arith) (omega arith)), rest.0), rest.1)
-
--- what is before the point stays where the newest main revision goes
-pub record IsSplit (main : ℕ) (vs us : List Version) : Type 0 where
-  pub split : vs ≡ retracted main vs ++ us
-  pub older : IsBelow main (retracted main vs)
-  pub newest : AreOf main us
-
-pub point-split : (main : ℕ) (vs : List Version) (n : ℕ) → n ≤ length vs → IsUpTo main vs
-    → IsPartitionPoint (λ v. nat_lt v.rev.main main ≡ true) (λ v. nat_lt v.rev.main main ≡ false) vs n → IsSplit main vs (drop n vs)
-point-split main vs n h u t =
-    let parts = point-parts main vs n h u t in
-    let kept : retracted main vs ≡ take n vs = ap (retracted main) (sym (take-append-drop n vs)) ∙ retracted-append main (take n vs) (drop n vs) (below-not_of main (take n vs) parts.0) parts.1 in
-    record {
-      split = sym (take-append-drop n vs) ∙ ap (λ ws. ws ++ drop n vs) (sym kept);
-      older = subst (IsBelow main) (sym kept) parts.0;
-      newest = parts.1;
-    }
 
 -- ---- growth at the end
 

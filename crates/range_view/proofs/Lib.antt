@@ -5,3 +5,4 @@ pub mod Orders
 pub mod Selecting
 pub mod Sorting
 pub mod Walking
+pub mod TakingBack

@@ -46,6 +46,12 @@ AreOf main vs = AllByRecursion (λ v. (v.rev.main == main) ≡ true) vs
 abbrev pub AreNotOf : ℕ → List Version → Type 0
 AreNotOf main vs = AllByRecursion (λ v. (v.rev.main == main) ≡ false) vs
 
+-- the last version went, which was of the main revision
+pub record IsLast (main : ℕ) (old new : List Version) : Type 0 where
+  pub version : Version
+  pub split : old ≡ new ++ version ∷ []
+  pub of : (version.rev.main == main) ≡ true
+
 -- the versions rise, up to the present revision
 pub record IsStored (s : Stored) : Type 0 where
   pub opened : 1 ≤ s.revision

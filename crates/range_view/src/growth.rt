@@ -1,29 +1,37 @@
 //! How a table of versions and its index grow together, and shrink again where the growth fails.
-ghost use Rattle.std.specs.Prelude.{◌≡◌, ◌++◌, ◌∷◌, [], OnOk, OnErr};
-ghost use Rattle.version_table.specs.Rising.{IsBehind, IsRising, retracted};
-ghost use Rattle.range_view.specs.Stored.{IsUpTo, IsBelow, AreOf, AreTied};
+ghost use Rattle.std.specs.Prelude.{◌≡◌, ◌++◌, ◌∷◌, [], true, false, OnOk, OnErr};
+ghost use Rattle.version_table.specs.Rising.{IsBehind, IsRising, is_newest, retracted};
+ghost use Rattle.range_view.specs.Stored.{IsUpTo, IsBelow, IsLast, AreOf, AreTied};
 
 use key_index::KeyIndex;
-use kv_model::version::{Rev, Version};
+use kv_model::version::Version;
 use std::alloc::AllocError;
 use version_table::VersionTable;
 
-/// The versions of a main revision, which are the last ones. They are found by halving.
-fn changes_of(versions: &[Version], main: u64) -> &[Version]
-    requires rising { IsRising versions.now }
-    requires upto { IsUpTo main versions.now }
-    ensures split { versions.now ≡ retracted main versions.now ++ result.now }
-    ensures older { IsBelow main (retracted main versions.now) }
-    ensures newest { AreOf main result.now }
+/// Takes the last version out of the table and the index, where it is of a main revision. Tells
+/// whether it was.
+fn take_last(table: &mut VersionTable, index: &mut KeyIndex, main: u64) -> bool
+    requires { AreTied index.old table.old }
+    ensures taken { result ≡ true → IsLast main table.old table.new }
+    ensures left { result ≡ false → (table.new ≡ table.old)
+        × (is_newest main table.old ≡ false) }
+    ensures tied { AreTied index.new table.new }
 {
-    let kept = versions.partition_point(|version| version.rev.main < main);
-    &versions[kept..]
+    match table.newest() {
+        Some(version) if version.rev.main == main => {
+            let last = version.rev;
+            index.remove(&version.key, last);
+            table.remove(last);
+            true
+        }
+        _ => false,
+    }
 }
 
-/// Takes the newest main revision back. Takes no memory.
+/// Takes the newest main revision back, one change after another. Takes no memory.
 ///
-/// The time is logarithmic in the number of versions and, for each of the changes, in that of the
-/// keys.
+/// For each of the changes the time is logarithmic in the number of versions and in that of the
+/// keys, but for the revisions of its key, which are walked where it is not the oldest.
 pub fn take_back(table: &mut VersionTable, index: &mut KeyIndex, main: u64)
     requires upto { IsUpTo main table.old }
     requires tied { AreTied index.old table.old }
@@ -31,8 +39,7 @@ pub fn take_back(table: &mut VersionTable, index: &mut KeyIndex, main: u64)
     ensures older { IsBelow main table.new }
     ensures tied { AreTied index.new table.new }
 {
-    index.retract(main, changes_of(table.as_slice(), main));
-    table.retract(main);
+    'taking: while take_last(table, index, main) {}
 }
 
 /// Adds a version to the table and its revision to the index, or to none of the two. To the index

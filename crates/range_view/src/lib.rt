@@ -37,5 +37,5 @@ pub mod view;
 
 pub use key_versions::KeyVersions;
 pub use reply::{KvRef, RangeReply};
-pub use tables::Tables;
+pub use tables::{Tables, Versions};
 pub use view::View;

@@ -1,7 +1,7 @@
-//! What a store keeps: the versions, the index of their keys, and the numbers that stand beside
-//! them (etcd: data model).
+//! What a store keeps: the versions, the index of their keys, and the revisions it has come to
+//! (etcd: data model).
 ghost use Rattle.std.specs.Prelude.{◌≡◌, ◌<◌, ◌≤◌, ◌-◌, ◌==◌, ◌&&◌, nat_lt, true, OnOk, OnErr};
-ghost use Rattle.std.specs.Prelude.{filter, nat_le};
+ghost use Rattle.std.specs.Prelude.{filter, length, nat_le};
 ghost use Rattle.kv_model.specs.Keys.{same_key};
 ghost use Rattle.kv_model.specs.History.{end_of};
 ghost use Rattle.store_laws.specs.Stands.{first_main_of};
@@ -9,7 +9,8 @@ ghost use Rattle.version_table.specs.Rising.{retracted};
 ghost use Rattle.range_view.specs.Stored.{IsStored, appended, blank, blank_at, compacted_at};
 ghost use Rattle.range_view.specs.Stored.{goes_on, is_next, retracted_to, seen_at};
 ghost use Rattle.range_view.specs.Stored.{trim_of, trimmed_once};
-ghost use Rattle.trim_core.specs.Steps.{next_version, told_of};
+ghost use Rattle.trim_core.specs.Steps.{next_version};
+ghost use Rattle.trim_core.specs.Told.{told_of};
 ghost use Rattle.std.specs.Prelude.{option_copied};
 
 use crate::growth::{add_all, take_back};
@@ -24,6 +25,7 @@ use std::marker::Model;
 pub use trim_core::Trim;
 use trim_core::Trimmer;
 use version_table::VersionTable;
+pub use version_table::Versions;
 
 /// The versions that are kept with the index of their keys, the revision of the last compaction,
 /// the present one, and how far trimming has come.
@@ -110,12 +112,37 @@ impl Tables {
         }
     }
 
-    /// The versions, rising, up to the present revision.
-    pub fn versions(&self) -> &[Version]
-        ensures value { result.now ≡ self.now.versions }
+    /// The number of versions. Constant time.
+    pub fn count(&self) -> usize
+        ensures { result ≡ length self.now.versions }
+    {
+        self.table.len()
+    }
+
+    /// The number of pages that the versions stand in, which is never more than there are versions
+    /// (`version_table::VersionTable::pages`). Constant time.
+    pub fn pages(&self) -> usize
+        ensures { result ≤ length self.now.versions }
+    {
+        self.table.pages()
+    }
+
+    /// The versions, rising, up to the present revision, lent one after another. Takes no memory,
+    /// and constant time.
+    pub fn versions(&self) -> Versions<'_>
+        ensures value { result ≡ self.now.versions }
         ensures stored { IsStored self.now }
     {
-        self.table.as_slice()
+        self.table.versions()
+    }
+
+    /// The versions from a main revision on, lent one after another. Takes no memory, and time
+    /// logarithmic in the number of versions.
+    pub fn versions_from(&self, next: u64) -> Versions<'_>
+        ensures value { result ≡ filter (λ v. nat_le next v.rev.main) self.now.versions }
+        ensures stored { IsStored self.now }
+    {
+        self.table.versions_from(Rev { main: next, sub: 0 })
     }
 
     /// The versions of a key from a revision on, the oldest first, lent one after another. It goes
@@ -284,7 +311,7 @@ impl Tables {
     /// answer is `Done` with the number of versions that are kept.
     ///
     /// Takes no memory. The time is logarithmic in the number of versions and of keys, but for the
-    /// versions behind the one that goes, which move one place.
+    /// versions behind the one that goes on its page, which move one place.
     pub fn trim_step(&mut self) -> Trim
         ensures stored { IsStored self.old }
         ensures told { told_of result ≡ (trim_of self.old).told }

@@ -150,8 +150,8 @@ impl<'a> View<'a> {
     }
 
     /// The answer to a Range, read at the end of the revision asked for, or at the view's place
-    /// where none is. It lends keys and values from the table, and shows the view's revision. That
-    /// the key of the range is not empty is decided above.
+    /// where none is. It lends keys and values from the table, and shows the view's revision. The
+    /// caller has refused a range with an empty key.
     ///
     /// Refused as `Compacted` where the revision asked for is above 0 and below that of the last
     /// compaction, and as `Future` where it is above the view's; both come before any memory is

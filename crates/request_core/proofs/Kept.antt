@@ -1,5 +1,5 @@
 -- What is kept stays counted as it grows, and what a put and a delete add are the versions of the next revision.
-use Rattle.std.proofs.Common.{◌≡◌, ◌≢◌, ℕ, zero, suc, ◌+◌, ◌<◌, ◌≤◌, ◌^◌, ◌&&◌, ◌==◌, List, [], ◌∷◌, ◌++◌, length, map, take, get_or, true, Option, None, Some, option_and_then, refl, sym, ap, subst, arith, eq-eqb, eqb-true, lt-ltb}
+use Rattle.std.proofs.Common.{◌∙◌, ◌≡◌, ◌≢◌, ℕ, zero, suc, ◌+◌, ◌<◌, ◌≤◌, ◌^◌, ◌&&◌, ◌==◌, List, [], ◌∷◌, ◌++◌, length, map, take, get_or, true, Option, None, Some, option_and_then, refl, sym, ap, subst, arith, eq-eqb, eqb-true, lt-ltb}
 use Rattle.std.specs.Option.{MatchOption}
 use Rattle.std.specs.List.{AllByRecursion}
 use Rattle.kv_model.specs.declared.version.Rev.{Rev}
@@ -17,16 +17,18 @@ use Rattle.store_laws.proofs.PlaceLaws.{each-map, each-append}
 use Rattle.range_view.specs.declared.reply.KvRef.{KvRef}
 use Rattle.lease_book.specs.Book.{Book}
 use Rattle.range_view.specs.Replies.{kv_view}
-use Rattle.range_view.specs.Stored.{Stored, goes_on, appended}
+use Rattle.range_view.specs.Stored.{AreOf, IsUpTo, Stored, goes_on, appended}
 use Rattle.range_view.proofs.Growing.{next-of, next-revision}
 use Rattle.store_laws.proofs.BetweenSteps as between
 use Rattle.txn_core.specs.KeyWrites.{CanCount, IsCountedTo, put_version, tombstone}
 use Rattle.txn_core.proofs.PutCounts.{last_that-holds}
 use Rattle.request_core.specs.Writing.{IsHeldTo, AreNext, next_rev, tombstones}
-use Rattle.std.proofs.Math.Seq.{drop-append_seam}
+use Rattle.std.proofs.lemmas.List.Elements.{filter-append}
+use Rattle.std.proofs.lemmas.Bool.Decides.{nat_tests}
+use Rattle.std.specs.Prelude.{Bool, nat_le, filter, cond, false}
 use Rattle.store_laws.specs.Stands.{noted}
 use Rattle.watch_hub.specs.Hub.{Hub}
-use Rattle.request_core.specs.State.{CoreState, IsSound, core_state, noted_from, with_unnoted, with_versions}
+use Rattle.request_core.specs.State.{CoreState, IsSound, core_state, noted_above, with_unnoted, with_versions}
 
 -- ---- counting
 
@@ -148,11 +150,45 @@ grown-state t b h vs stamp n =
     ap (λ r. core_state (record t { versions = t.versions ++ vs; revision = r }) b h stamp) (next-main t.revision vs n)
 
 -- the watches take note of the versions that were appended
-pub noted-behind : (s : CoreState) (vs : List Version) → noted_from (length s.store.versions) (with_unnoted s vs) ≡ with_versions s vs
-noted-behind s vs = ap (λ us. record s {
+gone-older : (r : ℕ) (vs : List Version) → IsUpTo r vs → filter (λ v. nat_le (r + 1) v.rev.main) vs ≡ []
+gone-older r [] h = refl
+gone-older r (v ∷ vs) h =
+    let least : v.rev.main ≤ r = h.0 in
+    let less : nat_le (r + 1) v.rev.main ≡ false = grind (arith, nat_tests) in
+    ap (λ b. cond b (v ∷ filter (λ w. nat_le (r + 1) w.rev.main) vs) (filter (λ w. nat_le (r + 1) w.rev.main) vs)) less
+    ∙ gone-older r vs h.1
+
+kept-newest : (n : ℕ) (vs : List Version) → AreOf n vs → filter (λ v. nat_le n v.rev.main) vs ≡ vs
+kept-newest n [] h = refl
+kept-newest n (v ∷ vs) h =
+    let same : v.rev.main ≡ n = eqb-true v.rev.main n h.0 in
+    let most : nat_le n v.rev.main ≡ true = grind (arith, nat_tests) in
+    ap (λ b. cond b (v ∷ filter (λ w. nat_le n w.rev.main) vs) (filter (λ w. nat_le n w.rev.main) vs)) most
+    ∙ ap (λ us. v ∷ us) (kept-newest n vs h.1)
+
+newest-appended : (r : ℕ) (vs us : List Version) → IsUpTo r vs → AreOf (r + 1) us → filter (λ v. nat_le (r + 1) v.rev.main) (vs ++ us) ≡ us
+newest-appended r vs us h g =
+    filter-append (λ (v : Version). nat_le (r + 1) v.rev.main) vs us
+    ∙ ap (λ ws. ws ++ filter (λ v. nat_le (r + 1) v.rev.main) us) (gone-older r vs h) ∙ kept-newest (r + 1) us g
+
+pub noted-behind : (s : CoreState) (vs : List Version) → IsUpTo s.store.revision s.store.versions → AreNext s.store.revision vs
+    → noted_above s.store.revision (with_unnoted s vs) ≡ with_versions s vs
+noted-behind s vs h n = ap (λ us. record s {
   store = record s.store {
     versions = s.store.versions ++ vs;
     revision = s.store.revision + 1;
     watches = map (noted us (s.store.revision + 1)) s.store.watches;
   };
-}) (drop-append_seam s.store.versions vs)
+}) (newest-appended s.store.revision s.store.versions vs h (next-of s.store.revision vs n.next))
+
+pub upto-newest : (n : ℕ) (vs : List Version) → IsUpTo n vs → AreOf n (filter (λ v. nat_le n v.rev.main) vs)
+upto-newest n [] h = tt
+upto-newest n (v ∷ vs) h = by (nat_le n v.rev.main) refl (upto-newest n vs h.1)
+  where
+    by : (b : Bool) → nat_le n v.rev.main ≡ b → AreOf n (filter (λ w. nat_le n w.rev.main) vs)
+        → AreOf n (cond b (v ∷ filter (λ w. nat_le n w.rev.main) vs) (filter (λ w. nat_le n w.rev.main) vs))
+    by true e rest =
+        let least : v.rev.main ≤ n = h.0 in
+        let same : (v.rev.main == n) ≡ true = grind (arith, nat_tests) in
+        (same, rest)
+    by false e rest = rest

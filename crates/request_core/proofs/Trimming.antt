@@ -9,7 +9,8 @@ use Rattle.kv_model.specs.Trimming.{trimmed, IsTrimmedTo}
 use Rattle.kv_model.specs.World.{World}
 use Rattle.store_laws.specs.Stands.{StandsFor}
 use Rattle.kv_model.specs.Dumps.{Claim}
-use Rattle.store_laws.specs.TrimmingLaws.{StepsWell, IsOwn, IsVisit, keeping, trim_told}
+use Rattle.kv_model.specs.Wire.{trim_told}
+use Rattle.store_laws.specs.TrimmingLaws.{StepsWell, IsOwn, IsVisit, keeping}
 use Rattle.store_laws.proofs.PlaceLaws.{each-part, value_at-by}
 use Rattle.store_laws.proofs.RuleLaws.{steps-well}
 use Rattle.store_laws.proofs.Visits.{IsOrderly, Leaves, step_leaves}
@@ -18,7 +19,7 @@ use Rattle.lease_keys.specs.Holding.{Holds}
 use Rattle.range_view.specs.Stored.{Stored, IsStored, trim_of as trim_of_tables, trimmed_once}
 use Rattle.txn_core.specs.KeyWrites.{IsCountedTo}
 use Rattle.trim_core.specs.declared.trimmer.Trim.{Trim}
-use Rattle.trim_core.specs.Steps.{told_of}
+use Rattle.trim_core.specs.Told.{told_of}
 use Rattle.request_core.specs.Commands.{LeavesBy, MayTrim, TrimsOnce}
 use Rattle.lease_book.specs.Book.{Book}
 use Rattle.watch_hub.specs.Hub.{Hub}

@@ -8,14 +8,14 @@ use Rattle.kv_model.specs.declared.refusal.Refusal.TheVariants.{RevisionsSpent}
 use Rattle.kv_model.specs.Calls.{Call}
 use Rattle.kv_model.specs.Step.{made_in, perform, expire}
 use Rattle.kv_model.specs.Told.{Reply, Answer, Trimmed, Expiry as ModelExpiry}
-use Rattle.kv_model.specs.Wire.{raised, number_made, changes_beside}
+use Rattle.kv_model.specs.Wire.{raised, number_made, changes_beside, trim_told}
 use Rattle.kv_model.specs.World.{World}
 use Rattle.kv_model.specs.Kept.{Trims, kept_after}
 use Rattle.kv_model.specs.Trimming.{oldest_place}
 use Rattle.kv_model.specs.Dumps.{Claim}
-use Rattle.store_laws.specs.TrimmingLaws.{IsOwn, IsVisit, trim_told}
+use Rattle.store_laws.specs.TrimmingLaws.{IsOwn, IsVisit}
 use Rattle.trim_core.specs.declared.trimmer.Trim.{Trim}
-use Rattle.trim_core.specs.Steps.{told_of}
+use Rattle.trim_core.specs.Told.{told_of}
 use Rattle.store_laws.specs.Stands.{Store, StandsFor}
 use Rattle.request_core.specs.declared.answer.Expiry.{Expiry}
 use Rattle.request_core.specs.declared.answer.Receipt.{Receipt}

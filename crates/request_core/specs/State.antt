@@ -1,7 +1,7 @@
 -- What a core holds, and how a command changes it.
-use Rattle.std.specs.Prelude.{◌≡◌, ℕ, ℤ, pos, ◌+◌, ◌<◌, ◌≤◌, ◌%◌, ◌^◌, List, [], ◌∷◌, ◌++◌, map, drop, Bool}
+use Rattle.std.specs.Prelude.{◌≡◌, ℕ, ℤ, pos, ◌+◌, ◌<◌, ◌≤◌, ◌%◌, ◌^◌, List, [], ◌∷◌, ◌++◌, map, Bool}
 use Rattle.std.specs.Prelude.{true, false, not, ◌&&◌}
-use Rattle.std.specs.Prelude.{nat_lt, filter, Option, None, Some, option_map, if◌then◌else◌}
+use Rattle.std.specs.Prelude.{nat_le, nat_lt, filter, Option, None, Some, option_map, if◌then◌else◌}
 use Rattle.std.specs.Option.{option_or}
 use Rattle.std.specs.List.{AllByRecursion}
 use Rattle.std.specs.Ordering.{int_eq}
@@ -120,10 +120,12 @@ with_unnoted s vs = record s {
   };
 }
 
--- the watches take note of the versions from an index on, which are of the present revision
-abbrev pub noted_from : ℕ → CoreState → CoreState
-noted_from n s = record s {
-  store = record s.store { watches = map (noted (drop n s.store.versions) s.store.revision) s.store.watches };
+-- the watches take note of the versions above a revision, which are of the present one
+abbrev pub noted_above : ℕ → CoreState → CoreState
+noted_above n s = record s {
+  store = record s.store {
+    watches = map (noted (filter (λ v. nat_le (n + 1) v.rev.main) s.store.versions) s.store.revision) s.store.watches;
+  };
 }
 
 -- with these watches, and otherwise as it was

@@ -115,7 +115,7 @@ impl Core {
             revision: self.tables.revision(),
             compacted: self.tables.compacted(),
             clock: self.book.clock(),
-            versions: self.tables.versions().len() as u64,
+            versions: self.tables.count() as u64,
         }
     }
 
@@ -146,7 +146,7 @@ impl Core {
     /// place of `RevisionsSpent`; a Range, a Compact, a keepalive, a time to live and the list of
     /// leases take none here.
     ///
-    /// A Txn is first refused for what hangs on it alone, also in branches that do not run, and a
+    /// A Txn is first refused for what its request shows, also in branches that do not run, and a
     /// transaction before its parts: `TooDeep` where it lies in eight others, `TooManyOps` where it
     /// has more than 128 compares or operations of a branch, and `NoKey`, `ValueGiven` and
     /// `LeaseGiven` as each by itself; then `DuplicateKey` where operations that can run together

@@ -13,10 +13,10 @@ use Rattle.kv_model.specs.Told.{Trimmed}
 use Rattle.kv_model.specs.Questions.{IsGood}
 use Rattle.kv_model.specs.Trimming.{TrimStep, trimmed, trimmed_next, visited, finished, without_rev, place_after, is_trimmed, IsSettled}
 use Rattle.kv_model.specs.Trimming.{IsTrimmedTo}
-use Rattle.kv_model.specs.Wire.{WireTold}
+use Rattle.kv_model.specs.Wire.{WireTold, trim_told}
 use Rattle.kv_model.specs.Kept.{Keeping, IsInLeast, IsTrimmed, IsCertificate, Trims}
 use Rattle.kv_model.specs.Dumps.{Claim}
-use Rattle.store_laws.specs.TrimmingLaws.{keeping, trim_told, IsOwn, StepsWell, TrimmedStepsWell, DoneIsTrimmed}
+use Rattle.store_laws.specs.TrimmingLaws.{keeping, IsOwn, StepsWell, TrimmedStepsWell, DoneIsTrimmed}
 use Rattle.store_laws.proofs.PartLaws.{in_whole}
 use Rattle.store_laws.proofs.RevOrder.{rev_lt-self}
 use Rattle.store_laws.proofs.TrimLaws.{Precedes, AreRising, rising-dress, rising-part, rising-mid, sit-numbers, sit-part, AreLeft}

@@ -9,10 +9,9 @@ use Rattle.kv_model.specs.World.{World, opening, revision}
 use Rattle.kv_model.specs.Trimming.{trimmed, oldest_place}
 use Rattle.kv_model.specs.Certificates.{claims_of}
 use Rattle.kv_model.specs.Follows.{Outcome}
-use Rattle.kv_model.specs.Wire.{WireEvent, WireTold, WireOutcome, wire_step, is_physical}
+use Rattle.kv_model.specs.Wire.{WireEvent, WireTold, WireOutcome, wire_step, is_physical, trim_told}
 use Rattle.kv_model.specs.Changes.{added}
 use Rattle.kv_model.specs.Kept.{dump_of}
-use Rattle.store_laws.specs.TrimmingLaws.{trim_told}
 use Rattle.kv_model.specs.Headline.{IsRun}
 
 -- the versions that are kept, and the first place that trimming has not looked at

@@ -10,7 +10,7 @@ use Rattle.kv_model.specs.Told.{Trimmed}
 use Rattle.kv_model.specs.Questions.{IsGood, IsLeast, IsLeastBy}
 use Rattle.kv_model.specs.Trimming.{TrimStep, trimmed, IsSettled, IsTrimmedTo, oldest_place}
 use Rattle.kv_model.specs.Certificates.{claims_of, first_fault, AreNeedsBy}
-use Rattle.kv_model.specs.Wire.{WireTold}
+use Rattle.kv_model.specs.Wire.{trim_told}
 use Rattle.kv_model.specs.Kept.{Keeping, Trims, IsTrimmed, IsCertificate, dump_of}
 use Rattle.kv_model.specs.Dumps.{Dump, Claim}
 
@@ -51,12 +51,6 @@ abbrev pub IsVisit : Trimmed → List Version → List Version → Type 0
 IsVisit (Trimmed.removed q) before after = (v : Version) × (q ≡ v.rev) × (before ≡ v ∷ after)
 IsVisit (Trimmed.kept q) before after = (v : Version) × (q ≡ v.rev) × (before ≡ v ∷ after)
 IsVisit (Trimmed.done n) before after = (before ≡ []) × (after ≡ [])
-
--- a step, as it is told in a run
-abbrev pub trim_told : Trimmed → Option (List Claim) → WireTold
-trim_told (Trimmed.removed p) certificate = WireTold.removed p
-trim_told (Trimmed.kept p) certificate = WireTold.kept p
-trim_told (Trimmed.done n) certificate = WireTold.done n certificate
 
 -- the certificate is that of what is kept, or there is none
 abbrev pub IsOwn : World → List Version → Option (List Claim) → Type 0

@@ -99,7 +99,7 @@ fn first_of(delivery: &Delivery<'_>) -> Option<(u64, Option<u64>)> {
     }
 }
 
-/// What a watch is told next; then it goes on behind that.
+/// What a watch is told next; then it moves past that.
 fn told(core: &mut Core, number: u64) -> Told {
     let found = match core.deliver(number) {
         Ok(delivery) => Ok(first_of(&delivery)),

@@ -15,7 +15,7 @@ mod keys_of_leases;
 #[cfg(test)]
 mod leases;
 #[cfg(test)]
-mod paged;
+mod pages;
 #[cfg(test)]
 mod plans;
 #[cfg(test)]

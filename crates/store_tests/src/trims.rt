@@ -97,3 +97,28 @@ fn begins_at_the_oldest_place(rt: HostRuntime) {
     let oldest = Rev { main: 0, sub: 0 };
     assert_eq!(rt; [first, again], [oldest, oldest]);
 }
+
+fn put_at(main: u64, key: &'static [u8]) -> [Change; 1] {
+    [(main, key, b"1", main, 1)]
+}
+
+/// 1,024 puts of a, at the revisions from 2 to 1025, and one of b fill five pages. The last put of
+/// each is left, on two.
+#[test]
+fn frees_the_pages_that_it_empties(rt: HostRuntime) {
+    let alloc = rt.alloc();
+    let mut tables = Tables::new(alloc);
+    for main in 2..1_026 {
+        fill(alloc, &mut tables, put_at(main, b"a").as_slice());
+    }
+    fill(alloc, &mut tables, put_at(1_026, b"b").as_slice());
+    let full = (tables.count(), tables.pages());
+    tables.compact(1_026);
+    let mut last = tables.trim_step();
+    for _ in 0..1_025 {
+        last = tables.trim_step();
+    }
+    let left = (tables.count(), tables.pages());
+    drop(tables);
+    assert_eq!(rt; (full, left, last), ((1_025, 5), (2, 2), Trim::Done(2)));
+}

@@ -224,7 +224,7 @@ fn takes_a_revision_back(rt: HostRuntime) {
     tables.retract(5);
     let kept = tables.revision();
     tables.retract(6);
-    let left = (tables.revision(), tables.versions().len());
+    let left = (tables.revision(), tables.count());
     let version = version_at(&tables, 5, b"c");
     drop(tables);
     assert_eq!(rt; (kept, left, version), (6, (5, 4), Some(1)));

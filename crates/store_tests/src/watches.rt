@@ -87,7 +87,7 @@ fn watches_wait_for_what_they_match(rt: HostRuntime) {
 /// key-values before them; 0 for no version.
 type Told = Result<[(u64, Option<u64>); 2], Refusal>;
 
-/// What a watch is told next; then it goes on behind that.
+/// What a watch is told next; then it moves past that.
 fn told(alloc: Global, hub: &mut WatchHub, tables: &Tables, number: u64) -> Told {
     let mut seen = [(0, None); 2];
     if tables.revision() > 9 {

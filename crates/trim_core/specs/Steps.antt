@@ -4,19 +4,13 @@ use Rattle.std.specs.List.{find}
 use Rattle.kv_model.specs.declared.version.Rev.{Rev}
 use Rattle.kv_model.specs.declared.version.Version.{Version}
 use Rattle.kv_model.specs.History.{rev_lt}
-use Rattle.kv_model.specs.Told.{Trimmed}
 use Rattle.kv_model.specs.Trimming.{TrimStep, IsTrimmedTo}
 use Rattle.version_table.specs.Rising.{IsRising}
 use Rattle.key_index.specs.KeyRevisions.{is_oldest}
 use Rattle.key_index.specs.Index.{Index, revisions}
 use Rattle.key_index.specs.Agrees.{Agrees}
 use Rattle.trim_core.specs.declared.trimmer.Trim.{Trim}
-use Rattle.trim_core.specs.declared.trimmer.Trim.TheVariants.{Removed, Kept, Done}
-
-abbrev pub told_of : Trim → Trimmed
-told_of (Removed p) = Trimmed.removed p
-told_of (Kept p) = Trimmed.kept p
-told_of (Done n) = Trimmed.done n
+use Rattle.trim_core.specs.Told.{told_of}
 
 -- what a step told, with the versions and the place that it left
 abbrev pub step_of : Trim → List Version → Rev → TrimStep

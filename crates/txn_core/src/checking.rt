@@ -10,7 +10,7 @@ use kv_model::call::Txn;
 use kv_model::refusal::Refusal;
 use std::alloc::Global;
 
-/// Whether a transaction may run, as far as that hangs on it alone (the etcd documentation,
+/// Whether a transaction may run, as far as the request itself shows (the etcd documentation,
 /// TxnRequest). Its keys are listed in memory of `alloc`.
 ///
 /// Refused for the first fault in the order of its document: `TooDeep`, `TooManyOps`, `NoKey`,

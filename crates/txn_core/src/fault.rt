@@ -1,4 +1,4 @@
-//! The faults of a transaction that do not hang on the state (etcd: checkTxnRequest).
+//! The faults of a transaction that do not depend on the state (etcd: checkTxnRequest).
 ghost use Rattle.std.specs.Prelude.{◌≡◌, length};
 ghost use Rattle.std.specs.List.{list_any};
 ghost use Rattle.std.specs.Option.{option_or};

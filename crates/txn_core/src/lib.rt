@@ -3,7 +3,7 @@
 //!
 //! The one contract is that of [`plan`]: a transaction is decided on the state before it alone,
 //! each compare too, and the versions that it makes are numbered in the order of its document.
-//! [`check`] comes before it, and refuses what hangs on the request alone; [`replies`] comes behind
+//! [`check`] comes before it, and refuses what the request itself shows; [`replies`] comes after
 //! it, and reads the answers in the tables that have the versions.
 //!
 //! For example, at revision 4, where a holds 1, b holds 2 and c holds 3, with a revision written as

@@ -35,8 +35,8 @@ struct Branch<'t> {
 
 /// What a transaction does at the revision after the view's, decided on the view alone: which
 /// branches run, and the versions that their operations make, numbered in the order of the
-/// document. A key that several deletes take is deleted by the first. That no two operations change
-/// one key in another way is decided above.
+/// document. A key that several deletes take is deleted by the first. The caller has checked that
+/// no two operations change one key in another way.
 ///
 /// The first refusal of the operations that run, in their order, is answered: `Compacted` or
 /// `Future` of a Range whose own revision is not kept or not there, `KeyMissing` of a put that

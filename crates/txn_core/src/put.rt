@@ -30,7 +30,7 @@ pub fn put_fault(put: &PutRequest) -> Option<Refusal>
     None
 }
 
-/// The first refusal of a put that hangs on the state: by what its key holds before it, nothing
+/// The first refusal of a put that depends on the state: by what its key holds before it, nothing
 /// where the key is not live, and by whether the lease that the request names is granted, which
 /// counts only where it names one.
 ///
@@ -54,7 +54,7 @@ pub fn held_refusal(
 }
 
 /// The version that a put makes at a place, by what its key holds before it, nothing where the key
-/// is not live. That the put is not refused is decided above.
+/// is not live. The caller has found no refusal of the put.
 ///
 /// It shares the request's key and value. A value that is kept is copied, in time linear in its
 /// length; else the time is constant. The error is want of memory.

@@ -53,7 +53,7 @@ without_rev-middle xs v ys r = let parts = rising-parts rev_of xs v ys r in othe
 
 -- ---- a main revision taken back
 
-kept-others : (main : ℕ) (vs : List Version) → AllByRecursion (λ v. (v.rev.main == main) ≡ false) vs
+pub kept-others : (main : ℕ) (vs : List Version) → AllByRecursion (λ v. (v.rev.main == main) ≡ false) vs
     → filter (λ v. not (v.rev.main == main)) vs ≡ vs
 kept-others main vs h =
     kept-all (λ v. not (v.rev.main == main)) vs

@@ -1,17 +1,15 @@
 -- Rising lists of versions: what stands at a place, and how the list changes.
-use Rattle.std.proofs.Common.{◌≡◌, ℕ, zero, suc, ◌<◌, ◌≤◌, ◌⊎◌, inl, inr, List, [], ◌∷◌, take, Bool, true, false, not, ◌==◌, cond}
+use Rattle.std.proofs.Common.{◌≡◌, ℕ, zero, suc, ◌≤◌, List, [], ◌∷◌, Bool, true, false, not, cond}
 use Rattle.std.proofs.Common.{Option, None, Some, filter, refl, sym, ◌∙◌, ap, subst, arith}
-use Rattle.std.proofs.lemmas.Bool.Decides.{nat_tests}
 use Rattle.std.specs.List.{AllByRecursion, find, slice_get, remove}
 use Rattle.kv_model.specs.declared.version.Rev.{Rev}
 use Rattle.kv_model.specs.declared.version.Version.{Version}
 use Rattle.kv_model.specs.History.{rev_lt}
 use Rattle.kv_model.specs.Kept.{is_at}
-use Rattle.store_laws.specs.Rising.{is_of}
 use Rattle.store_laws.proofs.PlaceLaws.{each-map}
-use Rattle.store_laws.proofs.RevOrder.{below-cases, not-below-main, rev_lt-main, rev_lt-not, is_rev-same, is_rev-before, is_rev-behind}
+use Rattle.store_laws.proofs.RevOrder.{rev_lt-main, rev_lt-not, is_rev-same, is_rev-before, is_rev-behind}
 use Rattle.store_laws.proofs.Rising as rising
-use Rattle.version_table.specs.Rising.{IsRising, count_before, newest, rev_of, is_newest, retracted}
+use Rattle.version_table.specs.Rising.{IsRising, count_before, newest, rev_of}
 
 abbrev pub IsAbove : Rev → List Version → Type 0
 IsAbove p vs = rising.IsAbove rev_of p vs
@@ -115,12 +113,12 @@ module _ (p : Rev) (vs : List Version) (n : ℕ) (r : IsRising vs) (at : n ≡ c
   pub past : slice_get vs n ≡ None → (find (is_at p) vs ≡ None) × (without ≡ vs)
   past e = held_is None e
 
--- ---- a main revision is taken back
+-- ---- the newest version is of the last main revision
 
 abbrev AllUpTo : ℕ → List Version → Type 0
 AllUpTo main vs = AllByRecursion (λ v. v.rev.main ≤ main) vs
 
-up_to-newest : (main : ℕ) (vs : List Version) (l : Version) → IsRising vs → newest vs ≡ Some l → l.rev.main ≤ main → AllUpTo main vs
+pub up_to-newest : (main : ℕ) (vs : List Version) (l : Version) → IsRising vs → newest vs ≡ Some l → l.rev.main ≤ main → AllUpTo main vs
 up_to-newest main [] l r e h = tt
 up_to-newest main (v ∷ []) l r e h = (let same : v ≡ l = cc in subst (λ u. u.rev.main ≤ main) (sym same) h, tt)
 up_to-newest main (v ∷ w ∷ ws) l r e h =
@@ -128,64 +126,3 @@ up_to-newest main (v ∷ w ∷ ws) l r e h =
     let least : v.rev.main ≤ w.rev.main = rev_lt-main v.rev w.rev r.0.0 in
     let next : w.rev.main ≤ main = rest.0 in
     (omega arith, rest)
-
-same_main : (a b : ℕ) → a ≤ b → b ≤ a → (a == b) ≡ true
-same_main a b h g = grind (arith, nat_tests)
-
-gone-above : (main : ℕ) (v : Version) (vs : List Version) → main ≤ v.rev.main → IsAbove v.rev vs → AllUpTo main vs
-    → filter (λ w. not (w.rev.main == main)) vs ≡ []
-gone-above main v [] h a u = refl
-gone-above main v (w ∷ ws) h a u =
-    let least : v.rev.main ≤ w.rev.main = rev_lt-main v.rev w.rev a.0 in
-    let most : w.rev.main ≤ main = u.0 in
-    ap (λ b. cond (not b) (w ∷ filter (λ x. not (x.rev.main == main)) ws) (filter (λ x. not (x.rev.main == main)) ws))
-    (same_main w.rev.main main (omega arith) (omega arith))
-    ∙ gone-above main v ws h a.1 u.1
-
--- below the first change of a main revision are just the changes of smaller ones
-before_first : (p : Rev) (main : ℕ) → rev_lt p (record { main = main; sub = 0 }) ≡ true → (p.main == main) ≡ false
-before_first p main h = by (below-cases p (record { main = main; sub = 0 }) h)
-  where
-    by : (p.main < main) ⊎ ((p.main ≡ main) × (p.sub < 0)) → (p.main == main) ≡ false
-    by (inl g) = grind (arith, nat_tests)
-    by (inr g) = absurd (omega arith)
-
--- the versions before the first change of the newest main revision are those of the others
-pub take-first : (main : ℕ) (vs : List Version) → IsRising vs → AllUpTo main vs
-    → take (count_before (record { main = main; sub = 0 }) vs) vs ≡ filter (λ v. not (v.rev.main == main)) vs
-take-first main [] r u = refl
-take-first main (v ∷ vs) r u = by (rev_lt v.rev (record { main = main; sub = 0 })) refl (take-first main vs r.1 u.1)
-  where
-    kept : List Version
-    kept = filter (λ w. not (w.rev.main == main)) vs
-
-    by : (b : Bool) → rev_lt v.rev (record { main = main; sub = 0 }) ≡ b
-        → take (count_before (record { main = main; sub = 0 }) vs) vs ≡ kept
-        → take (cond b (suc (count_before (record { main = main; sub = 0 }) vs)) zero) (v ∷ vs) ≡ cond (not (v.rev.main == main))
-        (v ∷ kept) kept
-    by true e rest = ap (λ ws. v ∷ ws) rest ∙ ap (λ b. cond (not b) (v ∷ kept) kept) (sym (before_first v.rev main e))
-    by false e rest =
-        let least : main ≤ v.rev.main = not-below-main v.rev (record { main = main; sub = 0 }) e in
-        let most : v.rev.main ≤ main = u.0 in
-        sym (ap (λ b. cond (not b) (v ∷ kept) kept) (same_main v.rev.main main (omega arith) (omega arith))
-        ∙ gone-above main v vs least r.0 u.1)
-
-retracted-last : (main : ℕ) (vs : List Version) (o : Option Version) → IsRising vs → newest vs ≡ o → is_of rev_of main o ≡ true
-    → take (count_before (record { main = main; sub = 0 }) vs) vs ≡ filter (λ v. not (v.rev.main == main)) vs
-retracted-last main vs None r e h = cc
-retracted-last main vs (Some l) r e h = take-first main vs r (up_to-newest main vs l r e (grind (arith, nat_tests)))
-
-pub retracted-newest : (main : ℕ) (vs : List Version) → IsRising vs → is_newest main vs ≡ true
-    → take (count_before (record { main = main; sub = 0 }) vs) vs ≡ retracted main vs
-retracted-newest main vs r h = retracted-last main vs (newest vs) r refl h
-    ∙ sym (ap (λ b. cond b (filter (λ v. not (v.rev.main == main)) vs) vs) h)
-
-pub retracted-other : (main : ℕ) (vs : List Version) → is_newest main vs ≡ false → vs ≡ retracted main vs
-retracted-other main vs h = sym (ap (λ b. cond b (filter (λ v. not (v.rev.main == main)) vs) vs) h)
-
-pub rising-retracted : (main : ℕ) (vs : List Version) → IsRising vs → IsRising (retracted main vs)
-rising-retracted main vs r = by (is_newest main vs)
-  where
-    by : (b : Bool) → IsRising (cond b (filter (λ v. not (v.rev.main == main)) vs) vs)
-    by true = rising.rising-filter rev_of (λ v. not (v.rev.main == main)) vs r
-    by false = r

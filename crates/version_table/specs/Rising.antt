@@ -1,5 +1,5 @@
 -- Versions in the order of their revisions, and the ways to change such a list.
-use Rattle.std.specs.Prelude.{ℕ, ◌-◌, List, Bool, not, zero, ◌==◌, Option, None, Some, filter, if◌then◌else◌}
+use Rattle.std.specs.Prelude.{ℕ, List, Bool, not, ◌==◌, Option, None, Some, filter, if◌then◌else◌}
 use Rattle.std.specs.List.{remove}
 use Rattle.kv_model.specs.declared.version.Rev.{Rev}
 use Rattle.kv_model.specs.declared.version.Version.{Version}
@@ -21,11 +21,6 @@ IsRising vs = rising.IsRising rev_of vs
 -- how many versions stand before a place, in a rising list
 abbrev pub count_before : Rev → List Version → ℕ
 count_before p vs = rising.count_while (λ v. rev_lt v.rev p) vs
-
--- where a revision stands behind the first version, if each main revision between has one version
-abbrev pub guess : Rev → Option Version → ℕ
-guess p None = zero
-guess p (Some v) = p.main - v.rev.main
 
 -- the last version is of this main revision
 abbrev pub is_newest : ℕ → List Version → Bool

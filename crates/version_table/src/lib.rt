@@ -6,41 +6,29 @@
 //! revision, and each call is a function on such lists. `range_view` keeps a table and an index of
 //! its keys, and `trim_core` takes versions out of both.
 //!
-//! For example, with a revision written as main.sub:
+//! The versions stand in pages of 256 places. What is taken out moves the versions behind it on its
+//! own page alone, its place is not used again, and a page that has no version left is freed. For
+//! example, with a revision written as main.sub, a page in brackets, and four places to a page:
 //!
 //! ```text
-//! push 2.0, 3.0, 3.1, 5.0    2.0 3.0 3.1 5.0    each is above those before it
-//! takes 5.0                  no: 5.0 is not above itself; 5.1 and 6.0 are
-//! get 3.1                    found by halving, since the guess, index 1, holds 3.0
-//! next_from 4.0              5.0, the first revision that is not before 4.0
-//! remove 3.0                 2.0 3.1 5.0
-//! retract 5                  2.0 3.1, since 5 is the newest main revision
-//! retract 2                  2.0 3.1, since 2 is not
-//! ```
-//!
-//! [`PagedTable`] is the same list in pages of 256 places, with no `retract`, and with walks in
-//! place of a slice. What is taken out of it moves the versions behind it on its own page alone,
-//! and a page that has no version left is freed. Nothing uses it yet. With a page written in
-//! brackets, and with four places to a page:
-//!
-//! ```text
-//! push 2.0, 3.0, 3.1, 5.0, 6.0, 7.0   [2.0 3.0 3.1 5.0] [6.0 7.0]
+//! push 2.0, 3.0, 3.1, 5.0, 6.0, 7.0   [2.0 3.0 3.1 5.0] [6.0 7.0]    each is above those before it
+//! takes 7.0                           no: 7.0 is not above itself; 7.1 and 8.0 are
+//! get 3.1                             its page is found by halving, and its place on that
+//! next_from 4.0                       5.0, the first revision that is not before 4.0
 //! remove 3.0                          [2.0 3.1 5.0] [6.0 7.0]: its place is not used again
-//! next_from 5.1                       6.0: the last version of its page is not before 5.1
+//! next_from 5.1                       6.0: the last version of the first page is before 5.1
 //! remove 2.0, 3.1, 5.0                [6.0 7.0]
 //! ```
 //!
-//! The tests stand in the crate `store_tests`, in `src/table.rt` and `src/paged.rt`.
+//! The tests stand in the crate `store_tests`, in `src/table.rt` and `src/pages.rt`.
 #![tactic(auto)]
 
 mod growth;
 mod halving;
 mod page;
-pub mod paged;
 mod pages;
 pub mod table;
 mod walk;
 
-pub use paged::PagedTable;
 pub use table::VersionTable;
 pub use walk::Versions;

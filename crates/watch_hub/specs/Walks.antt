@@ -6,4 +6,4 @@ use Rattle.watch_hub.specs.declared.walk.Source.TheVariants.{Key, All}
 
 abbrev pub left_in : Source → List Version
 left_in (Key vs) = vs
-left_in (All vs) = vs.now
+left_in (All vs) = vs

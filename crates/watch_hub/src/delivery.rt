@@ -1,4 +1,4 @@
-//! What a watch is told next, and how it goes on behind that (the etcd documentation's Watch).
+//! What a watch is told next, and how it moves past that (the etcd documentation's Watch).
 ghost use Rattle.std.specs.Prelude.{◌≡◌, ◌≤◌, ◌⊎◌, Some, None, is_some, true, option_map};
 ghost use Rattle.std.specs.Prelude.{IfOk, IfErr};
 ghost use Rattle.kv_model.specs.declared.refusal.Refusal.TheVariants.{Memory, NoWatch};
@@ -74,7 +74,7 @@ impl WatchHub {
         }
     }
 
-    /// The watch of a number goes on behind what `deliver` tells: it stays as it was where that is
+    /// The watch of a number moves past what `deliver` tells: it stays as it was where that is
     /// nothing, it ends where it is cancelled, and else it was told of all up to the last revision
     /// of the message. Where no watch has the number, nothing changes. Takes no memory.
     ///
@@ -149,7 +149,7 @@ fn delivery_due<'a>(
     }
 }
 
-/// How a watch goes on behind what it is told next.
+/// How a watch moves past what it is told next.
 fn course_of(tables: &Tables, pending: Pending<'_>) -> Course
     ensures course { course_view result
         ≡ course_of tables.now.versions tables.now.compacted (pending_view pending.entry) }

@@ -123,7 +123,7 @@ impl Entries {
         self.waiting = waiting;
     }
 
-    /// The watch of a number goes on behind a revision, by what is kept.
+    /// The watch of a number moves past a revision, by what is kept.
     pub(crate) fn advance(&mut self, number: u64, tables: &Tables, last: u64)
         requires { last ≤ last_main }
         ensures { self.new
@@ -185,7 +185,7 @@ fn key_of(places: &[Place], number: u64) -> Option<usize>
     }
 }
 
-/// The watch under a key goes on behind a revision.
+/// The watch under a key moves past a revision.
 fn advance_at(slab: &mut Slab<Entry>, key: usize, tables: &Tables, last: u64)
     requires { last ≤ last_main }
     ensures here { seen_in slab.new key

@@ -42,7 +42,7 @@ impl Entry {
         self.ahead = still_ahead(now, self.ahead);
     }
 
-    /// Goes on behind a revision, by what is kept.
+    /// Moves past a revision, by what is kept.
     pub(crate) fn advance(&mut self, tables: &Tables, last: u64)
         requires { last ≤ last_main }
         ensures { tracked_of self.new

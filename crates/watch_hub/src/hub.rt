@@ -179,8 +179,8 @@ impl WatchHub {
         }
     }
 
-    /// The watch of a number was told of all that it matches up to the revision `last`: it goes on
-    /// behind that. Where no watch has the number, nothing changes. Takes no memory.
+    /// The watch of a number was told of all that it matches up to the revision `last`: it moves
+    /// past that. Where no watch has the number, nothing changes. Takes no memory.
     ///
     /// The time is that of `create`, from the revision behind `last` on up to the next match.
     pub fn advance(&mut self, tables: &Tables, number: u64, last: u64)

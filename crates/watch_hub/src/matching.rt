@@ -1,10 +1,7 @@
 //! Which versions a watch matches.
-ghost use Rattle.std.specs.Prelude.{◌≡◌, ◌≤◌, ◌&&◌, true, false, filter, find, length, nat_le};
-ghost use Rattle.std.specs.Prelude.{option_copied, take, drop};
-ghost use Rattle.std.specs.List.{AllByRecursion};
+ghost use Rattle.std.specs.Prelude.{◌≡◌, ◌&&◌, filter, find, option_copied};
 ghost use Rattle.kv_model.specs.Events.{matches, wants};
 ghost use Rattle.store_laws.specs.Stands.{ahead_of, first_main_of, is_reached, still_ahead};
-ghost use Rattle.version_table.specs.Rising.{IsRising};
 
 use kv_model::call::Watched;
 use kv_model::version::{Body, Version};
@@ -64,18 +61,6 @@ pub(crate) fn first_reached(
         Some(version) => Some(version.rev.main),
         None => None,
     }
-}
-
-/// How many of the versions, which rise, are of a revision before this one. It halves.
-pub(crate) fn count_before(versions: &[Version], next: u64) -> usize
-    requires { IsRising versions.now }
-    ensures bound { result ≤ length versions.now }
-    ensures before { AllByRecursion (λ v. nat_le next v.rev.main ≡ false)
-        (take result versions.now) }
-    ensures behind { AllByRecursion (λ v. nat_le next v.rev.main ≡ true)
-        (drop result versions.now) }
-{
-    versions.partition_point(|v| v.rev.main < next)
 }
 
 /// The revision that a watch waits for, where it is above the next one: what is added is of the

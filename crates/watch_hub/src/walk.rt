@@ -1,5 +1,5 @@
 //! The versions that a watch matches, one after another.
-ghost use Rattle.std.specs.Prelude.{◌≡◌, ◌≤◌, ◌∷◌, [], ◌&&◌, filter, length, nat_le, drop};
+ghost use Rattle.std.specs.Prelude.{◌≡◌, ◌∷◌, [], ◌&&◌, filter, nat_le};
 ghost use Rattle.std.specs.Prelude.{Bool, MatchOption};
 ghost use Rattle.kv_model.specs.declared.version.Version.{Version};
 ghost use Rattle.store_laws.specs.Stands.{first_main_of};
@@ -8,11 +8,11 @@ ghost use Rattle.watch_hub.specs.Walks.{left_in};
 ghost use Rattle.kv_model.specs.Events.{matches};
 ghost use Rattle.range_view.specs.Stored.{IsStored};
 
-use crate::matching::{count_before, matches};
+use crate::matching::matches;
 use kv_model::call::Watched;
 use kv_model::span::Span;
 use kv_model::version::Version;
-use range_view::{KeyVersions, Tables};
+use range_view::{KeyVersions, Tables, Versions};
 use std::marker::Model;
 
 /// What is left of a walk over the versions that a watch matches, which rise.
@@ -27,7 +27,7 @@ pub(crate) struct Walk<'a> {
 #[derive(Drop)]
 enum Source<'a> {
     Key(KeyVersions<'a>),
-    All(&'a [Version]),
+    All(Versions<'a>),
 }
 
 impl<'a> Model for Walk<'a> {
@@ -76,13 +76,12 @@ fn source_of<'a>(tables: &'a Tables, next: u64, watched: &Watched) -> Source<'a>
 }
 
 /// All versions from a revision on. It halves.
-fn all_from(tables: &Tables, next: u64) -> &[Version]
+fn all_from(tables: &Tables, next: u64) -> Versions<'_>
     ensures from { (p : Version → Bool)
-        → filter p result.now ≡ filter (λ v. nat_le next v.rev.main && p v) tables.now.versions }
+        → filter p result ≡ filter (λ v. nat_le next v.rev.main && p v) tables.now.versions }
     ensures stored { IsStored tables.now }
 {
-    let versions = tables.versions();
-    rest_from(versions, count_before(versions, next))
+    tables.versions_from(next)
 }
 
 /// The first of the versions that are left that a watch matches. Those before it are passed over.
@@ -107,31 +106,8 @@ fn next_of<'a>(source: &mut Source<'a>) -> Option<&'a Version>
 {
     match source {
         Source::Key(versions) => versions.next(),
-        Source::All(rest) => take_first(rest),
+        Source::All(versions) => versions.next(),
     }
-}
-
-/// Takes the first of the versions off.
-fn take_first<'a>(rest: &mut &'a [Version]) -> Option<&'a Version>
-    ensures { MatchOption result ((rest.old.now ≡ []) × (rest.new.now ≡ []))
-        (λ v. rest.old.now ≡ v.now ∷ rest.new.now) }
-{
-    match rest.split_first() {
-        Some((version, later)) => {
-            *rest = later;
-            Some(version)
-        }
-        None => None,
-    }
-}
-
-/// The versions from an index on.
-fn rest_from(versions: &[Version], index: usize) -> &[Version]
-    requires { index ≤ length versions.now }
-    ensures { result.now ≡ drop index versions.now }
-{
-    let (_, rest) = versions.split_at(index);
-    rest
 }
 
 /// The main revision of the first version of a walk.

@@ -40,10 +40,8 @@ pub all-hold : (P : Version → Type 0) (vs : List Version) (i : ℕ) → length
     → AllByRecursion P vs
 all-hold P vs i high all = all (subst (AllByRecursion P) (sym (drop_all i vs high)) tt)
 
-pub all-claimed : (d : Dump) (vs : List Version) (i : ℕ) (claims : List Claim) → vs ≡ d.versions → length vs ≤ i
-    → claims ++ filter_map (claim_of d) (drop i d.versions) ≡ filter_map (claim_of d) d.versions → claims ≡ claims_of d
+pub all-claimed : (d : Dump) (rest : List Version) (claims : List Claim) → rest ≡ []
+    → claims ++ filter_map (claim_of d) rest ≡ filter_map (claim_of d) d.versions → claims ≡ claims_of d
 unfolding claims_of
-all-claimed d vs i claims e high inv =
-    sym (append-nil claims)
-    ∙ sym (ap (λ us. claims ++ filter_map (claim_of d) us) (drop_all i d.versions (subst (λ us. length us ≤ i) e high)))
-    ∙ inv
+all-claimed d rest claims none inv =
+    sym (append-nil claims) ∙ sym (ap (λ us. claims ++ filter_map (claim_of d) us) none) ∙ inv

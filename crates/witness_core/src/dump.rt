@@ -31,12 +31,13 @@ impl Model for Dump {
     } };
 }
 
-/// The same versions once more.
-fn copies(alloc: Global, versions: &[Version]) -> Result<Vec<Version>, AllocError>
-    ensures { IfOk result (λ copies. copies.items ≡ versions.now) }
+/// The versions that a store keeps, once more.
+fn copies(alloc: Global, tables: &Tables) -> Result<Vec<Version>, AllocError>
+    ensures { IfOk result (λ copies. copies.items ≡ tables.now.versions) }
 {
-    let mut copies = Vec::with_capacity(alloc, versions.len())?;
-    for version in versions {
+    let mut copies = Vec::with_capacity(alloc, tables.count())?;
+    let mut versions = tables.versions();
+    while let Some(version) = versions.next() {
         copies.push(version.clone()?)?;
     }
     Ok(copies)
@@ -50,7 +51,7 @@ impl Dump {
     pub fn of(alloc: Global, tables: &Tables) -> Result<Dump, AllocError>
         ensures { IfOk result (λ dump. dump ≡ dump_of tables.now) }
     {
-        let versions = copies(alloc, tables.versions())?;
+        let versions = copies(alloc, tables)?;
         Ok(Dump {
             floor: tables.compacted(),
             revision: tables.revision(),

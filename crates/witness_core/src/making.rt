@@ -96,7 +96,8 @@ pub fn make(alloc: Global, tables: &Tables) -> Result<Certificate, AllocError>
     ensures { IfOk result (λ certificate. certificate ≡ claims_of (dump_of tables.now)) }
 {
     let mut claims = Vec::new(alloc);
-    for version in tables.versions() {
+    let mut versions = tables.versions();
+    while let Some(version) = versions.next() {
         add(&mut claims, claim_of(tables, version))?;
     }
     Ok(Certificate { claims })

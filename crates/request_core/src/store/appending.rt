@@ -1,16 +1,20 @@
 //! How a core grows: versions of the next revision go to a sink, are kept, and noted by watches.
 ghost use Rattle.kv_model.specs.Feed.{Published, published};
+ghost use Rattle.store_laws.specs.Stands.{noted};
+ghost use Rattle.range_view.specs.Stored.{AreOf, IsUpTo};
 ghost use Rattle.kv_model.specs.Step.{last_main};
 ghost use Rattle.request_core.specs.Writing.{AreNext};
-ghost use Rattle.std.specs.Prelude.{◌≡◌, ◌≢◌, ◌<◌, ◌≤◌, [], drop, length, IfOk, OnOk, OnErr};
+ghost use Rattle.std.specs.Prelude.{◌≡◌, ◌≢◌, ◌+◌, ◌<◌, [], map, IfOk, OnOk, OnErr};
 
 use super::Core;
 use kv_model::feed::{Op, Sink};
 use kv_model::version::Version;
+use range_view::Versions;
 use std::alloc::{AllocError, Global};
+use watch_hub::WatchHub;
 
 impl Core {
-    ghost use Rattle.request_core.specs.State.{IsTold, noted_from, with_any, with_unnoted};
+    ghost use Rattle.request_core.specs.State.{IsTold, noted_above, with_any, with_unnoted};
     ghost use Rattle.request_core.specs.State.{with_versions};
 
     /// Appends the versions of the next revision, where there are some, once the sink has taken
@@ -45,21 +49,14 @@ impl Core {
         ensures told { OnOk result (S.takes sink.old (Published.batch versions.items) sink.new) }
         ensures err { OnErr result ((self.new ≡ self.old) × (sink.new ≡ sink.old)) }
     {
-        let before = self.count();
+        let before = self.revision();
         match self.append_unnoted(versions, sink) {
             Ok(()) => {
-                self.note_from(before);
+                self.note_above(before);
                 Ok(())
             }
             Err(full) => Err(full),
         }
-    }
-
-    /// How many versions are kept.
-    fn count(&self) -> usize
-        ensures { result ≡ length self.now.store.versions }
-    {
-        self.tables.versions().len()
     }
 
     /// Appends the versions of the next revision, once the sink has taken them. Where that fails,
@@ -86,24 +83,39 @@ impl Core {
         Ok(())
     }
 
-    /// The watches take note of the versions from an index on, which are of the present revision.
-    /// Takes no memory, so it comes once the sink has taken them.
-    fn note_from(&mut self, index: usize)
-        requires { index ≤ length self.old.store.versions }
-        ensures { self.new ≡ noted_from index self.old }
+    /// The present revision, up to which versions are kept.
+    fn revision(&self) -> u64
+        ensures value { result ≡ self.now.store.revision }
+        ensures upto { IsUpTo self.now.store.revision self.now.store.versions }
     {
-        let versions = rest_from(self.tables.versions(), index);
-        self.hub.note(versions, self.tables.revision());
+        self.tables.revision()
+    }
+
+    /// The watches take note of the versions above a revision, which is the one before the present
+    /// one. Takes no memory, so it comes once the sink has taken them.
+    fn note_above(&mut self, before: u64)
+        requires { before + 1 ≡ self.old.store.revision }
+        ensures { self.new ≡ noted_above before self.old }
+    {
+        let now = self.tables.revision();
+        note_all(&mut self.hub, self.tables.versions_from(now), before, now);
     }
 }
 
-/// The versions from an index on.
-fn rest_from(versions: &[Version], index: usize) -> &[Version]
-    requires { index ≤ length versions.now }
-    ensures { result.now ≡ drop index versions.now }
+/// The watches take note of the versions of the present revision, so many at a time as lie side by
+/// side. Up to the last of them it is the revision before that has come: so a watch that waits for
+/// the one after the present one still waits.
+fn note_all(hub: &mut WatchHub, versions: Versions<'_>, before: u64, now: u64)
+    requires next { before + 1 ≡ now }
+    requires newest { AreOf now versions }
+    ensures { hub.new
+        ≡ record hub.old { watches = map (noted versions.entry now) hub.old.watches } }
 {
-    let (_, rest) = versions.split_at(index);
-    rest
+    let mut versions = versions;
+    while let Some(slice) = versions.next_slice() {
+        hub.note(slice, before);
+    }
+    hub.note(&[], now);
 }
 
 /// The batch of versions, which are cloned.

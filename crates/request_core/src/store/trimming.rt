@@ -7,7 +7,7 @@ use range_view::tables::Trim;
 impl Core {
     ghost use Rattle.request_core.specs.Commands.{LeavesBy, TrimsOnce};
     ghost use Rattle.request_core.specs.State.{counted, has_removed};
-    ghost use Rattle.trim_core.specs.Steps.{told_of};
+    ghost use Rattle.trim_core.specs.Told.{told_of};
 
     /// Makes one trimming step (etcd: mvcc compaction): the next version at or below the last
     /// compaction is visited, the oldest first, and taken out where no answer needs it any more:
@@ -22,7 +22,7 @@ impl Core {
     /// has what stays, and what is kept at the end is the one least list (`trims`).
     ///
     /// Takes no memory and always succeeds. The time is logarithmic in the number of versions and
-    /// of keys, but for the versions behind the one that goes, which move one place.
+    /// of keys, but for the versions behind the one that goes on its page, which move one place.
     pub fn trim_step(&mut self) -> Trim
         ensures { TrimsOnce self.old self.new result }
     {

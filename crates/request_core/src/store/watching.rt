@@ -1,4 +1,4 @@
-//! Watches: how one is made, what each is told next, how it goes on behind that, and how it ends.
+//! Watches: how one is made, what each is told next, how it moves past that, and how it ends.
 ghost use Rattle.kv_model.specs.declared.refusal.Refusal.TheVariants.{NoWatch};
 ghost use Rattle.kv_model.specs.Watches.{deliver, Delivery as ModelDelivery};
 ghost use Rattle.kv_model.specs.World.{World, watch_at, without_watch};
@@ -80,7 +80,7 @@ impl Core {
         self.hub.deliver(self.alloc, &self.tables, number)
     }
 
-    /// The watch of a number goes on behind what `deliver` shows: it stays as it was where that is
+    /// The watch of a number moves past what `deliver` shows: it stays as it was where that is
     /// nothing, it ends where it is cancelled, and else it was told of all up to the last revision
     /// of the message. Where no watch has the number, nothing changes. No changing call is counted.
     /// Takes no memory.

@@ -7,6 +7,5 @@ use Rattle.watch_hub.proofs.walk.all_from.Goals as goal
 
 pub returns-clause-from : goal.returns-clause-from
 returns-clause-from c = λ p.
-    ap (λ (vs : List Version). filter p vs) c.rest_from.ensures
-    ∙ filter-from c.args.next p c.versions-versions.result.now c.count_before.result c.count_before.ensures.before c.count_before.ensures.behind
-    ∙ ap (λ (vs : List Version). filter (λ v. nat_le c.args.next v.rev.main && p v) vs) c.versions-versions.ensures.value
+    ap (λ (vs : List Version). filter p vs) c.versions_from.ensures.value
+    ∙ filter-from c.args.next p c.args.tables.now.versions

@@ -2,7 +2,7 @@ use Rattle.std.proofs.Common.{sym, subst}
 use Rattle.kv_model.specs.History.{value_now}
 use Rattle.lease_keys.specs.Holding.{Holds}
 use Rattle.range_view.specs.Stored.{Stored}
-use Rattle.trim_core.specs.Steps.{told_of}
+use Rattle.trim_core.specs.Told.{told_of}
 use Rattle.request_core.specs.State.{IsSound}
 use Rattle.request_core.proofs.Trimming.{tables_leave, trimmed-holds, trimmed-sound}
 use Rattle.request_core.proofs.store.Core.trim_tables.Goals as goal

@@ -2,11 +2,11 @@
 use crate::fixtures::{pair, tombstone};
 use kv_model::version::Rev;
 use std::alloc::Global;
-use version_table::{PagedTable, Versions};
+use version_table::{VersionTable, Versions};
 
 /// A table of one version for each of the main revisions from 2 up to the one before an end.
-fn table(alloc: Global, end: u64) -> PagedTable {
-    let mut table = PagedTable::new(alloc);
+fn table(alloc: Global, end: u64) -> VersionTable {
+    let mut table = VersionTable::new(alloc);
     for main in 2..end {
         let version = tombstone(main, 0, b"a");
         if table.takes(version.rev) {
@@ -16,7 +16,7 @@ fn table(alloc: Global, end: u64) -> PagedTable {
     table
 }
 
-fn get(table: &PagedTable, main: u64) -> Option<(u64, u64)> {
+fn get(table: &VersionTable, main: u64) -> Option<(u64, u64)> {
     match table.get(Rev { main, sub: 0 }) {
         Some(version) => pair(Some(version.rev)),
         None => None,

@@ -3,7 +3,7 @@ use Rattle.std.proofs.Common.{◌≡◌, ◌≤◌, List, length, sym, subst, ru
 use Rattle.kv_model.specs.declared.version.Version.{Version}
 use Rattle.version_table.specs.Paged.{flat}
 use Rattle.version_table.proofs.PageLookups.{pages-fit}
-use Rattle.version_table.proofs.paged.PagedTable.pages.Goals as goal
+use Rattle.version_table.proofs.table.VersionTable.pages.Goals as goal
 
 pub returns : goal.returns
 returns c =
