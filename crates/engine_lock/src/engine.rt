@@ -98,7 +98,7 @@ impl<L: EngineName, F: Feed> Engine<L, F> {
         }
     }
 
-    /// Tells the watch of a number what it is told next, and has it go on behind that, as
+    /// Tells the watch of a number what it is told next, and moves it past that, as
     /// `json_gateway::message` does. `AllocError` comes where the list of the events or their text
     /// found no memory; then nothing is changed, and the same message comes at the next call.
     pub fn deliver<R: Wait>(&self, rt: &R, number: u64) -> Result<Message, AllocError>

@@ -34,7 +34,7 @@ pub(crate) fn expired(core: &mut Core) -> Result<Expiry, Refusal>
     core.expire()
 }
 
-/// Tells a watch of a core what it is told next, and has it go on behind that. The revision stays.
+/// Tells a watch of a core what it is told next, and moves it past that. The revision stays.
 pub(crate) fn told(
     alloc: Global,
     core: &mut Core,

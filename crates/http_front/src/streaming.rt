@@ -14,7 +14,7 @@ use std::io::Write;
 
 /// Writes the stream of a watch that was made: its head, the message that it was created as the
 /// first chunk, and its messages until a delivery tells nothing; then the last chunk. The watch may
-/// stand behind it: whoever calls drops it.
+/// stand after it: whoever calls drops it.
 pub(crate) fn stream<W: Write>(
     alloc: Global,
     core: &mut Core,
@@ -39,7 +39,7 @@ pub(crate) fn stream<W: Write>(
 }
 
 /// Writes the messages of a watch until a delivery tells nothing or finds no watch, and the last
-/// chunk. Each message goes on by a revision at least, so behind as many and one more there is none.
+/// chunk. Each message moves on by a revision at least: after as many and one more there is none.
 fn write_messages<W: Write>(
     alloc: Global,
     core: &mut Core,

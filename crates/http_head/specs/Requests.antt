@@ -3,7 +3,7 @@ use Rattle.std.specs.Prelude.{◌≡◌, ◌≢◌, ℕ, ◌<◌, ◌≤◌, ◌
 use Rattle.httparse.specs.Grammar.{RequestHead, HasNoRequest, MayBecomeRequest, print_request}
 use Rattle.http_head.specs.Heads.{ReadsHead, body_length, marks_of, most_head}
 
--- a whole request, as far as an answer hangs on it
+-- a whole request, as far as an answer depends on it
 pub record Asked : Type 0 where
   pub method : List ℕ
   pub target : List ℕ

@@ -30,7 +30,7 @@ pub struct Head {
     pub method: Span,
     /// The request target.
     pub target: Span,
-    /// How many bytes the head takes, its empty line among them: the body begins behind them.
+    /// How many bytes the head takes, its empty line among them: the body begins after them.
     pub len: usize,
     /// How many bytes the body takes.
     pub body: usize,

@@ -119,7 +119,7 @@ impl Input {
         }
     }
 
-    /// Lets the request go: the bytes behind it are the next one's. Takes no memory.
+    /// Lets the request go: the bytes after it are the next one's. Takes no memory.
     pub fn skip(&mut self, head: Head)
         requires { IsWhole self.old head }
         ensures { self.new ≡ drop (head.len + head.body) self.old }

@@ -1,15 +1,9 @@
 -- How answering connections ends.
-use Rattle.std.specs.Prelude.{ℕ, Result, Ok, Err, ⊤}
-use Rattle.http_reply.specs.Counts.{one_more}
+use Rattle.std.specs.Prelude.{Bool, true, false, Result, Ok, Err, ⊤}
 use Rattle.http_reply.specs.declared.front.Front.{Front}
 use Rattle.http_reply.specs.declared.front.Front.TheVariants as front
-
--- it failed, if it did, as a writer does: for want of memory, or where a write did
-abbrev pub IsUnsent : {T : Type 0} → Result T Front → Type 0
-IsUnsent (Ok x) = ⊤
-IsUnsent (Err front.Memory) = ⊤
-IsUnsent (Err (front.Write n)) = ⊤
-IsUnsent (Err _) = ⊥
+use Rattle.http_pool.specs.declared.connection.Turn.{Turn}
+use Rattle.http_pool.specs.declared.connection.Turn.TheVariants as turn
 
 -- a server ends so, and no connection does
 abbrev pub IsOfServer : Front → Type 0
@@ -26,15 +20,8 @@ IsOfConnection front.Accept = ⊥
 IsOfConnection front.Unclosed = ⊥
 IsOfConnection _ = ⊤
 
--- a request is not read for this
-abbrev pub IsUnread : Front → Type 0
-IsUnread (front.Write n) = ⊥
-IsUnread front.Spawn = ⊥
-IsUnread front.Accept = ⊥
-IsUnread front.Unclosed = ⊥
-IsUnread _ = ⊤
-
--- the failures that a reader then tells
-abbrev pub failed_reads : Front → ℕ → ℕ
-failed_reads front.Read failures = one_more failures
-failed_reads _ failures = failures
+-- what a turn is whose request was answered so
+abbrev pub turn_of : Result Bool Front → Result Turn Front
+turn_of (Ok true) = Ok turn.Closed
+turn_of (Ok false) = Ok turn.Open
+turn_of (Err f) = Err f

@@ -1,15 +1,17 @@
 //! One connection, from its first byte to its end.
-ghost use Rattle.std.specs.Prelude.{◌≡◌, ◌≤◌, ℕ, IfErr};
+ghost use Rattle.std.specs.Prelude.{◌≡◌, ◌≤◌, IfErr};
 ghost use Rattle.http_input.specs.Inputs.{failures_after_read};
-ghost use Rattle.http_reply.specs.Counts.{failures_of};
+ghost use Rattle.http_reply.specs.Counts.{failures_of, inner_of};
 ghost use Rattle.http_reply.specs.Sends.{failures_after};
-ghost use Rattle.http_pool.specs.Ends.{IsOfConnection, IsUnread, IsUnsent, failed_reads};
+ghost use Rattle.http_pool.specs.Ends.{IsOfConnection, turn_of};
+ghost use Rattle.http_pool.specs.Written.{AreAnswers, Grows, Turned};
 
 use crate::gate::{Clock, Gate};
 use crate::replying::answer;
 use engine_lock::{Client, Engine, EngineName, Feed};
+use http_front::decline;
 use http_input::Input;
-use http_reply::{Counted, Front, ReplyBuffer, write_refusal};
+use http_reply::{Counted, Front, ReplyBuffer};
 use std::alloc::Global;
 use std::io::{Read, Write};
 use std::sync::Wait;
@@ -27,15 +29,22 @@ enum Turn {
 }
 
 /// Answers the requests of a connection one after the other, each by one `submit` to the engine,
-/// and gives the number of its replies. It ends at the input's end before a request, behind a
-/// request with `Connection: close`, and behind a watch.
+/// and gives the number of its replies. It ends at the input's end before a request, after a
+/// request with `Connection: close`, and after a watch.
+///
+/// What it writes is answers, one after the other, and nothing besides (`AreAnswers` in
+/// `specs/Written.antt`): each is a whole reply, or the stream of a watch to its last chunk, and
+/// the result counts them. Behind one that closes the connection there is no other. Which answer a
+/// request gets is not stated, since other threads change the store between.
 ///
 /// `call` is the number of the connection, which the gate is told of before each request is handed
 /// to the engine and after its reply. The clock is read for each request.
 ///
 /// Fails as `Input::next_request` does, after the reply that tells why a request is not read; with
 /// `Front::Write` where a write fails or takes nothing; and with `Front::Memory`, where the buffers
-/// or the text of a reply found no memory. A watch of the connection has ended then, too.
+/// or the text of a reply found no memory. A watch of the connection has ended then, too. Behind
+/// the whole answers there is then that reply alone, or exactly the beginning of an answer that
+/// `Front::Write` counts (of a stream: of the text that was cut), or nothing.
 pub fn work<L, F, G, C, R, In, Out>(
     rt: &R,
     alloc: Global,
@@ -59,6 +68,8 @@ where
     ensures reader { failures_of r.new ≡ failures_after_read result (failures_of r.old) }
     ensures writer { failures_of w.new ≡ failures_after result (failures_of w.old) }
     ensures fault { IfErr result IsOfConnection }
+    ensures writes { Grows (Out.contents (inner_of w.old)) (Out.contents (inner_of w.new))
+        (λ out. AreAnswers out result) }
 {
     let Ok(mut input) = Input::new(alloc) else {
         return Err(Front::Memory);
@@ -67,7 +78,7 @@ where
         return Err(Front::Memory);
     };
     for replies in 0..u64::MAX {
-        let turn = take_turn(
+        match take_turn(
             rt,
             alloc,
             engine,
@@ -79,8 +90,7 @@ where
             &mut buffer,
             r,
             w,
-        );
-        match turn {
+        ) {
             Ok(Turn::Open) => {}
             Ok(Turn::Closed) => return Ok(replies + 1),
             Ok(Turn::Clean) => return Ok(replies),
@@ -116,6 +126,8 @@ where
     ensures reader { failures_of r.new ≡ failures_after_read result (failures_of r.old) }
     ensures writer { failures_of w.new ≡ failures_after result (failures_of w.old) }
     ensures fault { IfErr result IsOfConnection }
+    ensures writes { Grows (Out.contents (inner_of w.old)) (Out.contents (inner_of w.new))
+        (Turned result) }
 {
     match input.next_request(r) {
         Ok(Some(head)) => {
@@ -124,40 +136,20 @@ where
             let closes = answer(rt, alloc, engine, client, clock, &request, buffer, w);
             gate.after(call);
             input.skip(head);
-            turn_of(closes)
+            turn_after(closes)
         }
         Ok(None) => Ok(Turn::Clean),
-        Err(front) => decline(buffer, w, front),
+        Err(front) => Err(decline(buffer, w, front)),
     }
 }
 
 /// The turn of a request that was answered so.
-fn turn_of(closes: Result<bool, Front>) -> Result<Turn, Front>
-    requires { IsUnsent closes }
-    ensures unsent { IsUnsent result }
-    ensures failures { (n : ℕ) → failures_after result n ≡ failures_after closes n }
+fn turn_after(closes: Result<bool, Front>) -> Result<Turn, Front>
+    ensures { result ≡ turn_of closes }
 {
     match closes {
         Ok(true) => Ok(Turn::Closed),
         Ok(false) => Ok(Turn::Open),
         Err(front) => Err(front),
-    }
-}
-
-/// Writes the reply that tells why a request is not read, where there is one, and ends the
-/// connection.
-fn decline<Out: Write>(
-    buffer: &mut ReplyBuffer,
-    w: &mut Counted<Out>,
-    front: Front,
-) -> Result<Turn, Front>
-    requires { IsUnread front }
-    ensures reader { (n : ℕ) → failures_after_read result n ≡ failed_reads front n }
-    ensures writer { failures_of w.new ≡ failures_after result (failures_of w.old) }
-    ensures fault { IfErr result IsOfConnection }
-{
-    match write_refusal(buffer, w, front) {
-        Ok(()) => Err(front),
-        Err(unsent) => Err(unsent),
     }
 }

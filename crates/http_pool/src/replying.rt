@@ -1,17 +1,17 @@
 //! One request, from its bytes to its reply.
-ghost use Rattle.std.specs.Prelude.{◌≡◌, ◌≤◌};
-ghost use Rattle.http_head.specs.Requests as requests;
-ghost use Rattle.http_reply.specs.Counts.{failures_of};
+ghost use Rattle.std.specs.Prelude.{◌≡◌, ◌≤◌, IfErr};
+ghost use Rattle.http_reply.specs.Counts.{failures_of, inner_of};
 ghost use Rattle.http_reply.specs.Sends.{failures_after};
-ghost use Rattle.http_pool.specs.Ends.{IsUnsent};
+ghost use Rattle.http_front.specs.Served.{IsOfWriting};
+ghost use Rattle.http_pool.specs.Written.{Grows, IsAnswer};
 
 use crate::background::trim_all;
 use crate::gate::Clock;
 use crate::stream::stream;
 use engine_lock::{Client, Engine, EngineName, Feed};
-use http_head::path_of;
+use http_front::{command_path, write_settled};
 use http_input::Request;
-use http_reply::{Counted, Front, ReplyBuffer, write_reply};
+use http_reply::{Counted, Front, ReplyBuffer};
 use json_gateway::{Outcome, Settled, dismissed, read};
 use kv_model::call::Command;
 use std::alloc::Global;
@@ -19,7 +19,7 @@ use std::io::Write;
 use std::sync::Wait;
 use std::time;
 
-/// Answers a request, and tells whether the connection is closed behind it.
+/// Answers a request, and tells whether the connection is closed after it.
 pub(crate) fn answer<L, F, C, R, Out>(
     rt: &R,
     alloc: Global,
@@ -38,26 +38,19 @@ where
     Out: Write,
     ensures share { client.old.made ≤ client.new.made }
     ensures writer { failures_of w.new ≡ failures_after result (failures_of w.old) }
-    ensures unsent { IsUnsent result }
+    ensures ends { IfErr result IsOfWriting }
+    ensures writes { Grows (Out.contents (inner_of w.old)) (Out.contents (inner_of w.new))
+        (λ out. IsAnswer out result) }
 {
-    match read(alloc, asked_path(request), request.body) {
+    match read(alloc, command_path(request), request.body) {
         Ok(command) => {
             let outcome = performed(rt, engine, client, clock.now(), &command);
             tell(rt, engine, &outcome, request.close, buffer, w)
         }
         Err(bad) => {
             let settled = dismissed(alloc, bad);
-            reply(&settled, request.close, buffer, w)
+            write_settled(buffer, w, &settled, request.close)
         }
-    }
-}
-
-/// The path of a request; that of a method other than POST is none of the gateway's.
-fn asked_path<'b>(request: &Request<'b>) -> &'b [u8] {
-    if request.method == b"POST".as_slice() {
-        path_of(request.target)
-    } else {
-        b""
     }
 }
 
@@ -93,7 +86,9 @@ where
     R: Wait + time::Clock,
     Out: Write,
     ensures writer { failures_of w.new ≡ failures_after result (failures_of w.old) }
-    ensures unsent { IsUnsent result }
+    ensures ends { IfErr result IsOfWriting }
+    ensures writes { Grows (Out.contents (inner_of w.old)) (Out.contents (inner_of w.new))
+        (λ out. IsAnswer out result) }
 {
     match outcome.watch {
         Some(number) => {
@@ -101,12 +96,12 @@ where
             let _ = engine.drop_watch(rt, number);
             told
         }
-        None => reply(&outcome.settled, close, buffer, w),
+        None => write_settled(buffer, w, &outcome.settled, close),
     }
 }
 
 /// Answers a watch that was made: by its stream, after which the connection is closed; where its
-/// answer was lost, by that. The watch may stand behind it.
+/// answer was lost, by that. The watch may stand after it.
 fn follow<L, F, R, Out>(
     rt: &R,
     engine: &Engine<L, F>,
@@ -122,29 +117,14 @@ where
     R: Wait + time::Clock,
     Out: Write,
     ensures writer { failures_of w.new ≡ failures_after result (failures_of w.old) }
-    ensures unsent { IsUnsent result }
+    ensures ends { IfErr result IsOfWriting }
+    ensures writes { Grows (Out.contents (inner_of w.old)) (Out.contents (inner_of w.new))
+        (λ out. IsAnswer out result) }
 {
     match settled {
         Settled::Reply(created) => {
             stream(rt, engine, number, created.body.as_slice(), buffer, w)
         }
-        _ => reply(settled, close, buffer, w),
-    }
-}
-
-/// Writes a reply.
-fn reply<Out: Write>(
-    settled: &Settled,
-    close: bool,
-    buffer: &mut ReplyBuffer,
-    w: &mut Counted<Out>,
-) -> Result<bool, Front>
-    ensures writer { failures_of w.new ≡ failures_after result (failures_of w.old) }
-    ensures unsent { IsUnsent result }
-{
-    let (status, body) = settled.wire();
-    match write_reply(buffer, w, status, body, close) {
-        Ok(()) => Ok(close),
-        Err(front) => Err(front),
+        _ => write_settled(buffer, w, settled, close),
     }
 }

@@ -1,8 +1,10 @@
 //! The stream of a watch.
-ghost use Rattle.std.specs.Prelude.{◌≡◌};
-ghost use Rattle.http_reply.specs.Counts.{failures_of};
+ghost use Rattle.std.specs.Prelude.{◌≡◌, true, IfErr};
+ghost use Rattle.http_reply.specs.Counts.{failures_of, inner_of};
+ghost use Rattle.http_reply.specs.Replies.{last_chunk};
 ghost use Rattle.http_reply.specs.Sends.{failures_after};
-ghost use Rattle.http_pool.specs.Ends.{IsUnsent};
+ghost use Rattle.http_front.specs.Served.{IsOfWriting, Writes};
+ghost use Rattle.http_pool.specs.Written.{AreMessages, Begun, Grows, IsAnswer, Told};
 
 use engine_lock::{Engine, EngineName, Feed};
 use http_reply::{Counted, Front, ReplyBuffer, write_chunk, write_last_chunk, write_stream_head};
@@ -32,22 +34,42 @@ where
     R: Wait + time::Clock,
     Out: Write,
     ensures writer { failures_of w.new ≡ failures_after result (failures_of w.old) }
-    ensures unsent { IsUnsent result }
+    ensures ends { IfErr result IsOfWriting }
+    ensures writes { Grows (Out.contents (inner_of w.old)) (Out.contents (inner_of w.new))
+        (λ out. IsAnswer out result) }
 {
-    if let Err(front) = begin(buffer, w, created) {
-        return Err(front);
+    match begin(buffer, w, created) {
+        Ok(()) => write_messages(rt, engine, number, buffer, w),
+        Err(front) => Err(front),
     }
+}
+
+/// Writes the messages of a watch until no watch has the number, and then the last chunk.
+fn write_messages<L, F, R, Out>(
+    rt: &R,
+    engine: &Engine<L, F>,
+    number: u64,
+    buffer: &mut ReplyBuffer,
+    w: &mut Counted<Out>,
+) -> Result<bool, Front>
+where
+    L: EngineName,
+    F: Feed,
+    R: Wait + time::Clock,
+    Out: Write,
+    ensures writer { failures_of w.new ≡ failures_after result (failures_of w.old) }
+    ensures ends { IfErr result IsOfWriting }
+    ensures writes { Grows (Out.contents (inner_of w.old)) (Out.contents (inner_of w.new))
+        (λ out. AreMessages out result) }
+{
     for _ in rt.forever() {
         match tell_next(rt, engine, number, buffer, w) {
             Ok(true) => {}
-            Ok(false) => break,
+            Ok(false) => return end(buffer, w),
             Err(front) => return Err(front),
         }
     }
-    match write_last_chunk(buffer, w) {
-        Ok(()) => Ok(true),
-        Err(front) => Err(front),
-    }
+    unreachable!()
 }
 
 /// Writes the head of a stream, and its first message.
@@ -57,7 +79,9 @@ fn begin<Out: Write>(
     created: &[u8],
 ) -> Result<(), Front>
     ensures writer { failures_of w.new ≡ failures_after result (failures_of w.old) }
-    ensures unsent { IsUnsent result }
+    ensures ends { IfErr result IsOfWriting }
+    ensures writes { Grows (Out.contents (inner_of w.old)) (Out.contents (inner_of w.new))
+        (Begun created.now result) }
 {
     match write_stream_head(buffer, w) {
         Ok(()) => write_chunk(buffer, w, created),
@@ -80,7 +104,9 @@ where
     R: Wait + time::Clock,
     Out: Write,
     ensures writer { failures_of w.new ≡ failures_after result (failures_of w.old) }
-    ensures unsent { IsUnsent result }
+    ensures ends { IfErr result IsOfWriting }
+    ensures writes { Grows (Out.contents (inner_of w.old)) (Out.contents (inner_of w.new))
+        (Told result) }
 {
     match engine.deliver(rt, number) {
         Ok(Message::Text(text)) => match write_chunk(buffer, w, text.as_slice()) {
@@ -92,5 +118,17 @@ where
             thread::sleep(rt, Duration::from_millis(WATCH_REST));
             Ok(true)
         }
+    }
+}
+
+/// Writes the end of a stream.
+fn end<Out: Write>(buffer: &mut ReplyBuffer, w: &mut Counted<Out>) -> Result<bool, Front>
+    ensures writer { failures_of w.new ≡ failures_after result (failures_of w.old) }
+    ensures writes { Writes true last_chunk
+        (Out.contents (inner_of w.old)) (Out.contents (inner_of w.new)) result }
+{
+    match write_last_chunk(buffer, w) {
+        Ok(()) => Ok(true),
+        Err(front) => Err(front),
     }
 }

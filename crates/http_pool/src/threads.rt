@@ -1,5 +1,5 @@
 //! The threads of a server.
-ghost use Rattle.std.specs.Prelude.{IfOk, IfErr};
+ghost use Rattle.std.specs.Prelude.{◌≡◌, ◌+◌, map, sum, IfOk, IfErr};
 ghost use Rattle.engine_lock.specs.Locked.{IsStanding};
 ghost use Rattle.http_pool.specs.Ends.{IsOfServer};
 
@@ -110,13 +110,16 @@ fn clients_of<L: EngineName, F: Feed, R: Wait>(
     Ok(clients)
 }
 
-/// Closes an engine whose threads have ended.
+/// Closes an engine whose threads have ended, and gives its core: it has all changes of the
+/// clients.
 fn closed<L: EngineName, F: Feed>(
     engine: Engine<L, F>,
     clients: Vec<Client<L, F>>,
     trouble: Option<Trouble>,
 ) -> Result<Core, Front>
     ensures stands { IfOk result (λ core. IsStanding core) }
+    ensures total { IfOk result
+        (λ core. core.store.revision ≡ 1 + sum (map (λ c. c.made) clients.items)) }
     ensures fault { IfErr result IsOfServer }
 {
     match (engine.close(clients), trouble) {

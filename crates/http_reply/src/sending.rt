@@ -40,7 +40,7 @@ impl ReplyBuffer {
         })
     }
 
-    /// Writes the pieces, one behind the other, as one text.
+    /// Writes the pieces, one after the other, as one text.
     pub(crate) fn send<W: Write>(
         &mut self,
         w: &mut Counted<W>,

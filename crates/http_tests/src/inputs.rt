@@ -57,7 +57,7 @@ enum Told {
     NoMemory,
 }
 
-/// Reads a request and goes on behind it: how that came out, and after how many reads and failures.
+/// Reads a request and moves past it: how that came out, and after how many reads and failures.
 fn read<R: Read>(input: &mut Input, reader: &mut Counted<R>) -> (Told, u64, u64) {
     let told = match input.next_request(reader) {
         Ok(Some(head)) => {

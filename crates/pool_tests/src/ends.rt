@@ -1,0 +1,54 @@
+//! Servers that let no connection in.
+ghost use Rattle.std.specs.Prelude.{◌≡◌};
+
+use crate::texts::{ONES, Still};
+use engine_lock::{Engine, EngineName, NoFeed, Opening};
+use http_pool::{OpenGate, pool};
+use http_reply::Front;
+use std::alloc::Global;
+use std::marker::Brand;
+use std::net::TcpListener;
+use std::sync::Wait;
+use std::test::Fail;
+use std::thread::Threads;
+use std::time;
+
+/// How a server with so many workers ends: by the revision of the core that is left.
+fn ended<L: EngineName, R: Wait + Threads + time::Clock + Sync>(
+    rt: &R,
+    alloc: Global,
+    opening: Opening<NoFeed>,
+    listener: &TcpListener,
+    workers: u64,
+) -> Result<u64, Front>
+    requires name { opening.name ≡ L.Ledger.name }
+    requires parts { opening.parts ≡ L.Ledger.parts }
+{
+    let Ok(engine) = Engine::<L, NoFeed>::new(alloc, opening, ONES) else {
+        return Err(Front::Memory);
+    };
+    match pool(rt, alloc, engine, &OpenGate, &Still, listener, workers, 0) {
+        Ok(core) => Ok(core.status().revision),
+        Err(front) => Err(front),
+    }
+}
+
+fn run_ended<R: Wait + Threads + time::Clock + Sync>(
+    rt: &R,
+    alloc: Global,
+    listener: &TcpListener,
+    workers: u64,
+) -> Result<u64, Front> {
+    ended::<Brand, R>(rt, alloc, Opening::new(NoFeed), listener, workers)
+}
+
+/// An engine has 64 places for clients, and the thread that ends leases takes one.
+#[test]
+fn workers_that_have_no_place(rt: HostRuntime) -> Result<(), Fail> {
+    let alloc = rt.alloc();
+    let listener = TcpListener::bind(&rt, "127.0.0.1:0")?;
+    assert_eq!(rt; run_ended(&rt, alloc, &listener, 0), Ok(1));
+    assert_eq!(rt; run_ended(&rt, alloc, &listener, 63), Ok(1));
+    assert_eq!(rt; run_ended(&rt, alloc, &listener, 64), Err(Front::Unclosed));
+    Ok(())
+}
