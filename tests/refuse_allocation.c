@@ -7,6 +7,7 @@ extern void *__libc_realloc(void *block, size_t size);
 extern char *getenv(const char *name);
 extern int atoi(const char *text);
 extern int dprintf(int file, const char *format, ...);
+extern long syscall(long number, ...);
 
 static int asked, refused, refused_from, report;
 
@@ -24,9 +25,16 @@ __attribute__((constructor)) static void start(void) {
 
 __attribute__((destructor)) static void stop(void) { dprintf(report, "%d\n", asked); }
 
+// A program with threads ends by this, and runs no destructor.
+_Noreturn void _exit(int status) {
+  stop();
+  for (;;)
+    syscall(231, status);
+}
+
 static int is_refused(void) {
-  asked++;
-  return asked == refused || (refused_from && asked >= refused_from);
+  int at = __atomic_add_fetch(&asked, 1, __ATOMIC_RELAXED);
+  return at == refused || (refused_from && at >= refused_from);
 }
 
 void *malloc(size_t size) { return is_refused() ? 0 : __libc_malloc(size); }

@@ -18,25 +18,25 @@ use Rattle.clap.specs.Simple.{HasMatchesOf, is_simple, subcommand_of, subcommand
 use Rattle.clap.specs.declared.parser.matches.ArgMatches.{ArgMatches}
 use Rattle.clap.specs.declared.parser.matches.ArgMatches.TheViews.{out-SubCommand}
 use Rattle.clap.specs.declared.parser.matches.SubCommand.{SubCommand}
-use Rattle.etcd_one.specs.declared.command_line.Args.{Args}
-use Rattle.etcd_one.specs.declared.command_line.Args.TheVariants as args
+use Rattle.etcd_one.specs.declared.command_line.Filter.{Filter}
+use Rattle.etcd_one.specs.declared.command_line.Filter.TheVariants as filter
 use Rattle.etcd_one.specs.Arguments.{IsCommand, program, word_of}
 
-pub is_taken : (words : List Text) (command : Args) → IsCommand words command → takes program words ≡ true
+pub is_taken : (words : List Text) (command : Filter) → IsCommand words command → takes program words ≡ true
 unfolding clap_on_literals program
-is_taken words args.Replay r = rw r.1 refl
-is_taken words args.Check r = rw r.1 refl
+is_taken words filter.Replay r = rw r.1 refl
+is_taken words filter.Check r = rw r.1 refl
 
 is_simple_program : is_simple program ≡ true
 unfolding clap_on_literals program
 is_simple_program = refl
 
 -- it is then the command of that word that clap enters
-pub is_entered : (words : List Text) (command : Args) → IsCommand words command
+pub is_entered : (words : List Text) (command : Filter) → IsCommand words command
     → option_map (λ p. p.0) (subcommand_of program words) ≡ Some (word_of command)
 unfolding clap_on_literals program
-is_entered words args.Replay r = rw r.1 refl
-is_entered words args.Check r = rw r.1 refl
+is_entered words filter.Replay r = rw r.1 refl
+is_entered words filter.Check r = rw r.1 refl
 
 pub is_plain : is_simple_and_free program ≡ true
 unfolding clap_on_literals program
@@ -153,19 +153,19 @@ other_fails name w r c h none = built_fails (built program) (w ∷ []) requires_
 
 -- the word of some command
 abbrev IsWord : Text → Type 0
-IsWord w = (command : Args) × (word_of command ≡ w)
+IsWord w = (command : Filter) × (word_of command ≡ w)
 
 one_word : (name w : Text) (is_replay is_check is_help : Bool) → bytes_eq (codes "replay") w ≡ is_replay → bytes_eq (codes "check") w ≡ is_check
     → bytes_eq (codes "help") w ≡ is_help → fault_of program (name ∷ w ∷ []) ≡ [] → IsWord w
-one_word name w true is_check is_help r c h none = (args.Replay, (bytes_eq-Decides (codes "replay") w).0 r)
-one_word name w false true is_help r c h none = (args.Check, (bytes_eq-Decides (codes "check") w).0 c)
+one_word name w true is_check is_help r c h none = (filter.Replay, (bytes_eq-Decides (codes "replay") w).0 r)
+one_word name w false true is_help r c h none = (filter.Check, (bytes_eq-Decides (codes "check") w).0 c)
 one_word name w false false true r c h none =
     let is_help : codes "help" ≡ w = (bytes_eq-Decides (codes "help") w).0 h in
     absurd (help_fails name (subst (λ t. fault_of program (name ∷ t ∷ []) ≡ []) (sym is_help) none))
 one_word name w false false false r c h none = absurd (other_fails name w r c h none)
 
 -- two words that clap takes are those of a command
-pub is_command : (words : List Text) → length words ≡ 2 → fault_of program words ≡ [] → (command : Args) × IsCommand words command
+pub is_command : (words : List Text) → length words ≡ 2 → fault_of program words ≡ [] → (command : Filter) × IsCommand words command
 is_command [] two none = absurd (omega (arith, two))
 is_command (name ∷ []) two none = absurd (omega (arith, two))
 is_command (name ∷ w ∷ []) two none =
@@ -176,20 +176,20 @@ is_command (name ∷ w ∷ x ∷ more) two none = absurd (omega (arith, two))
 -- ---- words that are read
 
 -- a word that some command has
-pub some_named : (r : Option Args) (P : Type 0) (w : Text) → MatchOption r P (λ command. w ≡ word_of command) → is_some r ≡ true
-    → (command : Args) × (w ≡ word_of command)
+pub some_named : (r : Option Filter) (P : Type 0) (w : Text) → MatchOption r P (λ command. w ≡ word_of command) → is_some r ≡ true
+    → (command : Filter) × (w ≡ word_of command)
 some_named None P w is e = cc
 some_named (Some command) P w is e = (command, is)
 
 -- no other command has it
-pub one_command : (a b : Args) → word_of a ≡ word_of b → a ≡ b
-one_command args.Replay args.Replay e = refl
-one_command args.Replay args.Check e = absurd (let bad : 114 ≡ 99 = ap (λ w. get_or w 0 0) e in omega (arith, bad))
-one_command args.Check args.Replay e = absurd (let bad : 99 ≡ 114 = ap (λ w. get_or w 0 0) e in omega (arith, bad))
-one_command args.Check args.Check e = refl
+pub one_command : (a b : Filter) → word_of a ≡ word_of b → a ≡ b
+one_command filter.Replay filter.Replay e = refl
+one_command filter.Replay filter.Check e = absurd (let bad : 114 ≡ 99 = ap (λ w. get_or w 0 0) e in omega (arith, bad))
+one_command filter.Check filter.Replay e = absurd (let bad : 99 ≡ 114 = ap (λ w. get_or w 0 0) e in omega (arith, bad))
+one_command filter.Check filter.Check e = refl
 
 -- the word of a command is read as that
-pub is_named : (r : Option Args) (w : Text) (command : Args) → MatchOption r ((a : Args) → w ≡ word_of a → ⊥) (λ a. w ≡ word_of a)
+pub is_named : (r : Option Filter) (w : Text) (command : Filter) → MatchOption r ((a : Filter) → w ≡ word_of a → ⊥) (λ a. w ≡ word_of a)
     → w ≡ word_of command → r ≡ Some command
 is_named None w command is e = absurd (is command e)
 is_named (Some a) w command is e = ap (λ b. Some b) (one_command a command (sym is ∙ e))
@@ -200,12 +200,12 @@ name_of_rows None = refl
 name_of_rows (Some b) = refl
 
 -- the words of a command have clap name it
-pub is_met : (words : List Text) (command : Args) (m : ArgMatches) → IsCommand words command → HasMatchesOf program words m
+pub is_met : (words : List Text) (command : Filter) (m : ArgMatches) → IsCommand words command → HasMatchesOf program words m
     → subcommand_name_of m ≡ Some (word_of command)
 is_met words command m is has = sym (name_of_rows _) ∙ ap (option_map (λ p. p.0)) (has is_simple_program).1 ∙ is_entered words command is
 
 -- two words, of which the second is that of a command
-pub are_command : {A : Type 0} (text : A → Text) (words : List A) (other : A) (command : Args) → length words ≡ 2
+pub are_command : {A : Type 0} (text : A → Text) (words : List A) (other : A) (command : Filter) → length words ≡ 2
     → text (get_or words 1 other) ≡ word_of command → IsCommand (map text words) command
 are_command text [] other command two same = absurd (omega (arith, two))
 are_command text (x ∷ []) other command two same = absurd (omega (arith, two))
@@ -213,7 +213,7 @@ are_command text (x ∷ y ∷ []) other command two same = (text x, ap (λ t. te
 are_command text (x ∷ y ∷ z ∷ more) other command two same = absurd (omega (arith, two))
 
 -- and of the words of a command the second is its word
-pub second_word : {A : Type 0} (text : A → Text) (words : List A) (other : A) (command : Args) → IsCommand (map text words) command
+pub second_word : {A : Type 0} (text : A → Text) (words : List A) (other : A) (command : Filter) → IsCommand (map text words) command
     → text (get_or words 1 other) ≡ word_of command
 second_word text [] other command is = absurd (let bad : 0 ≡ 2 = ap length is.1 in omega (arith, bad))
 second_word text (x ∷ []) other command is = absurd (let bad : 1 ≡ 2 = ap length is.1 in omega (arith, bad))
@@ -224,7 +224,7 @@ second_word text (x ∷ y ∷ ys) other command is = ap (λ ws. get_or ws 1 (tex
 -- two words that clap takes are a command's, and it names that
 pub is_answered : (words : List Text) (a : App) (m : ArgMatches) → a ≡ program → length words ≡ 2 → HasMatchesOf a words m
     → (is_simple_and_free a ≡ true → fault_of a words ≡ [])
-    → (command : Args) × IsCommand words command × (subcommand_name_of m ≡ Some (word_of command))
+    → (command : Filter) × IsCommand words command × (subcommand_name_of m ≡ Some (word_of command))
 is_answered words a m same two has free =
     let none : fault_of program words ≡ [] = sym (ap (λ (x : App). fault_of x words) same) ∙ free (ap is_simple_and_free same ∙ is_plain) in
     let (command, is) = is_command words two none in

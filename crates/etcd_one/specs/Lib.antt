@@ -6,3 +6,4 @@ pub mod Lines
 pub mod Writes
 pub mod Said
 pub mod Judging
+pub mod Serving

@@ -1,4 +1,4 @@
-//! The program's arguments.
+//! The commands that take standard input to standard output.
 ghost use Rattle.std.specs.Prelude.{◌≡◌, IfOk, IfErr, MatchOption, Ok, Some};
 ghost use Rattle.std.specs.Prelude.{map, option_map, string_bytes};
 ghost use Rattle.clap.specs.Words.{app_of, kind_of};
@@ -9,9 +9,9 @@ use clap::error::ErrorKind;
 use clap::{Command, Error};
 use std::alloc::{AllocError, Global};
 
-/// What the program was asked to do.
+/// A command that has no words after its own.
 #[derive(Clone, Copy, Debug, PartialEq, Eq)]
-pub enum Args {
+pub(crate) enum Filter {
     /// `replay`: answer the script on standard input.
     Replay,
     /// `check`: judge the certificate on standard input.
@@ -23,9 +23,9 @@ pub enum Args {
 ///
 /// Fails with `Fault::Arguments` for any other words, whether or not there is memory, and with
 /// `Fault::Memory` where these are the words and memory is wanting.
-pub fn arguments(alloc: Global, words: &[String]) -> Result<Args, Fault>
+pub(crate) fn filter_of(alloc: Global, words: &[String]) -> Result<Filter, Fault>
     ensures ok { IfOk result (IsCommand (map string_bytes words.now)) }
-    ensures memory { IfErr result (λ fault. (command : Args)
+    ensures memory { IfErr result (λ fault. (command : Filter)
         → IsCommand (map string_bytes words.now) command → fault ≡ Fault.Memory) }
     ensures other { IfErr result (λ fault.
         IsNoCommand (map string_bytes words.now) → fault ≡ Fault.Arguments) }
@@ -44,8 +44,8 @@ pub fn arguments(alloc: Global, words: &[String]) -> Result<Args, Fault>
 }
 
 /// The command that clap read, which is one of the program's.
-fn asked(name: Option<&str>) -> Result<Args, Fault>
-    ensures { (command : Args) → option_map (λ word. word.now) name.entry ≡ Some (word_of command)
+fn asked(name: Option<&str>) -> Result<Filter, Fault>
+    ensures { (command : Filter) → option_map (λ word. word.now) name.entry ≡ Some (word_of command)
         → result ≡ Ok command }
 {
     match name {
@@ -55,14 +55,14 @@ fn asked(name: Option<&str>) -> Result<Args, Fault>
 }
 
 /// The command of a word.
-fn named(word: &str) -> Option<Args>
-    ensures { MatchOption result ((command : Args) → word.now ≡ word_of command → ⊥)
+fn named(word: &str) -> Option<Filter>
+    ensures { MatchOption result ((command : Filter) → word.now ≡ word_of command → ⊥)
         (λ command. word.now ≡ word_of command) }
 {
     if word == "replay" {
-        Some(Args::Replay)
+        Some(Filter::Replay)
     } else if word == "check" {
-        Some(Args::Check)
+        Some(Filter::Check)
     } else {
         None
     }
@@ -71,7 +71,7 @@ fn named(word: &str) -> Option<Args>
 /// Which fault it is that clap found no memory to read the words: those of no command are bad with
 /// memory too.
 fn without_memory(words: &[String]) -> Fault
-    ensures memory { (command : Args) → IsCommand (map string_bytes words.now) command
+    ensures memory { (command : Filter) → IsCommand (map string_bytes words.now) command
         → result ≡ Fault.Memory }
     ensures other { IsNoCommand (map string_bytes words.now) → result ≡ Fault.Arguments }
 {
@@ -95,7 +95,7 @@ fn program<'a>(alloc: Global) -> Result<Command<'a>, AllocError>
 
 /// Which fault it is that clap took the words for an error.
 fn fault_of(error: &Error, words: &[String]) -> Fault
-    ensures memory { kind_of error.now ≡ ErrorKind.OutOfMemory → (command : Args)
+    ensures memory { kind_of error.now ≡ ErrorKind.OutOfMemory → (command : Filter)
         → IsCommand (map string_bytes words.now) command → result ≡ Fault.Memory }
     ensures other { IsNoCommand (map string_bytes words.now) → result ≡ Fault.Arguments }
 {

@@ -2,6 +2,7 @@
 ghost use Rattle.std.specs.Prelude.{◌≡◌, ◌≢◌};
 ghost use Rattle.std.specs.IoError.{error_kind};
 
+use http_reply::Front;
 use std::io;
 use std::io::ErrorKind;
 use thiserror::Error;
@@ -10,7 +11,7 @@ use thiserror::Error;
 #[derive(Debug, Drop, Error)]
 pub enum Fault {
     /// The words after the program's name are no command.
-    #[error("etcd_one: bad arguments; usage: etcd_one replay < script, or etcd_one check < certificate")]
+    #[error("etcd_one: bad arguments; usage: etcd_one replay < script, etcd_one check < certificate, or etcd_one serve --listen ADDR [--workers 2..32] [--connections N] [--cluster-id N] [--member-id N]")]
     Arguments,
     /// The input, a script or a certificate, could not be read to its end.
     #[error("etcd_one: the input could not be read: {0}")]
@@ -24,6 +25,12 @@ pub enum Fault {
     /// A growth outside a request found no memory.
     #[error("etcd_one: out of memory")]
     Memory,
+    /// The server could not listen at its address.
+    #[error("etcd_one: the address is refused: {0}")]
+    Address(io::Error),
+    /// The server ended before its connections did.
+    #[error("etcd_one: {0}")]
+    Server(Front),
 }
 
 /// Why the words of the command line could not be had: one that is not UTF-8 is no command.

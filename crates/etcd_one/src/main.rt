@@ -35,6 +35,7 @@
 //! itself for its exit status and what it writes to standard error.
 #![tactic(auto)]
 
+mod arguments;
 mod command_line;
 mod counted;
 mod fault;
@@ -45,22 +46,35 @@ mod replaying;
 mod replies;
 mod said;
 mod script;
+mod serving;
 #[cfg(test)]
 mod tests;
 
-pub use command_line::{Args, arguments};
+pub use arguments::{Args, Serve, arguments};
 pub use fault::Fault;
 use fault::fault_of_words;
 pub use judging::{Verdict, check};
 pub use replaying::replay;
+pub use serving::serve_on;
 use std::io::BufWriter;
+use std::net::{Net, TcpListener, TcpStream};
 use std::process::ExitCode;
+use std::rt::Runtime;
+use std::sync::Wait;
+use std::thread::Threads;
 use std::{env, io};
 
 /// The bytes that are written at once.
 const BUFFER: usize = 65_536;
 
-fn run(rt: &HostRuntime) -> Result<ExitCode, Fault> {
+fn run<
+    R: Runtime
+        + AllocGlobal
+        + Net<Listener = TcpListener, Stream = TcpStream>
+        + Threads
+        + Wait
+        + Sync,
+>(rt: &R) -> Result<ExitCode, Fault> {
     let mut words = Vec::new(rt.alloc());
     let given = env::args(rt).map_err(|error| fault_of_words(&error))?;
     for word in given {
@@ -74,6 +88,10 @@ fn run(rt: &HostRuntime) -> Result<ExitCode, Fault> {
         Args::Check => {
             let verdict = check_all(rt)?;
             Ok(status_of(verdict))
+        }
+        Args::Serve(serve) => {
+            serve_all(rt, &serve)?;
+            Ok(ExitCode::SUCCESS)
         }
     }
 }
@@ -89,18 +107,40 @@ fn status_of(verdict: Verdict) -> ExitCode {
 }
 
 /// Judges the certificate on standard input on standard output.
-fn check_all(rt: &HostRuntime) -> Result<Verdict, Fault> {
+fn check_all<R: Runtime + AllocGlobal>(rt: &R) -> Result<Verdict, Fault> {
     check(rt.alloc(), &mut rt.reader(), &mut io::writer(rt))
 }
 
 /// Answers standard input on standard output, through a buffer that is there before the first read.
-fn replay_all(rt: &HostRuntime) -> Result<(), Fault> {
+fn replay_all<R: Runtime + AllocGlobal>(rt: &R) -> Result<(), Fault> {
     let made = BufWriter::with_capacity(rt.alloc(), BUFFER, io::writer(rt));
     let mut writer = made.map_err(|_| Fault::Memory)?;
     let ended = replay(rt.alloc(), &mut rt.reader(), &mut writer);
     // A writer that is dropped would write what a failed write has left.
     let _ = writer.into_parts();
     ended
+}
+
+/// Listens, says on standard error where, and serves.
+fn serve_all<
+    R: Runtime
+        + AllocGlobal
+        + Net<Listener = TcpListener, Stream = TcpStream>
+        + Threads
+        + Wait
+        + Sync,
+>(rt: &R, serve: &Serve<'_>) -> Result<(), Fault> {
+    let listener = TcpListener::bind(rt, serve.listen).map_err(Fault::Address)?;
+    if let Ok(address) = listener.local_addr() {
+        let _ = eprintln!(rt; "listening on {address}");
+    }
+    serve_on(
+        rt,
+        rt.alloc(),
+        &listener,
+        &Args::Serve(*serve),
+        &mut io::writer(rt),
+    )
 }
 
 fn main(rt: HostRuntime) -> ExitCode {

@@ -9,7 +9,7 @@ use kv_model::version::Rev;
 use std::io;
 use std::io::{ErrorKind, Write};
 
-/// Writes the pieces, one behind the other.
+/// Writes the pieces, one after the other.
 pub fn write_pieces<W: Write>(w: &mut W, pieces: &[&[u8]]) -> io::Result<()>
     ensures { Writes result (W.contents w.old) (W.contents w.new)
         (concat (map (λ piece. piece.now) pieces.now)) }

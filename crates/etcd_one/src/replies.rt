@@ -1,13 +1,12 @@
 //! The replies to a script's lines, written in their order.
 ghost use Rattle.std.specs.Prelude.{◌≡◌, ◌++◌, ◌∷◌, [], List, Option, Bool, ℕ, Err, true, drop};
-ghost use Rattle.store_laws.specs.TrimmingLaws.{trim_told};
-ghost use Rattle.trim_core.specs.Steps.{told_of};
+ghost use Rattle.trim_core.specs.Told.{told_of};
 ghost use Rattle.std.specs.Prelude.{codes, decimal, map, IfOk, IfErr};
 ghost use Rattle.std.specs.Fmt.{signed_decimal};
 ghost use Rattle.json_gateway.specs.Outcomes.{wire_response};
 ghost use Rattle.json_gateway.specs.Runs.{command_view, event_view, expired_view, expiry_outcome};
 ghost use Rattle.json_gateway.specs.Runs.{message_view};
-ghost use Rattle.kv_model.specs.Wire.{closed};
+ghost use Rattle.kv_model.specs.Wire.{closed, trim_told};
 ghost use Rattle.etcd_one.specs.Lines.{line_by, replies_by};
 ghost use Rattle.etcd_one.specs.Replies as spec;
 ghost use Rattle.etcd_one.specs.Said.{one_line, said_line};

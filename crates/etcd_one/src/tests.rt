@@ -4,6 +4,7 @@ mod compactions;
 mod leases;
 mod ranges;
 mod rows;
+mod serving;
 mod streams;
 mod transactions;
 mod trimming;

@@ -201,33 +201,74 @@ fn writes(rt: HostRuntime) {
     assert!(rt; is_kept_back(rt.alloc()));
 }
 
-/// `replay` and `check`, each alone, are the commands.
+/// How these words are read: `Ok` of what they ask for besides `serve`, or the options of `serve`.
+fn said_of(alloc: Global, words: &[&str]) -> Result<(u8, Option<(u64, u64, u64, u64)>), Fail> {
+    let line = line_of(alloc, words)?;
+    let said = match arguments(alloc, line.as_slice()) {
+        Ok(Args::Replay) => (0, None),
+        Ok(Args::Check) => (1, None),
+        Ok(Args::Serve(s)) => (2, Some((s.workers, s.connections, s.cluster, s.member))),
+        Err(Fault::Arguments) => (3, None),
+        Err(_) => (4, None),
+    };
+    Ok(said)
+}
+
+const BAD_WORDS: [&[&str]; 21] = [
+    &[],
+    &[""],
+    &["Replay"],
+    &["repla"],
+    &["serve"],
+    &["check", "replay"],
+    &["help"],
+    &["--help"],
+    &["--"],
+    &["--", "replay"],
+    &["replay", "--"],
+    &["replay", "x"],
+    &["check", "--"],
+    &["serve", "--help"],
+    &["serve", "--listen"],
+    &["serve", "--listen", "x", "--"],
+    &["serve", "--listen", "x", "--workers", "1"],
+    &["serve", "--listen", "x", "--workers", "33"],
+    &["serve", "--listen", "x", "--member-id", "0"],
+    &["serve", "--listen", "x", "--listen", "y"],
+    &[
+        "serve",
+        "--listen",
+        "x",
+        "--connections",
+        "9223372036854775808",
+    ],
+];
+
+/// `replay` and `check`, each alone, and `serve` with its options are the commands.
 #[test]
 fn command_lines(rt: HostRuntime) -> Result<(), Fail> {
     let alloc = rt.alloc();
-    let bad: [&[&str]; 13] = [
-        &[],
-        &[""],
-        &["Replay"],
-        &["repla"],
-        &["serve"],
-        &["check", "replay"],
-        &["help"],
-        &["--help"],
-        &["--"],
-        &["--", "replay"],
-        &["replay", "--"],
-        &["replay", "x"],
-        &["check", "--"],
-    ];
-    for words in bad {
-        let ended = arguments(alloc, line_of(alloc, words)?.as_slice());
-        assert!(rt; matches!(ended, Err(Fault::Arguments)), "{words:?}");
+    for words in BAD_WORDS {
+        assert!(rt; said_of(alloc, words)? == (3, None), "{words:?}");
     }
-    let ended = arguments(alloc, line_of(alloc, &["replay"])?.as_slice());
-    assert!(rt; matches!(ended, Ok(Args::Replay)));
-    let ended = arguments(alloc, line_of(alloc, &["check"])?.as_slice());
-    assert!(rt; matches!(ended, Ok(Args::Check)));
+    assert!(rt; said_of(alloc, &["replay"])? == (0, None));
+    assert!(rt; said_of(alloc, &["check"])? == (1, None));
+    let least = said_of(alloc, &["serve", "--listen", "x"])?;
+    assert!(rt; least == (2, Some((8, 0, 1, 1))));
+    let given = [
+        "serve",
+        "--member-id",
+        "4",
+        "--workers",
+        "2",
+        "--connections",
+        "3",
+        "--cluster-id",
+        "9",
+        "--listen",
+        "x",
+    ];
+    assert!(rt; said_of(alloc, given.as_slice())? == (2, Some((2, 3, 9, 4))));
     Ok(())
 }
 

@@ -1,0 +1,103 @@
+#!/usr/bin/env python3
+"""The test of the controller beside it. It starts a store of its own on a free port, and ends it:
+
+    examples/controller/test_controller.py
+
+The store is ./etcd_one at the top, or what ETCD_ONE names. Each test has a fresh one.
+"""
+import os
+import re
+import subprocess
+import threading
+import time
+import unittest
+
+from controller import Controller, Store
+
+TOP = os.path.dirname(os.path.dirname(os.path.dirname(os.path.abspath(__file__))))
+PROGRAM = os.environ.get('ETCD_ONE', os.path.join(TOP, 'etcd_one'))
+
+
+class TestController(unittest.TestCase):
+    def setUp(self):
+        words = [PROGRAM, 'serve', '--listen', '127.0.0.1:0', '--workers', '16']
+        self.server = subprocess.Popen(words, stdin=subprocess.DEVNULL, stderr=subprocess.PIPE)
+        line = self.server.stderr.readline().decode()
+        self.address = re.fullmatch(r'listening on (\S+)\n', line).group(1)
+        self.store = Store(self.address)
+        self.controllers = []
+
+    def tearDown(self):
+        for controller in self.controllers:
+            if not controller.stopped.is_set():
+                controller.stop()
+        self.store.close()
+        self.server.terminate()
+        self.server.wait(timeout=10)
+        self.server.stderr.close()
+
+    def start(self, name):
+        controller = Controller(self.address, name, str.upper)
+        threading.Thread(target=controller.run, daemon=True).start()
+        self.controllers.append(controller)
+        return controller
+
+    def wait_for(self, key, value):
+        end = time.monotonic() + 10
+        while self.store.get(key) != value:
+            self.assertLess(time.monotonic(), end, '%s is %r' % (key, self.store.get(key)))
+            time.sleep(0.01)
+
+    def test_jobs_before_and_behind_its_start(self):
+        self.store.put('/jobs/a', 'one')
+        self.start('first')
+        self.wait_for('/done/a', 'ONE by first')
+        self.store.put('/jobs/b', 'two')
+        self.wait_for('/done/b', 'TWO by first')
+        self.assertEqual(self.store.list('/jobs/')[1], [])
+
+    def test_another_takes_over(self):
+        first = self.start('first')
+        self.wait_for('/lock/controller', 'first')
+        self.start('second')
+        self.store.put('/jobs/a', 'one')
+        self.wait_for('/done/a', 'ONE by first')
+        first.stop()
+        self.wait_for('/lock/controller', 'second')
+        self.store.put('/jobs/b', 'two')
+        self.wait_for('/done/b', 'TWO by second')
+
+    def test_another_takes_over_from_one_that_died(self):
+        first = self.start('first')
+        self.wait_for('/lock/controller', 'first')
+        first.stop(politely=False)
+        self.start('second')
+        self.store.put('/jobs/a', 'one')
+        self.wait_for('/done/a', 'ONE by second')
+
+    def test_a_lease_that_ran_out(self):
+        first = self.start('first')
+        self.wait_for('/lock/controller', 'first')
+        self.store.ask('lease/revoke', ID=first.lease)
+        self.store.put('/jobs/a', 'one')
+        self.wait_for('/done/a', 'ONE by first')
+        self.assertEqual(self.store.get('/lock/controller'), 'first')
+
+    def test_every_job_is_done_once(self):
+        first, names = self.start('first'), ['job%03d' % number for number in range(200)]
+        self.start('second')
+        for name in names:
+            self.store.put('/jobs/' + name, name)
+            if name == names[100]:
+                first.stop()
+        self.wait_for('/done/' + names[-1], names[-1].upper() + ' by second')
+        done = self.store.list('/done/')[1]
+        self.assertEqual([key for key, _, _ in done], ['/done/' + name for name in names])
+        _, jobs = self.store.list('/jobs/')
+        self.assertEqual(jobs, [])
+        told = self.store.ask('kv/range', key='L2RvbmUv', range_end='L2RvbmUw')
+        self.assertEqual({kv['version'] for kv in told['kvs']}, {'1'})
+
+
+if __name__ == '__main__':
+    unittest.main()
