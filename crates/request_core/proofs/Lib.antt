@@ -7,7 +7,6 @@ pub mod Planned
 pub mod Puts
 pub mod Ranges
 pub mod Revokes
-pub mod Starting
 pub mod Trimming
 pub mod Txns
 pub mod Worlds

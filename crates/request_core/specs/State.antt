@@ -1,5 +1,5 @@
 -- What a core holds, and how a command changes it.
-use Rattle.std.specs.Prelude.{◌≡◌, ℕ, ℤ, pos, ◌+◌, ◌<◌, ◌≤◌, ◌%◌, ◌^◌, List, [], ◌∷◌, ◌++◌, map, Bool}
+use Rattle.std.specs.Prelude.{◌≡◌, ℕ, ℤ, ◌+◌, ◌<◌, ◌≤◌, ◌%◌, ◌^◌, List, [], ◌∷◌, ◌++◌, map, Bool}
 use Rattle.std.specs.Prelude.{true, false, not, ◌&&◌}
 use Rattle.std.specs.Prelude.{nat_le, nat_lt, filter, Option, None, Some, option_map, if◌then◌else◌}
 use Rattle.std.specs.Option.{option_or}
@@ -22,8 +22,7 @@ use Rattle.kv_model.specs.Lists.{is_empty}
 use Rattle.kv_model.specs.Ranges.{live, refuse_if}
 use Rattle.kv_model.specs.Txns.{put_fault, static_fault}
 use Rattle.kv_model.specs.Txns as txns
-use Rattle.kv_model.specs.World.{World, opening}
-use Rattle.kv_model.specs.History.{Mutation, KeyValue, put, value_at, end_of, rev_le}
+use Rattle.kv_model.specs.History.{KeyValue, value_at, end_of, rev_le}
 use Rattle.kv_model.specs.Step.{last_main, at_least_zero}
 use Rattle.kv_model.specs.Kept.{Keeping}
 use Rattle.kv_model.specs.Told.{Trimmed}
@@ -274,13 +273,3 @@ added_by s _ = []
 abbrev pub IsTold : {X : Type 0} → (X → Published → X → Type 0) → List Version → X → X → Type 0
 IsTold takes [] old new = new ≡ old
 IsTold takes (v ∷ vs) old new = takes old (Published.batch (v ∷ vs)) new
-
--- ---- one put
-
--- the put of an empty value
-abbrev pub put_at : ℕ → List ℕ → Mutation
-put_at main k = record { rev = record { main = main; sub = 0 }; key = k; action = put [] (pos 0) }
-
--- the world in which nothing else was ever done
-abbrev pub world_of_put : ℕ → List ℕ → World
-world_of_put main k = record opening { mutations = put_at main k ∷ [] }

@@ -27,12 +27,9 @@
 //! at revision 9
 //! ```
 //!
-//! The tests stand in the crate `store_tests`, in `src/cores.rt`; those of calls that only this
-//! crate can make stand in `src/tests.rt`.
+//! The tests stand in the crate `store_tests`, in `src/cores.rt`.
 #![tactic(auto)]
 
 pub mod answer;
 pub mod store;
-#[cfg(test)]
-mod tests;
 mod writing;

@@ -15,8 +15,6 @@ mod putting;
 mod ranging;
 mod receipts;
 mod revoking;
-#[cfg(test)]
-pub(crate) mod starting;
 mod transacting;
 mod trimming;
 mod watching;
