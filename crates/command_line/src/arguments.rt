@@ -3,10 +3,10 @@ ghost use Rattle.std.specs.Prelude.{◌≡◌, ◌≤◌, ℕ, List, false, IfOk
 ghost use Rattle.std.specs.Prelude.{string_bytes};
 ghost use Rattle.command_line.specs.Arguments.{Asks, IsCommand, IsInRange, IsNoCommand, asks_serve};
 
-use crate::command_line::{Filter, filter_of};
-use crate::fault::Fault;
+use crate::filters::{Filter, filter_of};
 use clap::error::ErrorKind;
 use clap::{Arg, ArgMatches, Command, Error};
+use commands::Fault;
 use std::alloc::{AllocError, Global};
 
 /// What the program was asked to do.

@@ -4,9 +4,9 @@ ghost use Rattle.std.specs.Prelude.{map, option_map, string_bytes};
 ghost use Rattle.clap.specs.Words.{app_of, kind_of};
 ghost use Rattle.command_line.specs.Arguments.{IsCommand, IsNoCommand, program, word_of};
 
-use crate::fault::Fault;
 use clap::error::ErrorKind;
 use clap::{Command, Error};
+use commands::Fault;
 use std::alloc::{AllocError, Global};
 
 /// A command that has no words after its own.

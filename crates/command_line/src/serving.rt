@@ -6,8 +6,7 @@ ghost use Rattle.command_line.specs.Serving.{closing_line};
 ghost use Rattle.commands.specs.Writes.{AppendsFront, Writes};
 
 use crate::arguments::{Args, Serve};
-use crate::fault::Fault;
-use crate::pieces::write_number;
+use commands::{Fault, write_number};
 use engine_lock::{Engine, EngineName, NoFeed, Opening};
 use http_pool::{Clock, MOST_CONNECTIONS, OpenGate, pool};
 use json_gateway::Ids;
