@@ -2,9 +2,9 @@
 use Rattle.std.specs.Prelude.{◌≡◌, ℕ, ◌<◌, ◌≤◌, ◌^◌, List, [], ◌∷◌, Bool, true, false, nat_eq, codes}
 use Rattle.std.specs.Cmp.Lexicographic.{pointwise}
 use Rattle.clap.specs.Simple.{App, new_app, on_top, with_subcommand}
-use Rattle.command_line.specs.declared.arguments.Args.{Args}
-use Rattle.command_line.specs.declared.arguments.Args.TheVariants as args
-use Rattle.command_line.specs.declared.arguments.Serve.{Serve}
+use Rattle.command_line.specs.declared.words.Args.{Args}
+use Rattle.command_line.specs.declared.words.Args.TheVariants as args
+use Rattle.command_line.specs.declared.words.Serve.{Serve}
 use Rattle.command_line.specs.declared.filters.Filter.{Filter}
 use Rattle.command_line.specs.declared.filters.Filter.TheVariants as filter
 

@@ -20,9 +20,9 @@
 //! The tests stand in the crate `command_tests`, in `src/streams.rt` and `src/serving.rt`.
 #![tactic(auto)]
 
-mod arguments;
 mod filters;
 mod serving;
+mod words;
 
-pub use arguments::{Args, Serve, arguments};
 pub use serving::serve_on;
+pub use words::{Args, Serve, arguments};

@@ -5,7 +5,7 @@ ghost use Rattle.commands.specs.Faults.{is_write};
 ghost use Rattle.command_line.specs.Serving.{closing_line};
 ghost use Rattle.commands.specs.Writes.{AppendsFront, Writes};
 
-use crate::arguments::{Args, Serve};
+use crate::words::{Args, Serve};
 use commands::{Fault, write_number};
 use engine_lock::{Engine, EngineName, NoFeed, Opening};
 use http_pool::{Clock, MOST_CONNECTIONS, OpenGate, pool};
