@@ -9,53 +9,18 @@
 //! write, and want of memory outside a request end both with status 2, one line on standard error,
 //! and nothing more on standard output.
 //!
-//! The one contract is that of [`replay`]: what it writes is what the model of the whole history
-//! answers to the script, line by line, and where a write fails a front of that. It cuts the script
-//! into the events of one run (`script`), hands them to `run_wire` of `json_gateway`, and writes
-//! the outcomes (`replies`). That of [`check`] is that its one line is what the definitions say of
-//! the text (`judging`). For example, on a fresh store, where `{..}` stands for a header:
+//! `etcd_one serve` answers HTTP/1.1 instead, at the address that it is given.
 //!
-//! ```text
-//! AT 1000                                               at 1000
-//! POST /v3/kv/put {"key":"YQ==","value":"MQ=="}         200 {"header":{..}}
-//! POST /v3/watch {"create_request":{"key":"YQ=="}}      200 {"result":{"created":true,..}}
-//! DELIVER 1                                             nothing
-//! CLOSE 1                                               closed
-//! POST /v3/lease/grant {"TTL":"1","ID":"7"}             200 {"ID":"7","TTL":"1","header":{..}}
-//! PUT a 1                                               bad line
-//! EXPIRE                                                nothing
-//! AT 2000                                               at 2000
-//! EXPIRE                                                expired 7 revision 2
-//! TRIM                                                  done 1
-//! CERTIFY                                               dump 1
-//!                                                       ..
-//! ```
+//! What each command writes is told, and proved, in the crates below: the words of the command line
+//! and the server that they ask for in `command_line`, `replay` and `check` in `commands`. Here
+//! stand the program's words, its standard input and output, and its exit status.
 //!
-//! The tests stand in its own `src/tests/`; `tests/program` of the repository asks the program
+//! The tests stand in the crate `command_tests`; `tests/program` of the repository asks the program
 //! itself for its exit status and what it writes to standard error.
 #![tactic(auto)]
 
-mod arguments;
-mod command_line;
-mod counted;
-mod fault;
-mod input;
-mod judging;
-mod pieces;
-mod replaying;
-mod replies;
-mod said;
-mod script;
-mod serving;
-#[cfg(test)]
-mod tests;
-
-pub use arguments::{Args, Serve, arguments};
-pub use fault::Fault;
-use fault::fault_of_words;
-pub use judging::{Verdict, check};
-pub use replaying::replay;
-pub use serving::serve_on;
+use command_line::{Args, Serve, arguments, serve_on};
+use commands::{Fault, Verdict, check, fault_of_words, replay};
 use std::io::BufWriter;
 use std::net::{Net, TcpListener, TcpStream};
 use std::process::ExitCode;

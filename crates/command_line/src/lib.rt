@@ -1,0 +1,28 @@
+//! The words of the command line of `etcd_one`, and the server that they ask for.
+//!
+//! The one contract is that of [`arguments`]: what it gives is what the words ask for. `replay` and
+//! `check` are taken alone, and want of memory is all that refuses them; `serve` is taken with its
+//! options, each number within its range; any other words are bad arguments, with memory and
+//! without. That of [`serve_on`] is that it writes one line, which tells the revision of the store,
+//! once the server has ended, and where that fails a front of the line. For example:
+//!
+//! ```text
+//! etcd_one replay                              Args::Replay
+//! etcd_one replay --                           Fault::Arguments
+//! etcd_one serve --listen x                    Args::Serve, 8 workers, cluster and member 1
+//! etcd_one serve --listen x --workers 33       Fault::Arguments
+//! etcd_one serve --listen x --connections 1    one connection is served; closed at revision 2
+//! ```
+//!
+//! The words of `replay` and `check` are read by `filters`. What a server does is told by
+//! `http_pool`.
+//!
+//! The tests stand in the crate `command_tests`, in `src/streams.rt` and `src/serving.rt`.
+#![tactic(auto)]
+
+mod filters;
+mod serving;
+mod words;
+
+pub use serving::serve_on;
+pub use words::{Args, Serve, arguments};

@@ -1,0 +1,6 @@
+pub mod Fronts
+pub mod Lines
+pub mod Numbers
+pub mod Reading
+pub mod Writing
+pub mod Verdicts

@@ -1,0 +1,7 @@
+pub mod Faults
+pub mod Script
+pub mod Replies
+pub mod Lines
+pub mod Writes
+pub mod Said
+pub mod Judging

@@ -1,7 +1,0 @@
-pub mod CommandLine
-pub mod Fronts
-pub mod Lines
-pub mod Numbers
-pub mod Reading
-pub mod Writing
-pub mod Verdicts

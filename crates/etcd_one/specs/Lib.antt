@@ -1,9 +1,0 @@
-pub mod Arguments
-pub mod Faults
-pub mod Script
-pub mod Replies
-pub mod Lines
-pub mod Writes
-pub mod Said
-pub mod Judging
-pub mod Serving
