@@ -1,4 +1,5 @@
-//! Each fault once, in the order that the walk finds them.
+//! Each fault once, in the order that the walk finds them. A test is a table: no function that owns
+//! a transaction asserts.
 use crate::fixtures::{add, add_compare, empty, put};
 use bytes::Bytes;
 use kv_model::call::{DeleteRequest, Operand, Operation, Txn};
@@ -34,34 +35,76 @@ fn failing(alloc: Global, value: &'static [u8]) -> Txn {
     txn
 }
 
-fn fault(txn: Txn) -> Option<Refusal> {
+/// A transaction that is walked.
+#[derive(Clone, Copy)]
+enum Walked {
+    Nested(u8),
+    Compares(u8),
+    Failing(&'static [u8]),
+}
+
+fn transaction(alloc: Global, walked: Walked) -> Txn {
+    match walked {
+        Walked::Nested(times) => nested(alloc, times),
+        Walked::Compares(count) => compares(alloc, count),
+        Walked::Failing(value) => failing(alloc, value),
+    }
+}
+
+fn fault(alloc: Global, walked: Walked) -> Option<Refusal> {
+    let txn = transaction(alloc, walked);
     let fault = walk_fault(&txn);
     drop(txn);
     fault
 }
 
+/// The place of the first transaction that has another fault than stands beside it.
+fn first_wrong_walk(alloc: Global, rows: &[(Walked, Option<Refusal>)]) -> Option<usize> {
+    for (place, (walked, expected)) in rows.iter().copied().enumerate() {
+        if fault(alloc, walked) != expected {
+            return Some(place);
+        }
+    }
+    None
+}
+
+static DEPTHS: [(Walked, Option<Refusal>); 2] = [
+    (Walked::Nested(7), None),
+    (Walked::Nested(8), Some(Refusal::TooDeep)),
+];
+
 #[test]
 fn eight_lie_in_one_another(rt: HostRuntime) {
-    let found = [fault(nested(rt.alloc(), 7)), fault(nested(rt.alloc(), 8))];
-    assert_eq!(rt; found, [None, Some(Refusal::TooDeep)]);
+    assert_eq!(rt; first_wrong_walk(rt.alloc(), DEPTHS.as_slice()), None);
 }
+
+static SIZES: [(Walked, Option<Refusal>); 2] = [
+    (Walked::Compares(128), Some(Refusal::NoKey)),
+    (Walked::Compares(129), Some(Refusal::TooManyOps)),
+];
 
 #[test]
 fn sizes_come_before_compares(rt: HostRuntime) {
-    let found = [
-        fault(compares(rt.alloc(), 128)),
-        fault(compares(rt.alloc(), 129)),
-    ];
-    assert_eq!(rt; found, [Some(Refusal::NoKey), Some(Refusal::TooManyOps)]);
+    assert_eq!(rt; first_wrong_walk(rt.alloc(), SIZES.as_slice()), None);
 }
+
+static FAILURES: [(Walked, Option<Refusal>); 2] = [
+    (Walked::Failing(b""), None),
+    (Walked::Failing(b"1"), Some(Refusal::ValueGiven)),
+];
 
 #[test]
 fn branches_that_do_not_run_count(rt: HostRuntime) {
-    let found = [
-        fault(failing(rt.alloc(), b"")),
-        fault(failing(rt.alloc(), b"1")),
-    ];
-    assert_eq!(rt; found, [None, Some(Refusal::ValueGiven)]);
+    assert_eq!(rt; first_wrong_walk(rt.alloc(), FAILURES.as_slice()), None);
+}
+
+/// An operation of a transaction that is checked.
+#[derive(Clone, Copy)]
+enum Op {
+    DeleteAll,
+    Put(&'static [u8]),
+    /// A transaction that puts a key on success, and one on failure.
+    Branches(&'static [u8], &'static [u8]),
 }
 
 fn delete_all() -> Operation {
@@ -75,50 +118,64 @@ fn delete_all() -> Operation {
     })
 }
 
-/// What a transaction with two operations on success is refused for.
-fn checked(alloc: Global, first: Operation, second: Operation) -> Result<(), Refusal> {
+fn branches(alloc: Global, success: &'static [u8], failure: &'static [u8]) -> Operation {
     let mut txn = empty(alloc);
-    add(&mut txn.success, first);
-    add(&mut txn.success, second);
+    add(&mut txn.success, put(success, b"", false, 0));
+    add(&mut txn.failure, put(failure, b"", false, 0));
+    Operation::Inner(txn)
+}
+
+fn operation(alloc: Global, op: Op) -> Operation {
+    match op {
+        Op::DeleteAll => delete_all(),
+        Op::Put(key) => put(key, b"", false, 0),
+        Op::Branches(success, failure) => branches(alloc, success, failure),
+    }
+}
+
+/// What a transaction with two operations on success is refused for.
+fn checked(alloc: Global, first: Op, second: Op) -> Result<(), Refusal> {
+    let mut txn = empty(alloc);
+    add(&mut txn.success, operation(alloc, first));
+    add(&mut txn.success, operation(alloc, second));
     let found = check(alloc, &txn);
     drop(txn);
     found
 }
 
-/// What a transaction is refused for that puts x, and in each branch of another one within a key.
-fn checked_branches(
-    alloc: Global,
-    success: &'static [u8],
-    failure: &'static [u8],
-) -> Result<(), Refusal> {
-    let mut txn = empty(alloc);
-    add(&mut txn.success, put(success, b"", false, 0));
-    add(&mut txn.failure, put(failure, b"", false, 0));
-    checked(alloc, put(b"x", b"", false, 0), Operation::Inner(txn))
+type Check = (Op, Op, Result<(), Refusal>);
+
+/// The place of the first pair that is refused for something else than stands beside it.
+fn first_wrong_check(alloc: Global, rows: &[Check]) -> Option<usize> {
+    for (place, (first, second, expected)) in rows.iter().copied().enumerate() {
+        if checked(alloc, first, second) != expected {
+            return Some(place);
+        }
+    }
+    None
 }
+
+static OPPOSITE: [Check; 2] = [
+    (Op::Put(b"x"), Op::Branches(b"y", b"y"), Ok(())),
+    (
+        Op::Put(b"x"),
+        Op::Branches(b"y", b"x"),
+        Err(Refusal::DuplicateKey),
+    ),
+];
 
 #[test]
 fn opposite_branches_may_put_one_key(rt: HostRuntime) {
-    let found = [
-        checked_branches(rt.alloc(), b"y", b"y"),
-        checked_branches(rt.alloc(), b"y", b"x"),
-    ];
-    assert_eq!(rt; found, [Ok(()), Err(Refusal::DuplicateKey)]);
+    assert_eq!(rt; first_wrong_check(rt.alloc(), OPPOSITE.as_slice()), None);
 }
+
+static OVERLAPPING: [Check; 3] = [
+    (Op::DeleteAll, Op::Put(b"a"), Err(Refusal::DuplicateKey)),
+    (Op::Put(b"a"), Op::DeleteAll, Err(Refusal::DuplicateKey)),
+    (Op::DeleteAll, Op::DeleteAll, Ok(())),
+];
 
 #[test]
 fn deletes_may_overlap(rt: HostRuntime) {
-    let found = [
-        checked(rt.alloc(), delete_all(), put(b"a", b"", false, 0)),
-        checked(rt.alloc(), put(b"a", b"", false, 0), delete_all()),
-        checked(rt.alloc(), delete_all(), delete_all()),
-    ];
-    assert_eq!(rt;
-        found,
-        [
-            Err(Refusal::DuplicateKey),
-            Err(Refusal::DuplicateKey),
-            Ok(())
-        ]
-    );
+    assert_eq!(rt; first_wrong_check(rt.alloc(), OVERLAPPING.as_slice()), None);
 }

@@ -1,26 +1,32 @@
-//! The store before its first command, and what its watches are told.
-use crate::views::crosses;
+//! The store before its first command, and what its watches are told. A test is a table of what is
+//! done with a core: no function that owns one asserts, and one function does all rows.
+use crate::fixtures::crosses;
 use bytes::Bytes;
 use kv_model::call::{Command, PutRequest, Watched};
 use kv_model::refusal::Refusal;
 use kv_model::version::{KeyRange, Rev};
 use request_core::answer::{Answer, Status};
 use request_core::store::Core;
+use std::alloc::{AllocError, Global};
 use trim_core::Trim;
 use watch_hub::Delivery;
 
-#[test]
-fn a_fresh_core(rt: HostRuntime) {
-    let core = Core::new(rt.alloc());
+fn status_and_stamp(alloc: Global) -> (Status, u64) {
+    let core = Core::new(alloc);
     let found = (core.status(), core.stamp());
     drop(core);
+    found
+}
+
+#[test]
+fn a_fresh_core(rt: HostRuntime) {
     let status = Status {
         revision: 1,
         compacted: 0,
         clock: 0,
         versions: 0,
     };
-    assert_eq!(rt; found, (status, 0));
+    assert_eq!(rt; status_and_stamp(rt.alloc()), (status, 0));
 }
 
 #[test]
@@ -56,33 +62,52 @@ fn watch_a(start: i64) -> Command {
     }
 }
 
-/// The revision after a command, the number of a watch that it made, and whether its answer has both.
+/// The revision after a command, the number of a watch that it made, and whether its answer has
+/// both.
 type Done = Result<(u64, Option<u64>, bool), Refusal>;
 
-fn done(core: &mut Core, command: Command) -> Done {
-    let found = match core.apply(&command) {
-        Ok(receipt) => {
-            let is_told = match core.answer(&receipt) {
-                Ok(
-                    Answer::Watch {
-                        revision,
-                        id,
-                        number,
-                    },
-                ) => revision == receipt.revision && id == 5 && Some(number) == receipt.watch,
-                Ok(_) => receipt.watch.is_none(),
-                Err(_) => false,
-            };
-            Ok((receipt.revision, receipt.watch, is_told))
-        }
-        Err(refusal) => Err(refusal),
+/// The revision of a watch's answer, and its numbers by the client and by the store.
+fn watch_of(answer: &Answer<'_>) -> Option<(u64, i64, u64)> {
+    match answer {
+        Answer::Watch {
+            revision,
+            id,
+            number,
+        } => Some((*revision, *id, *number)),
+        _ => None,
+    }
+}
+
+/// Whether an answer is made, and is that of the watch with a number, if there is one.
+fn is_told(answer: &Result<Answer<'_>, AllocError>, revision: u64, watch: Option<u64>) -> bool {
+    let expected = match watch {
+        Some(number) => Some((revision, 5, number)),
+        None => None,
     };
+    match answer {
+        Ok(answer) => watch_of(answer) == expected,
+        Err(_) => false,
+    }
+}
+
+fn done(core: &mut Core, command: Command) -> Done {
+    let receipt = core.apply(&command);
+    let found = match &receipt {
+        Ok(receipt) => {
+            let answer = core.answer(receipt);
+            let is = is_told(&answer, receipt.revision, receipt.watch);
+            drop(answer);
+            Ok((receipt.revision, receipt.watch, is))
+        }
+        Err(refusal) => Err(*refusal),
+    };
+    drop(receipt);
     drop(command);
     found
 }
 
-/// The main revision of the first event that a watch is told of next, and that of the key-value before it; 0 and the compaction where
-/// the watch is cancelled.
+/// The main revision of the first event that a watch is told of next, and that of the key-value
+/// before it; 0 and the compaction where the watch is cancelled.
 type Told = Result<Option<(u64, Option<u64>)>, Refusal>;
 
 fn first_of(delivery: &Delivery<'_>) -> Option<(u64, Option<u64>)> {
@@ -101,91 +126,22 @@ fn first_of(delivery: &Delivery<'_>) -> Option<(u64, Option<u64>)> {
 
 /// What a watch is told next; then it moves past that.
 fn told(core: &mut Core, number: u64) -> Told {
-    let found = match core.deliver(number) {
-        Ok(delivery) => Ok(first_of(&delivery)),
-        Err(refusal) => Err(refusal),
+    let delivery = core.deliver(number);
+    let found = match &delivery {
+        Ok(delivery) => Ok(first_of(delivery)),
+        Err(refusal) => Err(*refusal),
     };
+    drop(delivery);
     core.advance(number);
     found
 }
 
-#[test]
-fn a_core_tells_its_watches(rt: HostRuntime) {
-    let mut core = Core::new(rt.alloc());
-    let made = [
-        done(&mut core, put_a()),
-        done(&mut core, watch_a(0)),
-        done(&mut core, put_a()),
-    ];
-    let deliveries = [told(&mut core, 1), told(&mut core, 1), told(&mut core, 2)];
-    let numbers = [core.watch_id(1), core.watch_id(2)];
-    let ended = [core.cancel(1), core.cancel(1)];
-    let left = core.watch_id(1);
-    drop(core);
-    assert_eq!(rt;
-        made,
-        [
-            Ok((2, None, true)),
-            Ok((2, Some(1), true)),
-            Ok((3, None, true))
-        ]
-    );
-    assert_eq!(rt;
-        deliveries,
-        [Ok(Some((3, Some(2)))), Ok(None), Err(Refusal::NoWatch)]
-    );
-    assert_eq!(rt; ended, [Ok(()), Err(Refusal::NoWatch)]);
-    assert_eq!(rt; (numbers, left), ([Some(5), None], None));
-}
-
+/// The history up to a revision is given up.
 fn compact(revision: i64) -> Command {
     Command::Compact {
         revision,
         physical: false,
     }
-}
-
-fn three_told(core: &mut Core) -> [Told; 3] {
-    [told(core, 1), told(core, 2), told(core, 3)]
-}
-
-/// Watches of the puts 2 to 4: the first is behind the compaction, the second was told of all, and the third begins at it.
-#[test]
-fn a_core_is_compacted_between_deliveries(rt: HostRuntime) {
-    let mut core = Core::new(rt.alloc());
-    let _ = done(&mut core, put_a());
-    let _ = done(&mut core, watch_a(2));
-    let _ = done(&mut core, watch_a(0));
-    let _ = done(&mut core, put_a());
-    let _ = done(&mut core, put_a());
-    let _ = done(&mut core, watch_a(4));
-    let before = told(&mut core, 2);
-    let compacted = [done(&mut core, compact(4)), done(&mut core, compact(4))];
-    let at_compaction = three_told(&mut core);
-    let _ = done(&mut core, put_a());
-    let behind_it = three_told(&mut core);
-    drop(core);
-    assert_eq!(rt; before, Ok(Some((3, Some(2)))));
-    assert_eq!(rt;
-        compacted,
-        [Ok((4, None, true)), Err(Refusal::Compacted(4))]
-    );
-    assert_eq!(rt;
-        at_compaction,
-        [Ok(Some((0, Some(4)))), Ok(None), Ok(Some((4, None)))]
-    );
-    assert_eq!(rt;
-        behind_it,
-        [
-            Err(Refusal::NoWatch),
-            Ok(Some((5, Some(4)))),
-            Ok(Some((5, Some(4))))
-        ]
-    );
-}
-
-fn at(main: u64) -> Rev {
-    Rev { main, sub: 0 }
 }
 
 /// A step of trimming, and by how much it raised the stamp.
@@ -195,25 +151,118 @@ fn stepped(core: &mut Core) -> (Trim, u64) {
     (trim, core.stamp().wrapping_sub(before))
 }
 
+/// What is done with a core, and what it is to answer.
+#[derive(Clone, Copy)]
+enum Row {
+    /// A put of the key a.
+    Put(Done),
+    /// A watch of the key a from a revision on.
+    Watch(i64, Done),
+    Compact(i64, Done),
+    /// What a watch is told next.
+    Told(u64, Told),
+    /// The number that its client gave a watch.
+    Id(u64, Option<i64>),
+    Cancel(u64, Result<(), Refusal>),
+    /// A step of trimming.
+    Step(Trim, u64),
+    /// How many versions are kept.
+    Kept(u64),
+}
+
+fn is_so(core: &mut Core, row: Row) -> bool {
+    match row {
+        Row::Put(expected) => done(core, put_a()) == expected,
+        Row::Watch(start, expected) => done(core, watch_a(start)) == expected,
+        Row::Compact(revision, expected) => done(core, compact(revision)) == expected,
+        Row::Told(number, expected) => told(core, number) == expected,
+        Row::Id(number, expected) => core.watch_id(number) == expected,
+        Row::Cancel(number, expected) => core.cancel(number) == expected,
+        Row::Step(trim, raised) => stepped(core) == (trim, raised),
+        Row::Kept(count) => core.status().versions == count,
+    }
+}
+
+fn first_wrong(core: &mut Core, rows: &[Row]) -> Option<usize> {
+    for (place, row) in rows.iter().copied().enumerate() {
+        if !is_so(core, row) {
+            return Some(place);
+        }
+    }
+    None
+}
+
+/// The place of the first row that a fresh core answers otherwise.
+fn first_wrong_of_fresh(alloc: Global, rows: &[Row]) -> Option<usize> {
+    let mut core = Core::new(alloc);
+    let wrong = first_wrong(&mut core, rows);
+    drop(core);
+    wrong
+}
+
+const NO_WATCH: Told = Err(Refusal::NoWatch);
+
+static TOLD: [Row; 11] = [
+    Row::Put(Ok((2, None, true))),
+    Row::Watch(0, Ok((2, Some(1), true))),
+    Row::Put(Ok((3, None, true))),
+    Row::Told(1, Ok(Some((3, Some(2))))),
+    Row::Told(1, Ok(None)),
+    Row::Told(2, NO_WATCH),
+    Row::Id(1, Some(5)),
+    Row::Id(2, None),
+    Row::Cancel(1, Ok(())),
+    Row::Cancel(1, Err(Refusal::NoWatch)),
+    Row::Id(1, None),
+];
+
+#[test]
+fn a_core_tells_its_watches(rt: HostRuntime) {
+    assert_eq!(rt; first_wrong_of_fresh(rt.alloc(), TOLD.as_slice()), None);
+}
+
+/// Watches of the puts 2 to 4: the first is behind the compaction, the second was told of all, and
+/// the third begins at it.
+static COMPACTED: [Row; 16] = [
+    Row::Put(Ok((2, None, true))),
+    Row::Watch(2, Ok((2, Some(1), true))),
+    Row::Watch(0, Ok((2, Some(2), true))),
+    Row::Put(Ok((3, None, true))),
+    Row::Put(Ok((4, None, true))),
+    Row::Watch(4, Ok((4, Some(3), true))),
+    Row::Told(2, Ok(Some((3, Some(2))))),
+    Row::Compact(4, Ok((4, None, true))),
+    Row::Compact(4, Err(Refusal::Compacted(4))),
+    Row::Told(1, Ok(Some((0, Some(4))))),
+    Row::Told(2, Ok(None)),
+    Row::Told(3, Ok(Some((4, None)))),
+    Row::Put(Ok((5, None, true))),
+    Row::Told(1, NO_WATCH),
+    Row::Told(2, Ok(Some((5, Some(4))))),
+    Row::Told(3, Ok(Some((5, Some(4))))),
+];
+
+#[test]
+fn a_core_is_compacted_between_deliveries(rt: HostRuntime) {
+    assert_eq!(rt;
+        first_wrong_of_fresh(rt.alloc(), COMPACTED.as_slice()),
+        None
+    );
+}
+
+static TRIMMED: [Row; 9] = [
+    Row::Put(Ok((2, None, true))),
+    Row::Put(Ok((3, None, true))),
+    Row::Put(Ok((4, None, true))),
+    Row::Step(Trim::Done(3), 0),
+    Row::Compact(3, Ok((4, None, true))),
+    Row::Step(Trim::Removed(Rev { main: 2, sub: 0 }), 1),
+    Row::Step(Trim::Kept(Rev { main: 3, sub: 0 }), 0),
+    Row::Step(Trim::Done(2), 0),
+    Row::Kept(2),
+];
+
 #[test]
 fn a_core_is_trimmed_step_by_step(rt: HostRuntime) {
-    let mut core = Core::new(rt.alloc());
-    let _ = done(&mut core, put_a());
-    let _ = done(&mut core, put_a());
-    let _ = done(&mut core, put_a());
-    let fresh = stepped(&mut core);
-    let _ = done(&mut core, compact(3));
-    let steps = [stepped(&mut core), stepped(&mut core), stepped(&mut core)];
-    let kept = core.status().versions;
-    drop(core);
-    assert_eq!(rt; fresh, (Trim::Done(3), 0));
-    assert_eq!(rt;
-        steps,
-        [
-            (Trim::Removed(at(2)), 1),
-            (Trim::Kept(at(3)), 0),
-            (Trim::Done(2), 0)
-        ]
-    );
-    assert_eq!(rt; kept, 2);
+    assert_eq!(rt; first_wrong_of_fresh(rt.alloc(), TRIMMED.as_slice()), None);
 }

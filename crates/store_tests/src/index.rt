@@ -1,4 +1,5 @@
-//! Each call once, on three keys.
+//! Each call once, on three keys. A test is a table of what is done with an index: no function that
+//! owns one asserts, and one function does all rows.
 use crate::fixtures::{pair, tombstone};
 use bytes::Bytes;
 use key_index::{Indexed, KeyIndex};
@@ -6,9 +7,8 @@ use kv_model::version::{KeyRange, Rev};
 use std::alloc::Global;
 
 /// Notes the put or the delete of a key, where the index takes it.
-fn note(index: &mut KeyIndex, letter: &'static [u8], is_put: bool, main: u64, sub: u64) {
+fn note(index: &mut KeyIndex, letter: &'static [u8], is_put: bool, rev: Rev) {
     let key = Bytes::from_static(letter);
-    let rev = Rev { main, sub };
     if index.takes(&key, rev) {
         let _ = if is_put {
             index.put(&key, rev)
@@ -19,52 +19,18 @@ fn note(index: &mut KeyIndex, letter: &'static [u8], is_put: bool, main: u64, su
     drop(key);
 }
 
-/// a is put at 2 and 3, deleted at 4 and put again at 6.1; b is put at 5 and 6.0; c is put at 6.2.
-fn index(alloc: Global) -> KeyIndex {
-    let mut index = KeyIndex::new(alloc);
-    note(&mut index, b"a", true, 2, 0);
-    note(&mut index, b"a", true, 3, 0);
-    note(&mut index, b"a", true, 3, 0);
-    note(&mut index, b"a", false, 4, 0);
-    note(&mut index, b"b", true, 5, 0);
-    note(&mut index, b"b", true, 6, 0);
-    note(&mut index, b"a", true, 6, 1);
-    note(&mut index, b"c", true, 6, 2);
-    index
-}
-
-fn at(index: &KeyIndex, letter: &'static [u8], main: u64, sub: u64) -> Option<(u64, u64)> {
+fn at(index: &KeyIndex, letter: &'static [u8], rev: Rev) -> Option<(u64, u64)> {
     let key = Bytes::from_static(letter);
-    let found = pair(index.at(&key, Rev { main, sub }));
+    let found = index.at(&key, rev);
     drop(key);
-    found
+    pair(found)
 }
 
-#[test]
-fn finds_the_last_revision_at_a_place(rt: HostRuntime) {
-    let index = index(rt.alloc());
-    let found = [
-        at(&index, b"a", 1, 9),
-        at(&index, b"a", 2, 0),
-        at(&index, b"a", 3, 7),
-        at(&index, b"a", 5, 0),
-        at(&index, b"a", 6, 0),
-        at(&index, b"a", 6, 1),
-        at(&index, b"x", 6, 1),
-    ];
-    drop(index);
-    assert_eq!(rt;
-        found,
-        [
-            None,
-            Some((2, 0)),
-            Some((3, 0)),
-            Some((4, 0)),
-            Some((4, 0)),
-            Some((6, 1)),
-            None
-        ]
-    );
+fn after(index: &KeyIndex, letter: &'static [u8], rev: Rev) -> Option<(u64, u64)> {
+    let key = Bytes::from_static(letter);
+    let found = index.after(&key, rev);
+    drop(key);
+    pair(found)
 }
 
 fn letter(indexed: Option<&Indexed<'_>>) -> Option<u8> {
@@ -82,120 +48,14 @@ fn shown(index: &KeyIndex, from: &'static [u8], end: &'static [u8]) -> Option<Fo
         key: Bytes::from_static(from),
         end: Bytes::from_static(end),
     };
-    let found = match index.keys_in(&range) {
+    let keys = index.keys_in(&range);
+    let found = match &keys {
         Ok(keys) => Some((keys.len(), letter(keys.first()), letter(keys.last()))),
         Err(_) => None,
     };
+    drop(keys);
     drop(range);
     found
-}
-
-#[test]
-fn walks_the_four_kinds_of_range(rt: HostRuntime) {
-    let index = index(rt.alloc());
-    let found = [
-        shown(&index, b"a", b""),
-        shown(&index, b"d", b""),
-        shown(&index, b"\0", b"\0"),
-        shown(&index, b"b", b"\0"),
-        shown(&index, b"a", b"c"),
-        shown(&index, b"b", b"a"),
-        shown(&index, b"b", b"b"),
-    ];
-    drop(index);
-    assert_eq!(rt;
-        found,
-        [
-            Some((1, Some(97), Some(97))),
-            Some((0, None, None)),
-            Some((3, Some(97), Some(99))),
-            Some((2, Some(98), Some(99))),
-            Some((2, Some(97), Some(98))),
-            Some((0, None, None)),
-            Some((0, None, None))
-        ]
-    );
-}
-
-/// Takes out the changes of b, a and c at a main revision, where it is 6.
-fn retract(index: &mut KeyIndex, main: u64) {
-    let changes = [
-        tombstone(6, 0, b"b"),
-        tombstone(6, 1, b"a"),
-        tombstone(6, 2, b"c"),
-    ];
-    index.retract(main, changes.as_slice());
-}
-
-fn drop_front(index: &mut KeyIndex, letter: &'static [u8]) {
-    let key = Bytes::from_static(letter);
-    index.drop_front(&key);
-    drop(key);
-}
-
-#[test]
-fn takes_out(rt: HostRuntime) {
-    let mut index = index(rt.alloc());
-    retract(&mut index, 5);
-    let kept = at(&index, b"b", 6, 0);
-    retract(&mut index, 6);
-    let left = [
-        at(&index, b"b", 6, 0),
-        at(&index, b"a", 6, 1),
-        at(&index, b"c", 6, 2),
-    ];
-    drop_front(&mut index, b"a");
-    let dropped = [at(&index, b"a", 2, 0), at(&index, b"a", 3, 0)];
-    drop_front(&mut index, b"b");
-    drop_front(&mut index, b"b");
-    let none = at(&index, b"b", 6, 0);
-    drop(index);
-    assert_eq!(rt;
-        (kept, left, dropped, none),
-        (
-            Some((6, 0)),
-            [Some((5, 0)), Some((4, 0)), None],
-            [None, Some((3, 0))],
-            None
-        )
-    );
-}
-
-fn after(index: &KeyIndex, letter: &'static [u8], main: u64, sub: u64) -> Option<(u64, u64)> {
-    let key = Bytes::from_static(letter);
-    let found = pair(index.after(&key, Rev { main, sub }));
-    drop(key);
-    found
-}
-
-fn remove(index: &mut KeyIndex, letter: &'static [u8], main: u64, sub: u64) {
-    let key = Bytes::from_static(letter);
-    index.remove(&key, Rev { main, sub });
-    drop(key);
-}
-
-#[test]
-fn takes_out_one_revision(rt: HostRuntime) {
-    let mut index = index(rt.alloc());
-    let before = [
-        after(&index, b"a", 0, 0),
-        after(&index, b"a", 4, 0),
-        after(&index, b"a", 6, 1),
-        after(&index, b"x", 0, 0),
-    ];
-    remove(&mut index, b"a", 3, 0);
-    let second = after(&index, b"a", 2, 0);
-    remove(&mut index, b"a", 2, 0);
-    let first = after(&index, b"a", 0, 0);
-    remove(&mut index, b"a", 5, 0);
-    remove(&mut index, b"c", 6, 2);
-    let last = [after(&index, b"a", 0, 0), after(&index, b"c", 0, 0)];
-    drop(index);
-    assert_eq!(rt; before, [Some((2, 0)), Some((6, 1)), None, None]);
-    assert_eq!(rt;
-        [second, first, last[0], last[1]],
-        [Some((4, 0)), Some((4, 0)), Some((4, 0)), None]
-    );
 }
 
 /// How many revisions of a key are of an earlier main revision, and the first that is not.
@@ -214,29 +74,190 @@ fn from(index: &KeyIndex, letter: &'static [u8], main: u64) -> From {
     found
 }
 
+/// Takes out the changes of b, a and c at a main revision, where it is 6.
+fn retract(index: &mut KeyIndex, main: u64) {
+    let changes = [
+        tombstone(6, 0, b"b"),
+        tombstone(6, 1, b"a"),
+        tombstone(6, 2, b"c"),
+    ];
+    index.retract(main, changes.as_slice());
+    drop(changes);
+}
+
+fn drop_front(index: &mut KeyIndex, letter: &'static [u8]) {
+    let key = Bytes::from_static(letter);
+    index.drop_front(&key);
+    drop(key);
+}
+
+fn remove(index: &mut KeyIndex, letter: &'static [u8], rev: Rev) {
+    let key = Bytes::from_static(letter);
+    index.remove(&key, rev);
+    drop(key);
+}
+
+/// What is done with an index, and what it is to answer: of a key, at a main revision and a number
+/// within it.
+#[derive(Clone, Copy)]
+enum Row {
+    Put(&'static [u8], u64, u64),
+    Gone(&'static [u8], u64, u64),
+    /// The last revision at a place.
+    At(&'static [u8], u64, u64, Option<(u64, u64)>),
+    /// The first revision after a place.
+    After(&'static [u8], u64, u64, Option<(u64, u64)>),
+    /// The keys from one to another.
+    In(&'static [u8], &'static [u8], Found),
+    From(&'static [u8], u64, From),
+    Retract(u64),
+    DropFront(&'static [u8]),
+    Remove(&'static [u8], u64, u64),
+}
+
+fn is_so(index: &mut KeyIndex, row: Row) -> bool {
+    match row {
+        Row::Put(key, main, sub) => {
+            note(index, key, true, Rev { main, sub });
+            true
+        }
+        Row::Gone(key, main, sub) => {
+            note(index, key, false, Rev { main, sub });
+            true
+        }
+        Row::At(key, main, sub, expected) => at(index, key, Rev { main, sub }) == expected,
+        Row::After(key, main, sub, expected) => after(index, key, Rev { main, sub }) == expected,
+        Row::In(key, end, expected) => shown(index, key, end) == Some(expected),
+        Row::From(key, main, expected) => from(index, key, main) == expected,
+        Row::Retract(main) => {
+            retract(index, main);
+            true
+        }
+        Row::DropFront(key) => {
+            drop_front(index, key);
+            true
+        }
+        Row::Remove(key, main, sub) => {
+            remove(index, key, Rev { main, sub });
+            true
+        }
+    }
+}
+
+fn first_wrong(index: &mut KeyIndex, rows: &[Row]) -> Option<usize> {
+    for (place, row) in rows.iter().copied().enumerate() {
+        if !is_so(index, row) {
+            return Some(place);
+        }
+    }
+    None
+}
+
+/// a is put at 2 and 3, deleted at 4 and put again at 6.1; b is put at 5 and 6.0; c is put at 6.2.
+static FILLED: [Row; 8] = [
+    Row::Put(b"a", 2, 0),
+    Row::Put(b"a", 3, 0),
+    Row::Put(b"a", 3, 0),
+    Row::Gone(b"a", 4, 0),
+    Row::Put(b"b", 5, 0),
+    Row::Put(b"b", 6, 0),
+    Row::Put(b"a", 6, 1),
+    Row::Put(b"c", 6, 2),
+];
+
+/// The place of the first row that the index of three keys answers otherwise.
+fn first_wrong_of_three(alloc: Global, rows: &[Row]) -> Option<usize> {
+    let mut index = KeyIndex::new(alloc);
+    let _ = first_wrong(&mut index, FILLED.as_slice());
+    let wrong = first_wrong(&mut index, rows);
+    drop(index);
+    wrong
+}
+
+static PLACES: [Row; 7] = [
+    Row::At(b"a", 1, 9, None),
+    Row::At(b"a", 2, 0, Some((2, 0))),
+    Row::At(b"a", 3, 7, Some((3, 0))),
+    Row::At(b"a", 5, 0, Some((4, 0))),
+    Row::At(b"a", 6, 0, Some((4, 0))),
+    Row::At(b"a", 6, 1, Some((6, 1))),
+    Row::At(b"x", 6, 1, None),
+];
+
+#[test]
+fn finds_the_last_revision_at_a_place(rt: HostRuntime) {
+    assert_eq!(rt; first_wrong_of_three(rt.alloc(), PLACES.as_slice()), None);
+}
+
+static RANGES: [Row; 7] = [
+    Row::In(b"a", b"", (1, Some(97), Some(97))),
+    Row::In(b"d", b"", (0, None, None)),
+    Row::In(b"\0", b"\0", (3, Some(97), Some(99))),
+    Row::In(b"b", b"\0", (2, Some(98), Some(99))),
+    Row::In(b"a", b"c", (2, Some(97), Some(98))),
+    Row::In(b"b", b"a", (0, None, None)),
+    Row::In(b"b", b"b", (0, None, None)),
+];
+
+#[test]
+fn walks_the_four_kinds_of_range(rt: HostRuntime) {
+    assert_eq!(rt; first_wrong_of_three(rt.alloc(), RANGES.as_slice()), None);
+}
+
+static TAKEN_OUT: [Row; 12] = [
+    Row::Retract(5),
+    Row::At(b"b", 6, 0, Some((6, 0))),
+    Row::Retract(6),
+    Row::At(b"b", 6, 0, Some((5, 0))),
+    Row::At(b"a", 6, 1, Some((4, 0))),
+    Row::At(b"c", 6, 2, None),
+    Row::DropFront(b"a"),
+    Row::At(b"a", 2, 0, None),
+    Row::At(b"a", 3, 0, Some((3, 0))),
+    Row::DropFront(b"b"),
+    Row::DropFront(b"b"),
+    Row::At(b"b", 6, 0, None),
+];
+
+#[test]
+fn takes_out(rt: HostRuntime) {
+    assert_eq!(rt;
+        first_wrong_of_three(rt.alloc(), TAKEN_OUT.as_slice()),
+        None
+    );
+}
+
+static REMOVED: [Row; 12] = [
+    Row::After(b"a", 0, 0, Some((2, 0))),
+    Row::After(b"a", 4, 0, Some((6, 1))),
+    Row::After(b"a", 6, 1, None),
+    Row::After(b"x", 0, 0, None),
+    Row::Remove(b"a", 3, 0),
+    Row::After(b"a", 2, 0, Some((4, 0))),
+    Row::Remove(b"a", 2, 0),
+    Row::After(b"a", 0, 0, Some((4, 0))),
+    Row::Remove(b"a", 5, 0),
+    Row::Remove(b"c", 6, 2),
+    Row::After(b"a", 0, 0, Some((4, 0))),
+    Row::After(b"c", 0, 0, None),
+];
+
+#[test]
+fn takes_out_one_revision(rt: HostRuntime) {
+    assert_eq!(rt; first_wrong_of_three(rt.alloc(), REMOVED.as_slice()), None);
+}
+
+static LISTED: [Row; 7] = [
+    Row::From(b"a", 0, Some((0, Some((2, 0))))),
+    Row::From(b"a", 3, Some((1, Some((3, 0))))),
+    Row::From(b"a", 5, Some((3, Some((6, 1))))),
+    Row::From(b"a", 7, Some((4, None))),
+    Row::From(b"c", 6, Some((0, Some((6, 2))))),
+    Row::From(b"c", 7, Some((1, None))),
+    Row::From(b"x", 0, None),
+];
+
 #[test]
 fn lists_the_revisions_of_a_key(rt: HostRuntime) {
-    let index = index(rt.alloc());
-    let found = [
-        from(&index, b"a", 0),
-        from(&index, b"a", 3),
-        from(&index, b"a", 5),
-        from(&index, b"a", 7),
-        from(&index, b"c", 6),
-        from(&index, b"c", 7),
-        from(&index, b"x", 0),
-    ];
-    drop(index);
-    assert_eq!(rt;
-        found,
-        [
-            Some((0, Some((2, 0)))),
-            Some((1, Some((3, 0)))),
-            Some((3, Some((6, 1)))),
-            Some((4, None)),
-            Some((0, Some((6, 2)))),
-            Some((1, None)),
-            None
-        ]
-    );
+    assert_eq!(rt; first_wrong_of_three(rt.alloc(), LISTED.as_slice()), None);
 }

@@ -1,4 +1,5 @@
-//! The index of the keys of each lease, each call once.
+//! The index of the keys of each lease, each call once. A test is a table of what is done with an
+//! index: no function that owns one asserts, and one function does all rows.
 use crate::fixtures::tombstone;
 use bytes::Bytes;
 use kv_model::version::{Body, Rev, Version};
@@ -9,13 +10,21 @@ use std::alloc::{AllocError, Global};
 /// How many keys a lease has, and the first byte of the first of them.
 type Keys = Result<(usize, Option<u8>), AllocError>;
 
-fn seen(index: &LeaseKeys, lease: i64) -> Keys {
-    let keys = index.keys_of(lease)?;
-    let first = match keys.first() {
+fn first(keys: &[&Bytes]) -> Option<u8> {
+    match keys.first() {
         Some(key) => key.as_slice().first().copied(),
         None => None,
+    }
+}
+
+fn seen(index: &LeaseKeys, lease: i64) -> Keys {
+    let keys = index.keys_of(lease);
+    let found = match &keys {
+        Ok(keys) => Ok((keys.len(), first(keys.as_slice()))),
+        Err(_) => Err(AllocError),
     };
-    Ok((keys.len(), first))
+    drop(keys);
+    found
 }
 
 fn add(index: &mut LeaseKeys, lease: i64, letter: &'static [u8]) {
@@ -24,25 +33,10 @@ fn add(index: &mut LeaseKeys, lease: i64, letter: &'static [u8]) {
     drop(key);
 }
 
-#[test]
-fn keys_stand_with_their_lease(rt: HostRuntime) {
-    let mut index = LeaseKeys::new(rt.alloc());
-    add(&mut index, 7, b"b");
-    add(&mut index, 7, b"a");
-    add(&mut index, -2, b"b");
-    add(&mut index, 7, b"b");
-    let before = [seen(&index, 7), seen(&index, -2)];
-    index.forget(7);
-    index.forget(8);
-    let after = [seen(&index, 7), seen(&index, -2)];
-    drop(index);
-    assert_eq!(rt;
-        [before, after],
-        [
-            [Ok((2, Some(97))), Ok((1, Some(98)))],
-            [Ok((0, None)), Ok((1, Some(98)))]
-        ]
-    );
+fn remove(index: &mut LeaseKeys, lease: i64, letter: &'static [u8]) {
+    let key = Bytes::from_static(letter);
+    index.remove(lease, &key);
+    drop(key);
 }
 
 /// The put of a key at revision 2.
@@ -59,49 +53,11 @@ fn put(sub: u64, letter: &'static [u8], lease: i64) -> Version {
     }
 }
 
-fn add_three(index: &mut LeaseKeys) -> Result<(), AllocError> {
+fn add_three(index: &mut LeaseKeys) -> bool {
     let versions = [put(0, b"c", 5), put(1, b"b", 0), tombstone(2, 2, b"a")];
     let added = index.add_all(versions.as_slice());
-    added
-}
-
-#[test]
-fn puts_under_a_lease_are_added(rt: HostRuntime) {
-    let mut index = LeaseKeys::new(rt.alloc());
-    let added = add_three(&mut index);
-    let found = [seen(&index, 5), seen(&index, 0)];
-    drop(index);
-    assert_eq!(rt;
-        (added, found),
-        (Ok(()), [Ok((1, Some(99))), Ok((0, None))])
-    );
-}
-
-fn remove(index: &mut LeaseKeys, lease: i64, letter: &'static [u8]) {
-    let key = Bytes::from_static(letter);
-    index.remove(lease, &key);
-    drop(key);
-}
-
-#[test]
-fn keys_are_taken_out_of_a_lease(rt: HostRuntime) {
-    let mut index = LeaseKeys::new(rt.alloc());
-    add(&mut index, 7, b"b");
-    add(&mut index, 7, b"a");
-    add(&mut index, -2, b"b");
-    remove(&mut index, 7, b"a");
-    remove(&mut index, 7, b"c");
-    remove(&mut index, 8, b"b");
-    remove(&mut index, -2, b"b");
-    let left = [seen(&index, 7), seen(&index, -2)];
-    remove(&mut index, 7, b"b");
-    add(&mut index, 7, b"d");
-    let anew = seen(&index, 7);
-    drop(index);
-    assert_eq!(rt;
-        (left, anew),
-        ([Ok((1, Some(98))), Ok((0, None))], Ok((1, Some(100))))
-    );
+    drop(versions);
+    added.is_ok()
 }
 
 /// A table with one put, of the key a under the lease 7.
@@ -115,28 +71,124 @@ fn one_put(alloc: Global) -> Tables {
     tables
 }
 
+/// What is done with an index, and what it is to answer.
+#[derive(Clone, Copy)]
+enum Row {
+    Add(i64, &'static [u8]),
+    /// The puts of c under the lease 5 and of b under none, and a tombstone of a.
+    AddThree,
+    Remove(i64, &'static [u8]),
+    Forget(i64),
+    /// A put of a key, by its number in the revision and under a lease, that is kept no more.
+    PutGone(u64, &'static [u8], i64),
+    /// A tombstone that is kept no more.
+    TombstoneGone(u64, &'static [u8]),
+    Keys(i64, Keys),
+}
+
 fn drop_unused(index: &mut LeaseKeys, tables: &Tables, version: Version) {
     index.drop_unused(&tables.view(), &version);
     drop(version);
 }
 
-#[test]
-fn pairs_that_no_key_needs_are_dropped(rt: HostRuntime) {
-    let alloc = rt.alloc();
+fn is_so(index: &mut LeaseKeys, tables: &Tables, row: Row) -> bool {
+    match row {
+        Row::Add(lease, key) => add(index, lease, key),
+        Row::AddThree => return add_three(index),
+        Row::Remove(lease, key) => remove(index, lease, key),
+        Row::Forget(lease) => index.forget(lease),
+        Row::PutGone(sub, key, lease) => drop_unused(index, tables, put(sub, key, lease)),
+        Row::TombstoneGone(sub, key) => drop_unused(index, tables, tombstone(2, sub, key)),
+        Row::Keys(lease, expected) => return seen(index, lease) == expected,
+    }
+    true
+}
+
+fn first_wrong(index: &mut LeaseKeys, tables: &Tables, rows: &[Row]) -> Option<usize> {
+    for (place, row) in rows.iter().copied().enumerate() {
+        if !is_so(index, tables, row) {
+            return Some(place);
+        }
+    }
+    None
+}
+
+/// The place of the first row that a fresh index answers otherwise, beside a table with one put.
+fn first_wrong_of_fresh(alloc: Global, rows: &[Row]) -> Option<usize> {
     let tables = one_put(alloc);
     let mut index = LeaseKeys::new(alloc);
-    add(&mut index, 7, b"a");
-    add(&mut index, 8, b"a");
-    add(&mut index, 9, b"b");
-    drop_unused(&mut index, &tables, put(0, b"a", 7));
-    drop_unused(&mut index, &tables, put(0, b"a", 8));
-    drop_unused(&mut index, &tables, put(1, b"b", 0));
-    drop_unused(&mut index, &tables, tombstone(2, 1, b"b"));
-    drop(tables);
-    let found = [seen(&index, 7), seen(&index, 8), seen(&index, 9)];
+    let wrong = first_wrong(&mut index, &tables, rows);
     drop(index);
+    drop(tables);
+    wrong
+}
+
+static FORGOTTEN: [Row; 10] = [
+    Row::Add(7, b"b"),
+    Row::Add(7, b"a"),
+    Row::Add(-2, b"b"),
+    Row::Add(7, b"b"),
+    Row::Keys(7, Ok((2, Some(97)))),
+    Row::Keys(-2, Ok((1, Some(98)))),
+    Row::Forget(7),
+    Row::Forget(8),
+    Row::Keys(7, Ok((0, None))),
+    Row::Keys(-2, Ok((1, Some(98)))),
+];
+
+#[test]
+fn keys_stand_with_their_lease(rt: HostRuntime) {
     assert_eq!(rt;
-        found,
-        [Ok((1, Some(97))), Ok((0, None)), Ok((1, Some(98)))]
+        first_wrong_of_fresh(rt.alloc(), FORGOTTEN.as_slice()),
+        None
     );
+}
+
+static PUTS: [Row; 3] = [
+    Row::AddThree,
+    Row::Keys(5, Ok((1, Some(99)))),
+    Row::Keys(0, Ok((0, None))),
+];
+
+#[test]
+fn puts_under_a_lease_are_added(rt: HostRuntime) {
+    assert_eq!(rt; first_wrong_of_fresh(rt.alloc(), PUTS.as_slice()), None);
+}
+
+static REMOVED: [Row; 12] = [
+    Row::Add(7, b"b"),
+    Row::Add(7, b"a"),
+    Row::Add(-2, b"b"),
+    Row::Remove(7, b"a"),
+    Row::Remove(7, b"c"),
+    Row::Remove(8, b"b"),
+    Row::Remove(-2, b"b"),
+    Row::Keys(7, Ok((1, Some(98)))),
+    Row::Keys(-2, Ok((0, None))),
+    Row::Remove(7, b"b"),
+    Row::Add(7, b"d"),
+    Row::Keys(7, Ok((1, Some(100)))),
+];
+
+#[test]
+fn keys_are_taken_out_of_a_lease(rt: HostRuntime) {
+    assert_eq!(rt; first_wrong_of_fresh(rt.alloc(), REMOVED.as_slice()), None);
+}
+
+static UNUSED: [Row; 10] = [
+    Row::Add(7, b"a"),
+    Row::Add(8, b"a"),
+    Row::Add(9, b"b"),
+    Row::PutGone(0, b"a", 7),
+    Row::PutGone(0, b"a", 8),
+    Row::PutGone(1, b"b", 0),
+    Row::TombstoneGone(1, b"b"),
+    Row::Keys(7, Ok((1, Some(97)))),
+    Row::Keys(8, Ok((0, None))),
+    Row::Keys(9, Ok((1, Some(98)))),
+];
+
+#[test]
+fn pairs_that_no_key_needs_are_dropped(rt: HostRuntime) {
+    assert_eq!(rt; first_wrong_of_fresh(rt.alloc(), UNUSED.as_slice()), None);
 }

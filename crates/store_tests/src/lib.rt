@@ -1,5 +1,6 @@
-//! The public calls of the store's libraries, each once on its happy path, with ample memory: what no clause can say of them. They stand
-//! in one crate above, for the tests of a crate have it proved once more. It has nothing but tests.
+//! The public calls of the store's libraries, each once on its happy path, with ample memory: what
+//! no clause can say of them. They stand in one crate above, for the tests of a crate have it
+//! proved once more. It has nothing but tests.
 #![tactic(auto)]
 
 #[cfg(test)]

@@ -1,27 +1,31 @@
-//! Each call once, on a table of five versions.
+//! Each call once, on a table of five versions. A test is a table of what is done with one: no
+//! function that owns one asserts, and one function does all rows, those of `pages` too.
 use crate::fixtures::{pair, tombstone};
 use kv_model::version::{Rev, Version};
 use std::alloc::Global;
-use version_table::VersionTable;
+use version_table::{VersionTable, Versions};
 
 /// Adds a tombstone, where the table takes it.
-fn push(table: &mut VersionTable, main: u64, sub: u64) {
-    let version = tombstone(main, sub, b"a");
+fn push(table: &mut VersionTable, rev: Rev) {
+    let version = tombstone(rev.main, rev.sub, b"a");
     if table.takes(version.rev) {
         let _ = table.push(version);
     }
 }
 
-/// A table of the revisions, as far as they rise.
-fn table(alloc: Global, revs: &[(u64, u64)]) -> VersionTable {
-    let mut table = VersionTable::new(alloc);
-    for (main, sub) in revs.iter().copied() {
-        push(&mut table, main, sub);
+/// Adds a tombstone for each of the main revisions from 2 up to the one before an end.
+fn push_below(table: &mut VersionTable, end: u64) {
+    for main in 2..end {
+        push(table, Rev { main, sub: 0 });
     }
-    table
 }
 
-const FIVE: [(u64, u64); 5] = [(2, 0), (3, 0), (3, 1), (5, 0), (5, 1)];
+/// Takes out each of the main revisions from 2 up to the one before an end.
+fn remove_below(table: &mut VersionTable, end: u64) {
+    for main in 2..end {
+        table.remove(Rev { main, sub: 0 });
+    }
+}
 
 fn place(version: Option<&Version>) -> Option<(u64, u64)> {
     match version {
@@ -30,77 +34,165 @@ fn place(version: Option<&Version>) -> Option<(u64, u64)> {
     }
 }
 
+/// How many versions a walk has left, one after another.
+fn count(walk: Versions<'_>) -> usize {
+    let mut walk = walk;
+    let mut count: usize = 0;
+    for _ in 0..1_100 {
+        if walk.next().is_some() {
+            count = count.saturating_add(1);
+        }
+    }
+    count
+}
+
+/// How many slices a walk has left.
+fn slices(walk: Versions<'_>) -> usize {
+    let mut walk = walk;
+    let mut count: usize = 0;
+    for _ in 0..1_100 {
+        if walk.next_slice().is_some() {
+            count = count.saturating_add(1);
+        }
+    }
+    count
+}
+
+/// What is done with a table, and what it is to answer.
+#[derive(Clone, Copy)]
+pub(crate) enum Row {
+    Push(u64, u64),
+    PushBelow(u64),
+    Remove(u64, u64),
+    RemoveBelow(u64),
+    Takes(u64, u64, bool),
+    Get(u64, u64, Option<(u64, u64)>),
+    NextFrom(u64, u64, Option<(u64, u64)>),
+    Newest(Option<(u64, u64)>),
+    IsEmpty(bool),
+    /// How many versions there are.
+    Len(usize),
+    Pages(usize),
+    /// How many versions a walk over all has, and how many slices.
+    Walk(usize, usize),
+    /// How many versions a walk from a main revision has.
+    WalkFrom(u64, usize),
+}
+
+fn is_so(table: &mut VersionTable, row: Row) -> bool {
+    match row {
+        Row::Push(main, sub) => push(table, Rev { main, sub }),
+        Row::PushBelow(end) => push_below(table, end),
+        Row::Remove(main, sub) => table.remove(Rev { main, sub }),
+        Row::RemoveBelow(end) => remove_below(table, end),
+        _ => return is_told(table, row),
+    }
+    true
+}
+
+fn is_told(table: &VersionTable, row: Row) -> bool {
+    match row {
+        Row::Takes(main, sub, expected) => table.takes(Rev { main, sub }) == expected,
+        Row::Get(main, sub, expected) => place(table.get(Rev { main, sub })) == expected,
+        Row::NextFrom(main, sub, expected) => pair(table.next_from(Rev { main, sub })) == expected,
+        Row::Newest(expected) => place(table.newest()) == expected,
+        Row::IsEmpty(expected) => table.is_empty() == expected,
+        Row::Len(expected) => table.len() == expected,
+        Row::Pages(expected) => table.pages() == expected,
+        Row::Walk(all, most) => {
+            count(table.versions()) == all && slices(table.versions()) == most
+        }
+        Row::WalkFrom(main, expected) => {
+            count(table.versions_from(Rev { main, sub: 0 })) == expected
+        }
+        _ => false,
+    }
+}
+
+fn first_wrong(table: &mut VersionTable, rows: &[Row]) -> Option<usize> {
+    for (place, row) in rows.iter().copied().enumerate() {
+        if !is_so(table, row) {
+            return Some(place);
+        }
+    }
+    None
+}
+
+/// The place of the first row that a fresh table answers otherwise.
+pub(crate) fn first_wrong_of_fresh(alloc: Global, rows: &[Row]) -> Option<usize> {
+    let mut table = VersionTable::new(alloc);
+    let wrong = first_wrong(&mut table, rows);
+    drop(table);
+    wrong
+}
+
+static GROWN: [Row; 13] = [
+    Row::IsEmpty(true),
+    Row::Push(2, 0),
+    Row::Push(2, 0),
+    Row::Push(3, 0),
+    Row::Push(2, 7),
+    Row::Push(3, 1),
+    Row::Push(5, 0),
+    Row::Push(5, 1),
+    Row::IsEmpty(false),
+    Row::Takes(5, 2, true),
+    Row::Takes(5, 1, false),
+    Row::Len(5),
+    Row::Newest(Some((5, 1))),
+];
+
 #[test]
 fn grows_at_its_end_alone(rt: HostRuntime) {
-    let fresh = VersionTable::new(rt.alloc());
-    let is_empty = fresh.is_empty();
-    drop(fresh);
-    let table = table(
-        rt.alloc(),
-        &[(2, 0), (2, 0), (3, 0), (2, 7), (3, 1), (5, 0), (5, 1)],
-    );
-    let is = [
-        is_empty,
-        table.is_empty(),
-        table.takes(Rev { main: 5, sub: 2 }),
-        table.takes(Rev { main: 5, sub: 1 }),
-    ];
-    let found = (is, table.len(), place(table.newest()));
-    drop(table);
-    assert_eq!(rt; found, ([true, false, true, false], 5, Some((5, 1))));
+    assert_eq!(rt; first_wrong_of_fresh(rt.alloc(), GROWN.as_slice()), None);
 }
 
-fn get(table: &VersionTable, main: u64, sub: u64) -> Option<(u64, u64)> {
-    place(table.get(Rev { main, sub }))
-}
-
-fn next_from(table: &VersionTable, main: u64, sub: u64) -> Option<(u64, u64)> {
-    pair(table.next_from(Rev { main, sub }))
-}
+static FOUND: [Row; 16] = [
+    Row::Push(2, 0),
+    Row::Push(3, 0),
+    Row::Push(3, 1),
+    Row::Push(5, 0),
+    Row::Push(5, 1),
+    Row::Get(2, 0, Some((2, 0))),
+    Row::Get(3, 0, Some((3, 0))),
+    Row::Get(3, 1, Some((3, 1))),
+    Row::Get(5, 0, Some((5, 0))),
+    Row::Get(5, 1, Some((5, 1))),
+    Row::Get(3, 2, None),
+    Row::Get(6, 0, None),
+    Row::NextFrom(0, 0, Some((2, 0))),
+    Row::NextFrom(3, 1, Some((3, 1))),
+    Row::NextFrom(3, 2, Some((5, 0))),
+    Row::NextFrom(5, 2, None),
+];
 
 #[test]
 fn finds_by_revision(rt: HostRuntime) {
-    let table = table(rt.alloc(), FIVE.as_slice());
-    let there = [
-        get(&table, 2, 0),
-        get(&table, 3, 0),
-        get(&table, 3, 1),
-        get(&table, 5, 0),
-        get(&table, 5, 1),
-    ];
-    let not = [get(&table, 3, 2), get(&table, 6, 0)];
-    let next = [
-        next_from(&table, 0, 0),
-        next_from(&table, 3, 1),
-        next_from(&table, 3, 2),
-        next_from(&table, 5, 2),
-    ];
-    drop(table);
-    assert_eq!(rt;
-        there,
-        [
-            Some((2, 0)),
-            Some((3, 0)),
-            Some((3, 1)),
-            Some((5, 0)),
-            Some((5, 1))
-        ]
-    );
-    assert_eq!(rt; not, [None, None]);
-    assert_eq!(rt; next, [Some((2, 0)), Some((3, 1)), Some((5, 0)), None]);
+    assert_eq!(rt; first_wrong_of_fresh(rt.alloc(), FOUND.as_slice()), None);
 }
+
+static TAKEN_OUT: [Row; 15] = [
+    Row::Push(2, 0),
+    Row::Push(3, 0),
+    Row::Push(3, 1),
+    Row::Push(5, 0),
+    Row::Push(5, 1),
+    Row::Remove(3, 0),
+    Row::Remove(4, 0),
+    Row::Len(4),
+    Row::NextFrom(3, 0, Some((3, 1))),
+    Row::Remove(2, 0),
+    Row::Remove(3, 0),
+    Row::Remove(3, 1),
+    Row::Remove(5, 0),
+    Row::Remove(5, 1),
+    Row::IsEmpty(true),
+];
 
 #[test]
 fn takes_out(rt: HostRuntime) {
-    let mut table = table(rt.alloc(), FIVE.as_slice());
-    table.remove(Rev { main: 3, sub: 0 });
-    table.remove(Rev { main: 4, sub: 0 });
-    let one_less = table.len();
-    let next = next_from(&table, 3, 0);
-    for (main, sub) in FIVE.iter().copied() {
-        table.remove(Rev { main, sub });
-    }
-    let is_empty = table.is_empty();
-    drop(table);
-    assert_eq!(rt; (one_less, next, is_empty), (4, Some((3, 1)), true));
+    assert_eq!(rt;
+        first_wrong_of_fresh(rt.alloc(), TAKEN_OUT.as_slice()),
+        None
+    );
 }

@@ -1,89 +1,139 @@
-//! Trimming, on the worked rows of compaction.
-use crate::fixtures::{Change, fill};
+//! Trimming, on the worked rows of compaction. A test is a table of what is done with the tables of
+//! a store: no function that owns them asserts, and one function does all rows.
+use crate::fixtures::{append, tombstone, version};
 use kv_model::version::Rev;
 use range_view::Tables;
+use std::alloc::Global;
 use trim_core::{Trim, Trimmer};
 
-/// A put of a and its tombstone.
-const PUT_AND_GONE: [Change; 2] = [(2, b"a", b"1", 2, 1), (3, b"a", b"", 0, 0)];
-
-/// A put of b after them.
-const NEXT: [Change; 1] = [(4, b"b", b"1", 4, 1)];
-
-fn at(main: u64) -> Rev {
-    Rev { main, sub: 0 }
+/// What is done with tables, and what they are to answer.
+#[derive(Clone, Copy)]
+enum Row {
+    /// The put of a key at a revision, where it is the next one.
+    Put(u64, &'static [u8]),
+    /// The tombstone of a key, where it is the next one.
+    Gone(u64, &'static [u8]),
+    /// Puts of a at each of the revisions from 2 up to the one before an end.
+    PutsBelow(u64),
+    Compact(u64),
+    Step(Trim),
+    /// So many steps, and the last of them.
+    Steps(u64, Trim),
+    /// How many versions and pages there are.
+    Kept(usize, usize),
 }
 
-fn two_steps(tables: &mut Tables) -> [Trim; 2] {
-    [tables.trim_step(), tables.trim_step()]
+fn put(alloc: Global, tables: &mut Tables, main: u64, key: &'static [u8]) {
+    append(alloc, tables, version((main, key, b"1", main, 1)));
 }
 
-fn six_steps(tables: &mut Tables) -> [[Trim; 2]; 3] {
-    [two_steps(tables), two_steps(tables), two_steps(tables)]
+fn put_below(alloc: Global, tables: &mut Tables, end: u64) {
+    for main in 2..end {
+        put(alloc, tables, main, b"a");
+    }
 }
+
+fn last_of(tables: &mut Tables, count: u64) -> Trim {
+    let mut last = tables.trim_step();
+    for _ in 1..count {
+        last = tables.trim_step();
+    }
+    last
+}
+
+fn is_so(alloc: Global, tables: &mut Tables, row: Row) -> bool {
+    match row {
+        Row::Put(main, key) => put(alloc, tables, main, key),
+        Row::Gone(main, key) => append(alloc, tables, tombstone(main, 0, key)),
+        Row::PutsBelow(end) => put_below(alloc, tables, end),
+        Row::Compact(revision) => tables.compact(revision),
+        Row::Step(expected) => return tables.trim_step() == expected,
+        Row::Steps(count, expected) => return last_of(tables, count) == expected,
+        Row::Kept(count, pages) => return (tables.count(), tables.pages()) == (count, pages),
+    }
+    true
+}
+
+fn first_wrong(alloc: Global, tables: &mut Tables, rows: &[Row]) -> Option<usize> {
+    for (place, row) in rows.iter().copied().enumerate() {
+        if !is_so(alloc, tables, row) {
+            return Some(place);
+        }
+    }
+    None
+}
+
+/// The place of the first row that fresh tables answer otherwise.
+fn first_wrong_of_fresh(alloc: Global, rows: &[Row]) -> Option<usize> {
+    let mut tables = Tables::new(alloc);
+    let wrong = first_wrong(alloc, &mut tables, rows);
+    drop(tables);
+    wrong
+}
+
+/// A put of a, its tombstone, and a put of b after them.
+static TAKEN_OUT: [Row; 12] = [
+    Row::Step(Trim::Done(0)),
+    Row::Put(2, b"a"),
+    Row::Gone(3, b"a"),
+    Row::Put(4, b"b"),
+    Row::Step(Trim::Done(3)),
+    Row::Compact(4),
+    Row::Step(Trim::Removed(Rev { main: 2, sub: 0 })),
+    Row::Step(Trim::Removed(Rev { main: 3, sub: 0 })),
+    Row::Step(Trim::Kept(Rev { main: 4, sub: 0 })),
+    Row::Step(Trim::Done(1)),
+    Row::Step(Trim::Done(1)),
+    Row::Step(Trim::Done(1)),
+];
 
 #[test]
 fn takes_out_a_put_and_its_tombstone(rt: HostRuntime) {
-    let mut tables = Tables::new(rt.alloc());
-    let fresh = tables.trim_step();
-    fill(rt.alloc(), &mut tables, PUT_AND_GONE.as_slice());
-    fill(rt.alloc(), &mut tables, NEXT.as_slice());
-    let filled = tables.trim_step();
-    tables.compact(4);
-    let steps = six_steps(&mut tables);
-    drop(tables);
-    assert_eq!(rt; [fresh, filled], [Trim::Done(0), Trim::Done(3)]);
     assert_eq!(rt;
-        steps,
-        [
-            [Trim::Removed(at(2)), Trim::Removed(at(3))],
-            [Trim::Kept(at(4)), Trim::Done(1)],
-            [Trim::Done(1), Trim::Done(1)]
-        ]
+        first_wrong_of_fresh(rt.alloc(), TAKEN_OUT.as_slice()),
+        None
     );
 }
+
+static KEPT: [Row; 7] = [
+    Row::Put(2, b"a"),
+    Row::Gone(3, b"a"),
+    Row::Compact(3),
+    Row::Step(Trim::Removed(Rev { main: 2, sub: 0 })),
+    Row::Step(Trim::Kept(Rev { main: 3, sub: 0 })),
+    Row::Step(Trim::Done(1)),
+    Row::Step(Trim::Done(1)),
+];
 
 #[test]
 fn keeps_a_tombstone_at_the_compaction(rt: HostRuntime) {
-    let mut tables = Tables::new(rt.alloc());
-    fill(rt.alloc(), &mut tables, PUT_AND_GONE.as_slice());
-    tables.compact(3);
-    let steps = [two_steps(&mut tables), two_steps(&mut tables)];
-    drop(tables);
-    assert_eq!(rt;
-        steps,
-        [
-            [Trim::Removed(at(2)), Trim::Kept(at(3))],
-            [Trim::Done(1), Trim::Done(1)]
-        ]
-    );
+    assert_eq!(rt; first_wrong_of_fresh(rt.alloc(), KEPT.as_slice()), None);
 }
+
+static BEGUN_AGAIN: [Row; 16] = [
+    Row::Put(2, b"a"),
+    Row::Put(3, b"a"),
+    Row::Put(4, b"b"),
+    Row::Put(5, b"a"),
+    Row::Compact(4),
+    Row::Step(Trim::Removed(Rev { main: 2, sub: 0 })),
+    Row::Step(Trim::Kept(Rev { main: 3, sub: 0 })),
+    Row::Gone(6, b"b"),
+    Row::Put(7, b"a"),
+    Row::Compact(7),
+    Row::Step(Trim::Removed(Rev { main: 3, sub: 0 })),
+    Row::Step(Trim::Removed(Rev { main: 4, sub: 0 })),
+    Row::Step(Trim::Removed(Rev { main: 5, sub: 0 })),
+    Row::Step(Trim::Removed(Rev { main: 6, sub: 0 })),
+    Row::Step(Trim::Kept(Rev { main: 7, sub: 0 })),
+    Row::Step(Trim::Done(1)),
+];
 
 #[test]
 fn begins_again_at_a_later_compaction(rt: HostRuntime) {
-    let mut tables = Tables::new(rt.alloc());
-    let first: [Change; 4] = [
-        (2, b"a", b"1", 2, 1),
-        (3, b"a", b"1", 3, 1),
-        (4, b"b", b"1", 4, 1),
-        (5, b"a", b"1", 5, 1),
-    ];
-    let second: [Change; 2] = [(6, b"b", b"", 0, 0), (7, b"a", b"1", 7, 1)];
-    fill(rt.alloc(), &mut tables, first.as_slice());
-    tables.compact(4);
-    let begun = two_steps(&mut tables);
-    fill(rt.alloc(), &mut tables, second.as_slice());
-    tables.compact(7);
-    let again = six_steps(&mut tables);
-    drop(tables);
-    assert_eq!(rt; begun, [Trim::Removed(at(2)), Trim::Kept(at(3))]);
     assert_eq!(rt;
-        again,
-        [
-            [Trim::Removed(at(3)), Trim::Removed(at(4))],
-            [Trim::Removed(at(5)), Trim::Removed(at(6))],
-            [Trim::Kept(at(7)), Trim::Done(1)]
-        ]
+        first_wrong_of_fresh(rt.alloc(), BEGUN_AGAIN.as_slice()),
+        None
     );
 }
 
@@ -98,27 +148,18 @@ fn begins_at_the_oldest_place(rt: HostRuntime) {
     assert_eq!(rt; [first, again], [oldest, oldest]);
 }
 
-fn put_at(main: u64, key: &'static [u8]) -> [Change; 1] {
-    [(main, key, b"1", main, 1)]
-}
-
 /// 1,024 puts of a, at the revisions from 2 to 1025, and one of b fill five pages. The last put of
 /// each is left, on two.
+static PAGES: [Row; 6] = [
+    Row::PutsBelow(1_026),
+    Row::Put(1_026, b"b"),
+    Row::Kept(1_025, 5),
+    Row::Compact(1_026),
+    Row::Steps(1_026, Trim::Done(2)),
+    Row::Kept(2, 2),
+];
+
 #[test]
 fn frees_the_pages_that_it_empties(rt: HostRuntime) {
-    let alloc = rt.alloc();
-    let mut tables = Tables::new(alloc);
-    for main in 2..1_026 {
-        fill(alloc, &mut tables, put_at(main, b"a").as_slice());
-    }
-    fill(alloc, &mut tables, put_at(1_026, b"b").as_slice());
-    let full = (tables.count(), tables.pages());
-    tables.compact(1_026);
-    let mut last = tables.trim_step();
-    for _ in 0..1_025 {
-        last = tables.trim_step();
-    }
-    let left = (tables.count(), tables.pages());
-    drop(tables);
-    assert_eq!(rt; (full, left, last), ((1_025, 5), (2, 2), Trim::Done(2)));
+    assert_eq!(rt; first_wrong_of_fresh(rt.alloc(), PAGES.as_slice()), None);
 }

@@ -1,4 +1,5 @@
-//! Watches of one key, made, told of and ended.
+//! Watches of one key, made, told of and ended. A test is a table of what is done with a hub: no
+//! function that owns one asserts, and one function does all rows.
 use crate::fixtures::{Change, fill, version};
 use bytes::Bytes;
 use kv_model::call::Watched;
@@ -6,10 +7,10 @@ use kv_model::refusal::Refusal;
 use kv_model::version::KeyRange;
 use range_view::Tables;
 use std::alloc::Global;
-use watch_hub::{Delivery, WatchHub};
+use watch_hub::{Delivery, Event, WatchHub};
 
 /// Puts of the key a.
-const PUTS: [Change; 3] = [
+static PUTS: [Change; 3] = [
     (2, b"a", b"", 2, 1),
     (3, b"a", b"", 2, 1),
     (4, b"a", b"", 2, 1),
@@ -38,6 +39,7 @@ fn watch(hub: &mut WatchHub, tables: &Tables, start: i64) -> Result<u64, Refusal
 fn note(hub: &mut WatchHub) {
     let versions = [version((5, b"a", b"", 2, 1))];
     hub.note(versions.as_slice(), 5);
+    drop(versions);
 }
 
 type Waiting = Result<Option<u64>, Refusal>;
@@ -49,86 +51,134 @@ fn first(hub: &WatchHub, number: u64) -> Waiting {
     }
 }
 
-fn firsts(hub: &WatchHub) -> [Waiting; 3] {
-    [first(hub, 1), first(hub, 2), first(hub, 3)]
-}
-
-#[test]
-fn watches_wait_for_what_they_match(rt: HostRuntime) {
-    let mut tables = Tables::new(rt.alloc());
-    fill(rt.alloc(), &mut tables, PUTS.as_slice());
-    let mut hub = WatchHub::new(rt.alloc());
-    let made = [
-        watch(&mut hub, &tables, 0),
-        watch(&mut hub, &tables, 3),
-        watch(&mut hub, &tables, 6),
-    ];
-    note(&mut hub);
-    let noted = firsts(&hub);
-    hub.advance(&tables, 2, 3);
-    let advanced = firsts(&hub);
-    let canceled = [hub.cancel(1), hub.cancel(1)];
-    let left = firsts(&hub);
-    drop(hub);
-    drop(tables);
-    assert_eq!(rt; made, [Ok(1), Ok(2), Ok(3)]);
-    assert_eq!(rt; canceled, [Ok(()), Err(Refusal::NoWatch)]);
-    assert_eq!(rt;
-        [noted, advanced, left],
-        [
-            [Ok(Some(5)), Ok(Some(3)), Ok(None)],
-            [Ok(Some(5)), Ok(Some(4)), Ok(None)],
-            [Err(Refusal::NoWatch), Ok(Some(4)), Ok(None)]
-        ]
-    );
-}
-
 /// Of the first two versions that a watch is told of next the main revisions, and those of the
 /// key-values before them; 0 for no version.
 type Told = Result<[(u64, Option<u64>); 2], Refusal>;
 
+fn of_event(event: Option<&Event<'_>>) -> (u64, Option<u64>) {
+    match event {
+        Some(event) => match event.previous {
+            Some(kv) => (event.version.rev.main, Some(kv.modified)),
+            None => (event.version.rev.main, None),
+        },
+        None => (0, None),
+    }
+}
+
+fn first_two(delivery: &Delivery<'_>) -> [(u64, Option<u64>); 2] {
+    match delivery {
+        Delivery::Events(events) => [of_event(events.first()), of_event(events.get(1))],
+        _ => [(0, None); 2],
+    }
+}
+
+fn next(alloc: Global, hub: &WatchHub, tables: &Tables, number: u64) -> Told {
+    let delivery = hub.deliver(alloc, tables, number);
+    let found = match &delivery {
+        Ok(delivery) => Ok(first_two(delivery)),
+        Err(refusal) => Err(*refusal),
+    };
+    drop(delivery);
+    found
+}
+
 /// What a watch is told next; then it moves past that.
 fn told(alloc: Global, hub: &mut WatchHub, tables: &Tables, number: u64) -> Told {
-    let mut seen = [(0, None); 2];
     if tables.revision() > 9 {
         return Err(Refusal::RevisionsSpent);
     }
-    match hub.deliver(alloc, tables, number) {
-        Ok(Delivery::Events(events)) => {
-            for (place, event) in seen.iter_mut().zip(events.as_slice()) {
-                let before = match event.previous {
-                    Some(kv) => Some(kv.modified),
-                    None => None,
-                };
-                *place = (event.version.rev.main, before);
-            }
-        }
-        Ok(_) => {}
-        Err(refusal) => return Err(refusal),
+    let found = next(alloc, hub, tables, number);
+    if found.is_ok() {
+        hub.go_on(tables, number);
     }
-    hub.go_on(tables, number);
-    Ok(seen)
+    found
 }
+
+/// What is done with a hub, and what it is to answer.
+#[derive(Clone, Copy)]
+enum Row {
+    /// A watch from a revision on.
+    Watch(i64, Result<u64, Refusal>),
+    /// One put more.
+    Note,
+    /// What a watch waits for.
+    First(u64, Waiting),
+    /// The second watch was told of all up to revision 3.
+    Advance,
+    Cancel(u64, Result<(), Refusal>),
+    /// What a watch is told next.
+    Told(u64, Told),
+}
+
+fn is_so(alloc: Global, hub: &mut WatchHub, tables: &Tables, row: Row) -> bool {
+    match row {
+        Row::Watch(start, expected) => watch(hub, tables, start) == expected,
+        Row::Note => {
+            note(hub);
+            true
+        }
+        Row::First(number, expected) => first(hub, number) == expected,
+        Row::Advance => {
+            hub.advance(tables, 2, 3);
+            true
+        }
+        Row::Cancel(number, expected) => hub.cancel(number) == expected,
+        Row::Told(number, expected) => told(alloc, hub, tables, number) == expected,
+    }
+}
+
+fn first_wrong(alloc: Global, hub: &mut WatchHub, tables: &Tables, rows: &[Row]) -> Option<usize> {
+    for (place, row) in rows.iter().copied().enumerate() {
+        if !is_so(alloc, hub, tables, row) {
+            return Some(place);
+        }
+    }
+    None
+}
+
+/// The place of the first row that a fresh hub answers otherwise, beside the three puts.
+fn first_wrong_of_fresh(alloc: Global, rows: &[Row]) -> Option<usize> {
+    let mut tables = Tables::new(alloc);
+    fill(alloc, &mut tables, PUTS.as_slice());
+    let mut hub = WatchHub::new(alloc);
+    let wrong = first_wrong(alloc, &mut hub, &tables, rows);
+    drop(hub);
+    drop(tables);
+    wrong
+}
+
+const WAITING: [Row; 16] = [
+    Row::Watch(0, Ok(1)),
+    Row::Watch(3, Ok(2)),
+    Row::Watch(6, Ok(3)),
+    Row::Note,
+    Row::First(1, Ok(Some(5))),
+    Row::First(2, Ok(Some(3))),
+    Row::First(3, Ok(None)),
+    Row::Advance,
+    Row::First(1, Ok(Some(5))),
+    Row::First(2, Ok(Some(4))),
+    Row::First(3, Ok(None)),
+    Row::Cancel(1, Ok(())),
+    Row::Cancel(1, Err(Refusal::NoWatch)),
+    Row::First(1, Err(Refusal::NoWatch)),
+    Row::First(2, Ok(Some(4))),
+    Row::First(3, Ok(None)),
+];
+
+#[test]
+fn watches_wait_for_what_they_match(rt: HostRuntime) {
+    assert_eq!(rt; first_wrong_of_fresh(rt.alloc(), WAITING.as_slice()), None);
+}
+
+const TOLD: [Row; 4] = [
+    Row::Watch(3, Ok(1)),
+    Row::Told(1, Ok([(3, Some(2)), (4, Some(3))])),
+    Row::Told(1, Ok([(0, None), (0, None)])),
+    Row::Told(2, Err(Refusal::NoWatch)),
+];
 
 #[test]
 fn a_watch_is_told_each_revision_once(rt: HostRuntime) {
-    let mut tables = Tables::new(rt.alloc());
-    fill(rt.alloc(), &mut tables, PUTS.as_slice());
-    let mut hub = WatchHub::new(rt.alloc());
-    let _ = watch(&mut hub, &tables, 3);
-    let deliveries = [
-        told(rt.alloc(), &mut hub, &tables, 1),
-        told(rt.alloc(), &mut hub, &tables, 1),
-        told(rt.alloc(), &mut hub, &tables, 2),
-    ];
-    drop(hub);
-    drop(tables);
-    assert_eq!(rt;
-        deliveries,
-        [
-            Ok([(3, Some(2)), (4, Some(3))]),
-            Ok([(0, None), (0, None)]),
-            Err(Refusal::NoWatch)
-        ]
-    );
+    assert_eq!(rt; first_wrong_of_fresh(rt.alloc(), TOLD.as_slice()), None);
 }

@@ -1,89 +1,158 @@
-//! What a store keeps, shown with its certificate.
-use crate::fixtures::{Row, fill, judged, least};
+//! What a store keeps, shown with its certificate. A test is a table of what is done with the
+//! tables of a store: no function that owns them asserts, and one function does all rows.
+use crate::fixtures::{Verdict, append, judged, version};
 use kv_model::version::Rev;
 use range_view::Tables;
 use std::alloc::Global;
-use witness_core::{Dump, Need, NeedFault, make};
-
-/// A put of a, its tombstone, and a put of b.
-const ROWS: [Row; 3] = [(2, 0, b"a", true), (3, 0, b"a", false), (4, 0, b"b", true)];
+use witness_core::{Certificate, Claim, Dump, Least, Need, NeedFault, make};
 
 /// The first two needs of what is kept, with the versions' revisions, and how many there are.
-type Needs = Option<([Option<(Rev, Need)>; 2], usize)>;
+type Needs = ([Option<(Rev, Need)>; 2], usize);
 
-fn needs(alloc: Global, tables: &Tables) -> Needs {
-    let Ok(certificate) = make(alloc, tables) else {
-        return None;
-    };
+fn of_claim(claim: Option<&Claim>) -> Option<(Rev, Need)> {
+    match claim {
+        Some(claim) => Some((claim.rev, claim.need)),
+        None => None,
+    }
+}
+
+fn needs_of(certificate: &Certificate) -> Needs {
     let claims = certificate.claims.as_slice();
-    let first = claims.first().map(|claim| (claim.rev, claim.need));
-    let second = claims.get(1).map(|claim| (claim.rev, claim.need));
-    Some(([first, second], claims.len()))
+    (
+        [of_claim(claims.first()), of_claim(claims.get(1))],
+        claims.len(),
+    )
+}
+
+fn needs(alloc: Global, tables: &Tables) -> Option<Needs> {
+    let certificate = make(alloc, tables);
+    let found = match &certificate {
+        Ok(certificate) => Some(needs_of(certificate)),
+        Err(_) => None,
+    };
+    drop(certificate);
+    found
 }
 
 /// The floor, the revision and the number of versions of a dump, and the first one's revision.
-fn outline(alloc: Global, tables: &Tables) -> Option<(u64, u64, usize, Option<Rev>)> {
-    let Ok(dump) = Dump::of(alloc, tables) else {
-        return None;
+type Outline = (u64, u64, usize, Option<Rev>);
+
+fn outline_of(dump: &Dump) -> Outline {
+    let first = match dump.versions.first() {
+        Some(version) => Some(version.rev),
+        None => None,
     };
-    let first = dump.versions.first().map(|version| version.rev);
-    Some((dump.floor, dump.revision, dump.versions.len(), first))
+    (dump.floor, dump.revision, dump.versions.len(), first)
 }
 
-fn at(main: u64) -> Rev {
-    Rev { main, sub: 0 }
+fn outline(alloc: Global, tables: &Tables) -> Option<Outline> {
+    let dump = Dump::of(alloc, tables);
+    let found = match &dump {
+        Ok(dump) => Some(outline_of(dump)),
+        Err(_) => None,
+    };
+    drop(dump);
+    found
 }
 
 fn trim(tables: &mut Tables) {
-    let _ = tables.trim_step();
-    let _ = tables.trim_step();
-    let _ = tables.trim_step();
-    let _ = tables.trim_step();
+    for _ in 0..4 {
+        let _ = tables.trim_step();
+    }
 }
+
+/// What is done with tables, and what they are to answer.
+#[derive(Clone, Copy)]
+enum Row {
+    /// The put of a key at a revision, or its tombstone.
+    Append(u64, &'static [u8], bool),
+    Compact(u64),
+    /// Four steps of trimming.
+    Trim,
+    Needs(Needs),
+    Shows(Outline),
+    /// What a check says of what is kept and its certificate.
+    Judged(Result<Least, NeedFault>),
+}
+
+fn is_so(alloc: Global, tables: &mut Tables, row: Row) -> bool {
+    match row {
+        Row::Append(main, key, is_put) => append(alloc, tables, version((main, 0, key, is_put))),
+        Row::Compact(revision) => tables.compact(revision),
+        Row::Trim => trim(tables),
+        Row::Needs(expected) => return needs(alloc, tables) == Some(expected),
+        Row::Shows(expected) => return outline(alloc, tables) == Some(expected),
+        Row::Judged(expected) => return judged(alloc, tables) == Some(expected),
+    }
+    true
+}
+
+fn first_wrong(alloc: Global, tables: &mut Tables, rows: &[Row]) -> Option<usize> {
+    for (place, row) in rows.iter().copied().enumerate() {
+        if !is_so(alloc, tables, row) {
+            return Some(place);
+        }
+    }
+    None
+}
+
+/// The place of the first row that fresh tables answer otherwise.
+fn first_wrong_of_fresh(alloc: Global, rows: &[Row]) -> Option<usize> {
+    let mut tables = Tables::new(alloc);
+    let wrong = first_wrong(alloc, &mut tables, rows);
+    drop(tables);
+    wrong
+}
+
+const FRESH: [Row; 3] = [
+    Row::Shows((0, 1, 0, None)),
+    Row::Needs(([None, None], 0)),
+    Row::Judged(Ok(Least { count: 0 })),
+];
 
 #[test]
 fn shows_a_fresh_store(rt: HostRuntime) {
-    let tables = Tables::new(rt.alloc());
-    let shown = outline(rt.alloc(), &tables);
-    let needed = needs(rt.alloc(), &tables);
-    let judged = judged(rt.alloc(), &tables);
-    drop(tables);
-    assert_eq!(rt; shown, Some((0, 1, 0, None)));
-    assert_eq!(rt; needed, Some(([None, None], 0)));
-    assert_eq!(rt; judged, least(0));
+    assert_eq!(rt; first_wrong_of_fresh(rt.alloc(), FRESH.as_slice()), None);
 }
+
+/// What is needed at 3 and at 4, where the store is compacted there.
+const GONE: (Rev, Need) = (Rev { main: 3, sub: 0 }, Need::Watch(3));
+
+const LAST: (Rev, Need) = (Rev { main: 4, sub: 0 }, Need::Range(4));
+
+/// A put of a, its tombstone, and a put of b.
+const TRIMMED: [Row; 10] = [
+    Row::Append(2, b"a", true),
+    Row::Append(3, b"a", false),
+    Row::Append(4, b"b", true),
+    Row::Compact(4),
+    Row::Needs(([Some(LAST), None], 1)),
+    Row::Judged(Err(NeedFault::NoNeed(Rev { main: 2, sub: 0 }))),
+    Row::Trim,
+    Row::Needs(([Some(LAST), None], 1)),
+    Row::Judged(Ok(Least { count: 1 })),
+    Row::Shows((4, 4, 1, Some(Rev { main: 4, sub: 0 }))),
+];
 
 #[test]
 fn needs_what_trimming_leaves(rt: HostRuntime) {
-    let mut tables = Tables::new(rt.alloc());
-    fill(rt.alloc(), &mut tables, ROWS.as_slice());
-    tables.compact(4);
-    let before = needs(rt.alloc(), &tables);
-    let unfit = judged(rt.alloc(), &tables);
-    trim(&mut tables);
-    let after = needs(rt.alloc(), &tables);
-    let fit = judged(rt.alloc(), &tables);
-    let shown = outline(rt.alloc(), &tables);
-    drop(tables);
-    let last = Some((at(4), Need::Range(4)));
-    assert_eq!(rt; before, Some(([last, None], 1)));
-    assert_eq!(rt; unfit, Some(Err(NeedFault::NoNeed(at(2)))));
-    assert_eq!(rt; after, Some(([last, None], 1)));
-    assert_eq!(rt; fit, least(1));
-    assert_eq!(rt; shown, Some((4, 4, 1, Some(at(4)))));
+    assert_eq!(rt; first_wrong_of_fresh(rt.alloc(), TRIMMED.as_slice()), None);
 }
+
+const COMPACTED_AT_TOMBSTONE: [Row; 7] = [
+    Row::Append(2, b"a", true),
+    Row::Append(3, b"a", false),
+    Row::Append(4, b"b", true),
+    Row::Compact(3),
+    Row::Trim,
+    Row::Needs(([Some(GONE), Some(LAST)], 2)),
+    Row::Judged(Ok(Least { count: 2 })),
+];
 
 #[test]
 fn needs_a_tombstone_at_the_compaction(rt: HostRuntime) {
-    let mut tables = Tables::new(rt.alloc());
-    fill(rt.alloc(), &mut tables, ROWS.as_slice());
-    tables.compact(3);
-    trim(&mut tables);
-    let after = needs(rt.alloc(), &tables);
-    let fit = judged(rt.alloc(), &tables);
-    drop(tables);
-    let gone = Some((at(3), Need::Watch(3)));
-    let last = Some((at(4), Need::Range(4)));
-    assert_eq!(rt; after, Some(([gone, last], 2)));
-    assert_eq!(rt; fit, least(2));
+    assert_eq!(rt;
+        first_wrong_of_fresh(rt.alloc(), COMPACTED_AT_TOMBSTONE.as_slice()),
+        None
+    );
 }

@@ -3,7 +3,7 @@
 use bytes::Bytes;
 use kv_model::version::{Body, Rev, Version};
 use range_view::Tables;
-use std::alloc::{AllocError, Global};
+use std::alloc::Global;
 use witness_core::{Certificate, Claim, Dump, Least, Need, NeedFault, check, make};
 
 /// A version: its revision, its key, and whether it is a put.
@@ -14,10 +14,6 @@ pub(crate) type Line = (u64, u64, bool, u64);
 
 /// What a check says, and nothing where a dump or a certificate could not be made.
 pub(crate) type Verdict = Option<Result<Least, NeedFault>>;
-
-pub(crate) fn least(count: u64) -> Verdict {
-    Some(Ok(Least { count }))
-}
 
 pub(crate) fn version(row: Row) -> Version {
     let (main, sub, key, is_put) = row;
@@ -38,16 +34,16 @@ pub(crate) fn version(row: Row) -> Version {
     }
 }
 
-fn dump_of(alloc: Global, floor: u64, revision: u64, rows: &[Row]) -> Result<Dump, AllocError> {
+fn dump_of(alloc: Global, floor: u64, revision: u64, rows: &[Row]) -> Dump {
     let mut versions = Vec::new(alloc);
     for row in rows {
-        versions.push(version(*row))?;
+        let _ = versions.push(version(*row));
     }
-    Ok(Dump {
+    Dump {
         floor,
         revision,
         versions,
-    })
+    }
 }
 
 fn claim(line: Line) -> Claim {
@@ -63,23 +59,12 @@ fn claim(line: Line) -> Claim {
     }
 }
 
-fn certificate_of(alloc: Global, lines: &[Line]) -> Result<Certificate, AllocError> {
+fn certificate_of(alloc: Global, lines: &[Line]) -> Certificate {
     let mut claims = Vec::new(alloc);
     for line in lines {
-        claims.push(claim(*line))?;
+        let _ = claims.push(claim(*line));
     }
-    Ok(Certificate { claims })
-}
-
-fn verdict_of(
-    alloc: Global,
-    dump: Result<Dump, AllocError>,
-    certificate: Result<Certificate, AllocError>,
-) -> Verdict {
-    let (Ok(dump), Ok(certificate)) = (dump, certificate) else {
-        return None;
-    };
-    Some(check(alloc, &dump, &certificate))
+    Certificate { claims }
 }
 
 /// What a check says of these versions and claims, from a floor to a revision.
@@ -89,29 +74,33 @@ pub(crate) fn verdict(
     revision: u64,
     rows: &[Row],
     lines: &[Line],
-) -> Verdict {
+) -> Result<Least, NeedFault> {
     let dump = dump_of(alloc, floor, revision, rows);
     let certificate = certificate_of(alloc, lines);
-    verdict_of(alloc, dump, certificate)
+    let found = check(alloc, &dump, &certificate);
+    drop(certificate);
+    drop(dump);
+    found
 }
 
 /// What a check says of what is kept and its certificate.
 pub(crate) fn judged(alloc: Global, tables: &Tables) -> Verdict {
-    verdict_of(alloc, Dump::of(alloc, tables), make(alloc, tables))
+    let dump = Dump::of(alloc, tables);
+    let certificate = make(alloc, tables);
+    let found = match (&dump, &certificate) {
+        (Ok(dump), Ok(certificate)) => Some(check(alloc, dump, certificate)),
+        _ => None,
+    };
+    drop(certificate);
+    drop(dump);
+    found
 }
 
-fn append(alloc: Global, tables: &mut Tables, version: Version) -> Result<(), AllocError> {
+/// Appends a version as a revision, where it is the next one.
+pub(crate) fn append(alloc: Global, tables: &mut Tables, version: Version) {
     let mut versions = Vec::new(alloc);
-    versions.push(version)?;
+    let _ = versions.push(version);
     if tables.takes(&versions) {
-        tables.append(versions)?;
-    }
-    Ok(())
-}
-
-/// Appends each of the versions as a revision.
-pub(crate) fn fill(alloc: Global, tables: &mut Tables, rows: &[Row]) {
-    for row in rows {
-        let _ = append(alloc, tables, version(*row));
+        let _ = tables.append(versions);
     }
 }
