@@ -3,7 +3,7 @@
 //! The one contract is that of [`run_wire`]: for every list of events, each outcome is what the
 //! model of the whole history tells, byte for byte, but where memory was wanting. [`perform`],
 //! [`post`] and [`message`] say it of one command, of one request and of one delivery, for each
-//! world that the core stands for, and `etcd_one` calls [`run_wire`] with the events of a script.
+//! world that the core stands for, and `commands` calls [`run_wire`] with the events of a script.
 //! For example, on a fresh store, as member 1 of cluster 1, where `{..}` is
 //! `{"cluster_id":"1","member_id":"1","raft_term":"1","revision":"2"}`:
 //!
