@@ -8,7 +8,7 @@ use Rattle.base64.specs.GeneralPurpose.{IsBytes}
 use Rattle.kv_model.specs.declared.version.Rev.{Rev}
 use Rattle.kv_model.specs.declared.version.Version.{Version}
 use Rattle.kv_model.specs.declared.version.Body.TheVariants.{Put, Gone}
-use Rattle.kv_model.specs.Dumps.{Claim, Need}
+use Rattle.kv_model.specs.Certificates.{Claim, Need}
 use Rattle.certificate_text.specs.Texts.{bytes_field, body_fields, IsRevision, IsRev, IsVersion}
 use Rattle.certificate_text.specs.Reading.{◌>>=◌, number_of, most_revision, lease_of, decoded, bytes_of, next_by, revision_at, sub_at, rev_at, lease_at, bytes_at, end_at, alone, put_of, gone_of, claim_by}
 use Rattle.certificate_text.proofs.Digits.{number_read, number_again, lease_read, lease_again}

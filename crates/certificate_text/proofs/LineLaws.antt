@@ -17,7 +17,7 @@ use Rattle.kv_model.specs.declared.version.Rev.{Rev}
 use Rattle.kv_model.specs.declared.version.Version.{Version}
 use Rattle.kv_model.specs.declared.version.Body.{Body}
 use Rattle.kv_model.specs.declared.version.Body.TheVariants.{Put, Gone}
-use Rattle.kv_model.specs.Dumps.{Claim, Need}
+use Rattle.kv_model.specs.Certificates.{Claim, Need}
 use Rattle.certificate_text.specs.Lines.{is}
 use Rattle.certificate_text.specs.Texts.{bytes_field, body_fields, need_fields, line_of, version_line, claim_line, number_line, IsRevision, IsRev, IsBody, IsVersion, IsNeed, IsClaim}
 use Rattle.certificate_text.specs.Reading.{same_text, fields_of, put_of, gone_of, claim_by, alone, version_by, claim_at, number_by, version_of, claim_of, numbered}
@@ -97,26 +97,27 @@ IsFieldsOf fields v = (fields ≡ body_fields v.rev v.key v.body) × IsVersion v
 word_is : (word known : List ℕ) → same_text word known ≡ true → word ≡ known
 word_is word known e = told_same word known (sym e)
 
-version_word : (word : List ℕ) (xs : List (List ℕ)) (v : Version) (put gone : Bool) → same_text word (codes "put") ≡ put → same_text word (codes "gone") ≡ gone
-    → cond put (put_of xs) (cond gone (gone_of xs) None) ≡ Some v → IsFieldsOf (word ∷ xs) v
-version_word word xs v true gone is other e =
-    let found = put_read xs v e in
-    (ap (λ w. w ∷ xs) (word_is word (codes "put") is) ∙ found.0, found.1)
-version_word word xs v false true is other e =
-    let found = gone_read xs v e in
-    (ap (λ w. w ∷ xs) (word_is word (codes "gone") other) ∙ found.0, found.1)
-version_word word xs v false false is other e = cc e
+-- a line is the text of what its fields are
+line_read : (line : List ℕ) (fields : List (List ℕ)) (A : Type 0) → (fields_of line ≡ fields) × A → (line ≡ line_of fields) × A
+line_read line fields A found = (line_again line ∙ ap line_of found.0, found.1)
+
+-- a line whose word is one of two is read as the one or the other reads what follows
+one_word : {X : Type 0} (Is : List (List ℕ) → X → Type 0) (a b word : List ℕ) (xs : List (List ℕ)) (x : X) (f g : Option X)
+    → (f ≡ Some x → Is (a ∷ xs) x) → (g ≡ Some x → Is (b ∷ xs) x) → (is other : Bool) → same_text word a ≡ is
+    → same_text word b ≡ other → cond is f (cond other g None) ≡ Some x → Is (word ∷ xs) x
+one_word Is a b word xs x f g k l true other e h found = subst (λ w. Is (w ∷ xs) x) (sym (word_is word a e)) (k found)
+one_word Is a b word xs x f g k l false true e h found = subst (λ w. Is (w ∷ xs) x) (sym (word_is word b h)) (l found)
+one_word Is a b word xs x f g k l false false e h found = cc found
 
 version_fields : (fields : List (List ℕ)) (v : Version) → version_by fields ≡ Some v → IsFieldsOf fields v
 version_fields [] v e = cc e
-version_fields (word ∷ xs) v e = version_word word xs v (same_text word (codes "put")) (same_text word (codes "gone")) refl refl e
+version_fields (word ∷ xs) v e =
+    one_word IsFieldsOf (codes "put") (codes "gone") word xs v _ _ (put_read xs v) (gone_read xs v) _ _ refl refl e
 
 -- the version of a line is written so
 pub version_read : (line : List ℕ) (v : Version) → version_of line ≡ Some v → (line ≡ version_line v) × IsVersion v
 unfolding version_of
-version_read line v e =
-    let found = version_fields (fields_of line) v e in
-    (line_again line ∙ ap line_of found.0, found.1)
+version_read line v e = line_read line _ _ (version_fields (fields_of line) v e)
 
 body_again : (p : Rev) (key : List ℕ) (body : Body) → IsRev p → IsBytes key → IsBody body
     → version_by (body_fields p key body) ≡ Some (record { rev = p; key = key; body = body })
@@ -149,26 +150,15 @@ watch_read xs claim e =
     let found = claim_read Need.watch xs claim e in
     subst (IsNeedOf (codes "watch" ∷ xs)) (sym found.1) (ap (λ rest. codes "watch" ∷ rest) found.2, (found.3, found.4))
 
-claim_word : (word : List ℕ) (xs : List (List ℕ)) (claim : Claim) (range watch : Bool) → same_text word (codes "range") ≡ range → same_text word (codes "watch") ≡ watch
-    → cond range (claim_by Need.range xs) (cond watch (claim_by Need.watch xs) None) ≡ Some claim → IsNeedOf (word ∷ xs) claim
-claim_word word xs claim true watch is other e =
-    let found = range_read xs claim e in
-    (ap (λ w. w ∷ xs) (word_is word (codes "range") is) ∙ found.0, found.1)
-claim_word word xs claim false true is other e =
-    let found = watch_read xs claim e in
-    (ap (λ w. w ∷ xs) (word_is word (codes "watch") other) ∙ found.0, found.1)
-claim_word word xs claim false false is other e = cc e
-
 claim_fields : (fields : List (List ℕ)) (claim : Claim) → claim_at fields ≡ Some claim → IsNeedOf fields claim
 claim_fields [] claim e = cc e
-claim_fields (word ∷ xs) claim e = claim_word word xs claim (same_text word (codes "range")) (same_text word (codes "watch")) refl refl e
+claim_fields (word ∷ xs) claim e =
+    one_word IsNeedOf (codes "range") (codes "watch") word xs claim _ _ (range_read xs claim) (watch_read xs claim) _ _ refl refl e
 
 -- the claim of a line is written so
 pub claim_line_read : (line : List ℕ) (claim : Claim) → claim_of line ≡ Some claim → (line ≡ claim_line claim) × IsClaim claim
 unfolding claim_of
-claim_line_read line claim e =
-    let found = claim_fields (fields_of line) claim e in
-    (line_again line ∙ ap line_of found.0, found.1)
+claim_line_read line claim e = line_read line _ _ (claim_fields (fields_of line) claim e)
 
 need_again : (p : Rev) (need : Need) → IsRev p → IsNeed need → claim_at (need_fields p need) ≡ Some (record { rev = p; need = need })
 need_again p (Need.range r) is_rev is_need = claim_again Need.range p r is_rev is_need

@@ -8,7 +8,7 @@ use Rattle.std.proofs.lemmas.List.{append-nil, length-append}
 use Rattle.std.proofs.lemmas.List.Elements.{All-from_recursion}
 use Rattle.std.proofs.lemmas.List.Splits.{slice_split_at, join_with_byte-slice_split}
 use Rattle.kv_model.specs.declared.version.Version.{Version}
-use Rattle.kv_model.specs.Dumps.{Dump, Claim}
+use Rattle.kv_model.specs.Certificates.{Dump, Claim}
 use Rattle.certificate_text.specs.Lines.{is, lines_of, lines_of_parts, IsTextOf}
 use Rattle.certificate_text.specs.Texts.{body_fields, need_fields, line_of, version_line, claim_line, number_line, written, ended, dump_lines, needs_lines, text_lines, text_of, IsRevision, IsVersion, IsClaim, AreInLimits}
 use Rattle.certificate_text.proofs.Base64.{IsAbove}

@@ -1,6 +1,6 @@
 -- Reading a text: what it gives, the line that it names, and that texts are read.
 use Rattle.std.proofs.Common.{◌≡◌, ℕ, ◌+◌, ◌-◌, List, length, Result, Ok, Err, sym, ap, ◌∙◌}
-use Rattle.kv_model.specs.Dumps.{Dump, Claim}
+use Rattle.kv_model.specs.Certificates.{Dump, Claim}
 use Rattle.certificate_text.specs.declared.reading.Unreadable.{Unreadable}
 use Rattle.certificate_text.specs.declared.reading.Unreadable.TheVariants as unreadable
 use Rattle.certificate_text.specs.Lines.{lines_of, IsTextOf, IsFirstUnreadable}

@@ -8,7 +8,7 @@ use Rattle.kv_model.specs.declared.version.Version.{Version}
 use Rattle.kv_model.specs.declared.version.Rev.{Rev}
 use Rattle.kv_model.specs.declared.version.Body.{Body}
 use Rattle.kv_model.specs.declared.version.Body.TheVariants.{Put, Gone}
-use Rattle.kv_model.specs.Dumps.{Dump, Claim, Need}
+use Rattle.kv_model.specs.Certificates.{Dump, Claim, Need}
 use Rattle.certificate_text.specs.Texts.{body_fields, need_fields, line_of, version_line, claim_line, number_line, ended, dump_lines, needs_lines, text_lines, IsRevision, IsVersion, IsClaim, AreInLimits}
 use Rattle.certificate_text.specs.Reading.{same_text, version_of, claim_of, numbered}
 use Rattle.certificate_text.specs.Walking.{Read, ◌>>=◌, line_by, exactly, up_to_end, if_none_left, dump_of, needs_of, text_read}

@@ -1,7 +1,7 @@
 -- The lines of a text that is read, and the first of them at which no text goes on.
 use Rattle.std.specs.Prelude.{◌≡◌, ℕ, ◌+◌, ◌==◌, List, [], ◌∷◌, ◌++◌, length, Bool, if◌then◌else◌, ◌⊎◌}
 use Rattle.std.specs.List.{slice_split}
-use Rattle.kv_model.specs.Dumps.{Dump, Claim}
+use Rattle.kv_model.specs.Certificates.{Dump, Claim}
 use Rattle.certificate_text.specs.Texts.{text_of, text_lines, AreInLimits}
 
 abbrev pub is : ℕ → ℕ → Bool

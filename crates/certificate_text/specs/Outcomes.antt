@@ -7,7 +7,7 @@ use Rattle.certificate_text.specs.declared.stop.Stop.{Stop}
 use Rattle.certificate_text.specs.declared.stop.Stop.TheVariants as stop
 use Rattle.certificate_text.specs.declared.reading.Unreadable.{Unreadable}
 use Rattle.certificate_text.specs.declared.reading.Unreadable.TheVariants as unreadable
-use Rattle.kv_model.specs.Dumps.{Dump, Claim}
+use Rattle.kv_model.specs.Certificates.{Dump, Claim}
 use Rattle.certificate_text.specs.Lines.{lines_of, IsFirstUnreadable}
 use Rattle.certificate_text.specs.Walking.{Read}
 

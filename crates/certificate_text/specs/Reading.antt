@@ -1,5 +1,6 @@
 -- A text, line by line and field by field, as it is read. What that comes to say of texts is in `Lines`.
-use Rattle.std.specs.Prelude.{⊤, ℕ, zero, suc, ◌^◌, ◌-◌, ◌==◌, ℤ, pos, negsuc, nat_le, nat_lt, nat_eq, List, [], ◌∷◌, ◌++◌, length}
+use Rattle.std.specs.Prelude.{⊤, ℕ, zero, suc, ◌^◌, ◌-◌, ◌==◌, ℤ, pos, negsuc, nat_le, nat_lt, nat_eq, List, [], ◌∷◌}
+use Rattle.std.specs.Prelude.{◌++◌, length}
 use Rattle.std.specs.Prelude.{Bool, not, ◌&&◌, if◌then◌else◌, Option, None, Some, option_map, option_and_then}
 use Rattle.std.specs.Prelude.{Result, Ok, Err, slice_index, codes}
 use Rattle.std.specs.List.{slice_split, list_all}
@@ -12,7 +13,7 @@ use Rattle.kv_model.specs.declared.version.Rev.{Rev}
 use Rattle.kv_model.specs.declared.version.Version.{Version}
 use Rattle.kv_model.specs.declared.version.Body.{Body}
 use Rattle.kv_model.specs.declared.version.Body.TheVariants.{Put, Gone}
-use Rattle.kv_model.specs.Dumps.{Dump, Claim, Need}
+use Rattle.kv_model.specs.Certificates.{Dump, Claim, Need}
 use Rattle.certificate_text.specs.Lines.{is}
 
 abbrev pub same_text : List ℕ → List ℕ → Bool

@@ -9,7 +9,7 @@ use Rattle.kv_model.specs.declared.version.Rev.{Rev}
 use Rattle.kv_model.specs.declared.version.Version.{Version}
 use Rattle.kv_model.specs.declared.version.Body.{Body}
 use Rattle.kv_model.specs.declared.version.Body.TheVariants.{Put, Gone}
-use Rattle.kv_model.specs.Dumps.{Dump, Claim, Need}
+use Rattle.kv_model.specs.Certificates.{Dump, Claim, Need}
 
 -- ---- lines
 

@@ -1,6 +1,6 @@
 -- A text that is read, line after line: what was read and the lines after it, or the lines from the unreadable one on.
 use Rattle.std.specs.Prelude.{⊤, ℕ, List, [], ◌∷◌, ◌++◌, if◌then◌else◌, Option, None, Some, Result, Ok, Err, codes}
-use Rattle.kv_model.specs.Dumps.{Dump, Claim}
+use Rattle.kv_model.specs.Certificates.{Dump, Claim}
 use Rattle.certificate_text.specs.Reading.{same_text, version_of, claim_of, numbered}
 
 abbrev pub Read : Type 0 → Type 0

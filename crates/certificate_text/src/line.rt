@@ -2,7 +2,7 @@
 ghost use Rattle.std.specs.Prelude.{◌≡◌};
 ghost use Rattle.certificate_text.specs.Outcomes.{Gives};
 ghost use Rattle.certificate_text.specs.Reading as reading;
-ghost use Rattle.kv_model.specs.Dumps.{Need as SeenNeed};
+ghost use Rattle.kv_model.specs.Certificates.{Need as SeenNeed};
 
 use crate::fields::{Fields, Unfit};
 use kv_model::version::{Body, Version};

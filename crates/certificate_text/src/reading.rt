@@ -1,9 +1,10 @@
 //! A text read, line after line.
 ghost use Rattle.std.specs.Prelude.{◌≡◌, ◌+◌, ◌-◌, ◌<◌, ◌≤◌, ⊤, List, [], ◌∷◌, length, codes};
 ghost use Rattle.std.specs.Prelude.{MatchOption, IfOk, IfErr};
-ghost use Rattle.kv_model.specs.Dumps.{Dump as SeenDump, Claim as SeenClaim};
+ghost use Rattle.kv_model.specs.Certificates.{Dump as SeenDump, Claim as SeenClaim};
 ghost use Rattle.certificate_text.specs.Lines.{lines_of, IsTextOf};
-ghost use Rattle.certificate_text.specs.Outcomes.{IsUnreadable, Reads, ReadsAll, ReadsBack, stopped};
+ghost use Rattle.certificate_text.specs.Outcomes.{IsUnreadable, Reads, ReadsAll, ReadsBack};
+ghost use Rattle.certificate_text.specs.Outcomes.{stopped};
 ghost use Rattle.certificate_text.specs.Reading as reading;
 ghost use Rattle.certificate_text.specs.Texts.{AreInLimits};
 ghost use Rattle.certificate_text.specs.Walking as walking;

@@ -1,7 +1,6 @@
 -- What is said of the text of a certificate.
 use Rattle.std.specs.Prelude.{◌≡◌, ℕ, List, [], ◌∷◌, ◌++◌, None, length, codes, decimal}
-use Rattle.kv_model.specs.Certificates.{first_fault, AreNeedsOf}
-use Rattle.kv_model.specs.Dumps.{Dump, Claim}
+use Rattle.kv_model.specs.Certificates.{first_fault, AreNeedsOf, Dump, Claim}
 use Rattle.certificate_text.specs.Lines.{lines_of, IsTextOf, IsFirstUnreadable}
 use Rattle.witness_core.specs.Faults.{IsFault}
 use Rattle.witness_core.specs.declared.fault.NeedFault.{NeedFault}

@@ -68,7 +68,8 @@ rise_of_expiry (Err e) = 0
 pub record Performs (ids : Ids) (call : Call) (old new : CoreState) (o : Outcome) : Type 0 where
   -- in each world that the core stood for, it is what the model does and answers, by these ids
   pub ends : (w : World) → StandsFor old.store w
-      → Ends o old new w (response_to ids (perform w call).0) (perform w call).1 (λ l. IsChange w call l (made_in w call))
+      → Ends o old new w (response_to ids (perform w call).0) (perform w call).1 (λ l. IsChange w call l (made_in w
+      call))
   -- what is not accepted changes nothing, and tells neither a revision nor a watch
   pub unchanged : is_accepted o.settled ≡ false → new ≡ old
   pub bare : IsBare o
@@ -79,7 +80,8 @@ pub record Performs (ids : Ids) (call : Call) (old new : CoreState) (o : Outcome
   pub keeps : (w : World) → StandsFor old.store w → KeepsAs o.settled old new w (perform w call).1
   -- whether its answer waits for trimming
   pub ready : is_accepted o.settled ≡ false → o.waits ≡ false
-  pub waits : (w : World) → StandsFor old.store w → is_accepted o.settled ≡ true → o.waits ≡ is_physical_call w (Ok call)
+  pub waits : (w : World) → StandsFor old.store w → is_accepted o.settled ≡ true → o.waits
+      ≡ is_physical_call w (Ok call)
 
 -- a step of expiry was made, and this is what it tells
 abbrev pub MakesExpiry : CoreState → CoreState → Result Expiry Refusal → Type 0

@@ -1,6 +1,6 @@
 //! The engine: one event of the core for each holding of its lock.
 ghost use Rattle.std.specs.Prelude.{◌≡◌, ◌+◌, true, is_ok, map, sum, IfOk, IfErr};
-ghost use Rattle.kv_model.specs.Calls.{call_of};
+ghost use Rattle.kv_model.specs.Commands.{call_of};
 ghost use Rattle.kv_model.specs.declared.refusal.Refusal.TheVariants.{NoPlace, NoWatch};
 ghost use Rattle.engine_lock.specs.Locked.{IsStanding, Submits, SubmitsExpiry, Tells, Trims};
 ghost use Rattle.engine_lock.specs.Locked.{rise, rise_of_expiry};

@@ -1,7 +1,7 @@
 //! What stands under the lock: the core, the ledger's book, and what readers are told of.
 ghost use Rattle.std.specs.Prelude.{◌≡◌, ◌+◌, nat_eq, if◌then◌else◌, is_ok, map, sum, length};
 ghost use Rattle.std.specs.Prelude.{IfOk, IfErr, OnOk, OnErr};
-ghost use Rattle.kv_model.specs.Calls.{call_of};
+ghost use Rattle.kv_model.specs.Commands.{call_of};
 ghost use Rattle.kv_model.specs.declared.refusal.Refusal.TheVariants.{NoPlace, NoWatch};
 ghost use Rattle.request_core.specs.Commands.{TrimsOnce};
 ghost use Rattle.request_core.specs.State.{after_moment};

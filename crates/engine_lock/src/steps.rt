@@ -1,6 +1,6 @@
 //! One event on a core, and what it does to the revision: each rise is counted once.
 ghost use Rattle.std.specs.Prelude.{◌≡◌, ◌+◌, ◌≤◌, is_ok, IfOk, IfErr, OnErr};
-ghost use Rattle.kv_model.specs.Calls.{call_of};
+ghost use Rattle.kv_model.specs.Commands.{call_of};
 ghost use Rattle.kv_model.specs.declared.refusal.Refusal.TheVariants.{NoWatch};
 ghost use Rattle.request_core.specs.Commands.{TrimsOnce};
 ghost use Rattle.engine_lock.specs.Locked.{EndsWatch, IsStanding, MakesExpiry, Performs};

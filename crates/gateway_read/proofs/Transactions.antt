@@ -8,7 +8,8 @@ use Rattle.kv_model.specs.declared.call.DeleteRequest.{DeleteRequest}
 use Rattle.kv_model.specs.declared.call.Operation.{the_lemmas}
 use Rattle.kv_model.specs.declared.call.Operation.TheVariants as operation
 use Rattle.kv_model.specs.declared.call.Txn.{Txn}
-use Rattle.kv_model.specs.Calls.{Ops, op_view, txn_view}
+use Rattle.kv_model.specs.Calls.{Ops}
+use Rattle.kv_model.specs.Commands.{op_view, txn_view}
 use Rattle.kv_model.specs.Requests as requests
 use Rattle.kv_model.specs.Requests.{Read, ◌>>=◌, each, given, one_kind, branch}
 use Rattle.gateway_read.specs.Transactions.{Message, object_under, only_of, kind_read, message_read, compares_read}

@@ -18,7 +18,8 @@ filter_of NoDelete = requests.Filter.no_delete
 
 -- the object under the name of the request
 abbrev pub create_read : Members → Read Members
-create_read ms = some_or (bad_field (codes "create_request")) (given (codes "create_request") ms) >>= object_under (codes "create_request")
+create_read ms = some_or (bad_field (codes "create_request")) (given (codes "create_request") ms) >>= object_under
+    (codes "create_request")
 
 -- filters together
 abbrev pub together : List requests.Filter → Filters

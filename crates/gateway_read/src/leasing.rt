@@ -1,5 +1,6 @@
 //! The lease requests, each from the fields of its object.
-ghost use Rattle.kv_model.specs.Calls.{Call, call_of};
+ghost use Rattle.kv_model.specs.Calls.{Call};
+ghost use Rattle.kv_model.specs.Commands.{call_of};
 ghost use Rattle.kv_model.specs.Requests as requests;
 ghost use Rattle.gateway_read.specs.Objects.{seen};
 ghost use Rattle.gateway_read.specs.Reading.{Gives};

@@ -23,7 +23,7 @@
 //! `compares.rt`, `values.rt` and `faults.rt`.
 #![tactic(auto)]
 
-ghost use Rattle.kv_model.specs.Calls.{call_of};
+ghost use Rattle.kv_model.specs.Commands.{call_of};
 ghost use Rattle.kv_model.specs.Requests as requests;
 ghost use Rattle.gateway_read.specs.Reading.{Gives};
 

@@ -1,6 +1,6 @@
 //! The requests, each from the fields of its object, in the order of the etcd documentation's
 //! message.
-ghost use Rattle.kv_model.specs.Calls.{call_of};
+ghost use Rattle.kv_model.specs.Commands.{call_of};
 ghost use Rattle.kv_model.specs.Requests as requests;
 ghost use Rattle.gateway_read.specs.Options.{flags_of, bounds_of};
 ghost use Rattle.gateway_read.specs.Parts.{completed, call_read};

@@ -1,7 +1,7 @@
 //! The fields of a transaction, and of those within it.
 ghost use Rattle.std.specs.Prelude.{◌≡◌, option_map};
 ghost use Rattle.serde_json.specs.View.{view, items_view};
-ghost use Rattle.kv_model.specs.Calls.{txn_view, op_view, ops_view};
+ghost use Rattle.kv_model.specs.Commands.{txn_view, op_view, ops_view};
 ghost use Rattle.kv_model.specs.Requests as requests;
 ghost use Rattle.gateway_read.specs.Fields.{snake_of};
 ghost use Rattle.gateway_read.specs.Objects.{seen};

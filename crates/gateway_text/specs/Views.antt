@@ -4,7 +4,7 @@ use Rattle.serde_json.specs.Data.{Data}
 use Rattle.kv_model.specs.Answers.{Fault, header, short_header, object, nat_field}
 use Rattle.kv_model.specs.Answers.{int_field, list_field, bytes_text, lease_text, responses}
 use Rattle.kv_model.specs.Answers.{truth_field, event_text}
-use Rattle.kv_model.specs.Events.{WatchEvent}
+use Rattle.kv_model.specs.Watches.{WatchEvent}
 use Rattle.kv_model.specs.Txns.{Replies}
 use Rattle.range_view.specs.declared.reply.OpReply.{OpReply}
 use Rattle.range_view.specs.Replies.{op_reply_view}

@@ -2,7 +2,7 @@
 use Rattle.std.proofs.Common.{◌≡◌, ℕ, List, Bool, false, Option, None, Some, Result, refl, sym, ◌∙◌, ap, subst}
 use Rattle.kv_model.specs.declared.ids.Ids.{Ids}
 use Rattle.kv_model.specs.Follows as follows
-use Rattle.kv_model.specs.Kept.{Keeping, Keeps}
+use Rattle.kv_model.specs.Headline.{Keeping, Keeps}
 use Rattle.kv_model.specs.Wire.{WireEvent, WireOutcome, wire_step}
 use Rattle.kv_model.specs.World.{World, without_watch}
 use Rattle.store_laws.specs.Stands.{StandsFor}

@@ -12,7 +12,8 @@ use Rattle.http_reply.specs.Sends.{failures_after}
 use Rattle.json_gateway.specs.declared.outcome.Settled.{Settled}
 use Rattle.json_gateway.specs.declared.outcome.Settled.TheVariants as settled
 use Rattle.json_gateway.specs.Outcomes.{wire_response}
-use Rattle.http_front.specs.Connections.{Standing, IsSent, IsAnswered, IsStream, AreMessages, Conn, end_of, replies_more}
+use Rattle.http_front.specs.Connections.{Standing, IsSent, IsAnswered, IsStream, AreMessages, Conn, end_of}
+use Rattle.http_front.specs.Connections.{replies_more}
 use Rattle.http_front.specs.declared.serving.Turn.{Turn}
 use Rattle.http_front.specs.declared.serving.Turn.TheVariants as turn
 
@@ -45,7 +46,8 @@ pub record Declines (f : Front) (c c' : Option (List ℕ)) (failures failures' :
   pub ends : end ≡ end_of f sending
 
 -- a request was done and answered
-pub record Does (ids : Ids) (s : Standing) (a : Asked) (c : Option (List ℕ)) (core : CoreState) (c' : Option (List ℕ)) (r : Result Bool Front) : Type 0 where
+pub record Does (ids : Ids) (s : Standing) (a : Asked) (c : Option (List ℕ)) (core : CoreState) (c' : Option (List ℕ))
+    (r : Result Bool Front) : Type 0 where
   pub after : Standing
   pub out : List ℕ
   pub stands : Stands core after
@@ -53,7 +55,8 @@ pub record Does (ids : Ids) (s : Standing) (a : Asked) (c : Option (List ℕ)) (
   pub answered : IsAnswered ids s a out after r
 
 -- a watch was streamed
-pub record DoesStream (ids : Ids) (n : ℕ) (created : List ℕ) (s : Standing) (c : Option (List ℕ)) (core : CoreState) (c' : Option (List ℕ)) (r : Result Bool Front) : Type 0 where
+pub record DoesStream (ids : Ids) (n : ℕ) (created : List ℕ) (s : Standing) (c : Option (List ℕ)) (core : CoreState)
+    (c' : Option (List ℕ)) (r : Result Bool Front) : Type 0 where
   pub after : Standing
   pub out : List ℕ
   pub stands : Stands core after
@@ -61,13 +64,17 @@ pub record DoesStream (ids : Ids) (n : ℕ) (created : List ℕ) (s : Standing) 
   pub stream : IsStream ids n created s out after r
 
 -- what a request is told that made a watch: its stream, or that its answer was lost
-abbrev pub IsTold : Settled → Bool → Ids → ℕ → Standing → Option (List ℕ) → CoreState → CoreState → Option (List ℕ) → Result Bool Front → Type 0
+abbrev pub IsTold : Settled → Bool → Ids → ℕ → Standing → Option (List ℕ) → CoreState → CoreState → Option (List ℕ)
+    → Result Bool Front → Type 0
 IsTold (settled.Reply x) close ids n s c old new c' r = DoesStream ids n x.body.items s c new c' r
-IsTold settled.Memory close ids n s c old new c' r = (new ≡ old) × Writes close (reply_bytes (wire_response settled.Memory) close) c c' r
-IsTold (settled.Lost at) close ids n s c old new c' r = (new ≡ old) × Writes close (reply_bytes (wire_response (settled.Lost at)) close) c c' r
+IsTold settled.Memory close ids n s c old new c' r = (new ≡ old)
+    × Writes close (reply_bytes (wire_response settled.Memory) close) c c' r
+IsTold (settled.Lost at) close ids n s c old new c' r = (new ≡ old)
+    × Writes close (reply_bytes (wire_response (settled.Lost at)) close) c c' r
 
 -- the messages of a watch were written
-pub record DoesMessages (ids : Ids) (n : ℕ) (s : Standing) (c : Option (List ℕ)) (core : CoreState) (c' : Option (List ℕ)) (r : Result Bool Front) : Type 0 where
+pub record DoesMessages (ids : Ids) (n : ℕ) (s : Standing) (c : Option (List ℕ)) (core : CoreState) (c' : Option (List
+    ℕ)) (r : Result Bool Front) : Type 0 where
   pub after : Standing
   pub out : List ℕ
   pub stands : Stands core after
@@ -77,7 +84,8 @@ pub record DoesMessages (ids : Ids) (n : ℕ) (s : Standing) (c : Option (List �
 -- ---- a connection
 
 -- n requests were answered: whatever answers the bytes that are left, from what stands now, ends the answering of all
-pub record GoesOn (ids : Ids) (s : Standing) (bytes : List ℕ) (n : ℕ) (c : Option (List ℕ)) (left : List ℕ) (core : CoreState) (c' : Option (List ℕ)) : Type 0 where
+pub record GoesOn (ids : Ids) (s : Standing) (bytes : List ℕ) (n : ℕ) (c : Option (List ℕ)) (left : List ℕ) (core :
+    CoreState) (c' : Option (List ℕ)) : Type 0 where
   pub after : Standing
   pub out : List ℕ
   pub stands : Stands core after
@@ -86,16 +94,18 @@ pub record GoesOn (ids : Ids) (s : Standing) (bytes : List ℕ) (n : ℕ) (c : O
       → Conn ids s bytes (n + k) (out ++ more) u (replies_more n r)
 
 -- it ends so with the next request, wherever the limit allows one
-pub record Stops (ids : Ids) (s : Standing) (bytes : List ℕ) (c : Option (List ℕ)) (core : CoreState) (c' : Option (List ℕ)) (r : Result ℕ Front) : Type 0 where
+pub record Stops (ids : Ids) (s : Standing) (bytes : List ℕ) (c : Option (List ℕ)) (core : CoreState) (c' : Option
+    (List ℕ)) (r : Result ℕ Front) : Type 0 where
   pub after : Standing
   pub out : List ℕ
   pub stands : Stands core after
   pub wrote : Appends c c' out
   pub conn : (limit : ℕ) → Conn ids s bytes (1 + limit) out after r
 
--- What is written is what the bytes are answered, the core then stands for what stands after that, and the result is the number of replies, or
--- why there are no more.
-pub record Serves (ids : Ids) (s : Standing) (bytes : List ℕ) (limit : ℕ) (c : Option (List ℕ)) (core : CoreState) (c' : Option (List ℕ)) (r : Result ℕ Front) : Type 0 where
+-- What is written is what the bytes are answered, the core then stands for what stands after that, and the result is
+-- the number of replies, or why there are no more.
+pub record Serves (ids : Ids) (s : Standing) (bytes : List ℕ) (limit : ℕ) (c : Option (List ℕ)) (core : CoreState) (c'
+    : Option (List ℕ)) (r : Result ℕ Front) : Type 0 where
   pub after : Standing
   pub out : List ℕ
   pub stands : Stands core after
@@ -109,24 +119,31 @@ turn_of (Ok false) = Ok turn.More
 turn_of (Err f) = Err f
 
 -- what one turn comes to
-abbrev pub Turned : Ids → Standing → List ℕ → Option (List ℕ) → List ℕ → CoreState → Option (List ℕ) → Result Turn Front → Type 0
+abbrev pub Turned : Ids → Standing → List ℕ → Option (List ℕ) → List ℕ → CoreState → Option (List ℕ)
+    → Result Turn Front → Type 0
 Turned ids s bytes c left core c' (Ok turn.More) = GoesOn ids s bytes 1 c left core c'
 Turned ids s bytes c left core c' (Ok turn.Last) = Stops ids s bytes c core c' (Ok 1)
 Turned ids s bytes c left core c' (Ok turn.End) = Stops ids s bytes c core c' (Ok 0)
 Turned ids s bytes c left core c' (Err f) = Stops ids s bytes c core c' (Err f)
 
--- the same, where the reader tells its bytes: pending are those that were read and not used, left those that it still has
-abbrev pub Turns : Ids → Standing → Option (List ℕ) → Option (List ℕ) → List ℕ → List ℕ → Option (List ℕ) → CoreState → Option (List ℕ) → Result Turn Front → Type 0
+-- the same, where the reader tells its bytes: pending are those that were read and not used, left those that it still
+-- has
+abbrev pub Turns : Ids → Standing → Option (List ℕ) → Option (List ℕ) → List ℕ → List ℕ → Option (List ℕ) → CoreState
+    → Option (List ℕ) → Result Turn Front → Type 0
 Turns ids s None left' pending pending' c core c' r = ⊤
 Turns ids s (Some left) None pending pending' c core c' r = ⊥
-Turns ids s (Some left) (Some left') pending pending' c core c' r = Turned ids s (pending ++ left) c (pending' ++ left') core c' r
+Turns ids s (Some left) (Some left') pending pending' c core c' r = Turned ids s (pending ++ left) c (pending'
+    ++ left') core c' r
 
-abbrev pub SoFar : Ids → Standing → Option (List ℕ) → Option (List ℕ) → List ℕ → List ℕ → ℕ → Option (List ℕ) → CoreState → Option (List ℕ) → Type 0
+abbrev pub SoFar : Ids → Standing → Option (List ℕ) → Option (List ℕ) → List ℕ → List ℕ → ℕ → Option (List ℕ)
+    → CoreState → Option (List ℕ) → Type 0
 SoFar ids s None left' pending pending' n c core c' = ⊤
 SoFar ids s (Some left) None pending pending' n c core c' = ⊥
-SoFar ids s (Some left) (Some left') pending pending' n c core c' = GoesOn ids s (pending ++ left) n c (pending' ++ left') core c'
+SoFar ids s (Some left) (Some left') pending pending' n c core c' = GoesOn ids s (pending ++ left) n c (pending'
+    ++ left') core c'
 
-abbrev pub ServesOf : Ids → Standing → Option (List ℕ) → List ℕ → ℕ → Option (List ℕ) → CoreState → Option (List ℕ) → Result ℕ Front → Type 0
+abbrev pub ServesOf : Ids → Standing → Option (List ℕ) → List ℕ → ℕ → Option (List ℕ) → CoreState → Option (List ℕ)
+    → Result ℕ Front → Type 0
 ServesOf ids s None pending limit c core c' r = ⊤
 ServesOf ids s (Some left) pending limit c core c' r = Serves ids s (pending ++ left) limit c core c' r
 

@@ -1,6 +1,7 @@
--- What the bytes of a request say (RFC 9112): its head, the length of its body, and what is wrong with bytes that begin with no request.
--- Heads are those of `httparse`'s grammar.
-use Rattle.std.specs.Prelude.{◌≡◌, ◌≢◌, ℕ, ◌+◌, ◌<◌, ◌≤◌, ◌⊎◌, nat_lt, nat_le, nat_eq, List, [], ◌∷◌, length, take, map, Bool, true, false}
+-- What the bytes of a request say (RFC 9112): its head, the length of its body, and what is wrong with bytes that begin
+-- with no request. Heads are those of `httparse`'s grammar.
+use Rattle.std.specs.Prelude.{◌≡◌, ◌≢◌, ℕ, ◌+◌, ◌<◌, ◌≤◌, ◌⊎◌, nat_lt, nat_le, nat_eq, List, [], ◌∷◌, length, take, map}
+use Rattle.std.specs.Prelude.{Bool, true, false}
 use Rattle.std.specs.Prelude.{◌&&◌, ◌||◌, if◌then◌else◌, Result, Ok, Err, codes}
 use Rattle.std.specs.List.{list_all, fold}
 use Rattle.std.specs.Cmp.Lexicographic.{pointwise}
@@ -19,8 +20,8 @@ lower text = map to_ascii_lowercase text
 abbrev pub same_name : List ℕ → List ℕ → Bool
 same_name a b = pointwise nat_eq (lower a) (lower b)
 
--- what header lines say: whether one is a Transfer-Encoding, how many are a Content-Length, the value of the last of these, and whether
--- the connection is to be closed
+-- what header lines say: whether one is a Transfer-Encoding, how many are a Content-Length, the value of the last of
+-- these, and whether the connection is to be closed
 pub record Marks : Type 0 where
   pub encoded : Bool
   pub lengths : ℕ
@@ -94,11 +95,13 @@ pub record ReadsHead (text : List ℕ) (h : RequestHead) (rest : List ℕ) : Typ
 
 -- no head can come of the text, or it has too many header lines, or another version
 abbrev pub IsBadHead : List ℕ → Type 0
-IsBadHead text = NeverHasRequest text ⊎ (RequestExceeds most_lines text ⊎ ((h : RequestHead) × (rest : List ℕ) × ReadsRequest text h rest × (h.minor ≢ 1)))
+IsBadHead text = NeverHasRequest text ⊎ (RequestExceeds most_lines text
+    ⊎ ((h : RequestHead) × (rest : List ℕ) × ReadsRequest text h rest × (h.minor ≢ 1)))
 
 -- the text is a head whose body has no length, for this
 abbrev pub HasNoLength : NoLength → List ℕ → Type 0
-HasNoLength why text = (h : RequestHead) × (rest : List ℕ) × ReadsHead text h rest × (body_length (marks_of h.fields) ≡ Err why)
+HasNoLength why text = (h : RequestHead) × (rest : List ℕ) × ReadsHead text h rest
+    × (body_length (marks_of h.fields) ≡ Err why)
 
 -- the fault may be named for bytes whose window is the text
 abbrev pub Names : Fault → List ℕ → Type 0

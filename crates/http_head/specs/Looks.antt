@@ -10,7 +10,8 @@ use Rattle.http_head.specs.declared.length.NoLength.TheVariants as none
 use Rattle.http_head.specs.declared.head.Look.{Look}
 use Rattle.http_head.specs.declared.head.Look.TheVariants as look
 use Rattle.http_head.specs.declared.marks.Marks.{Marks as CodeMarks}
-use Rattle.http_head.specs.Heads.{Fault, NoLength, bad, over, Marks, Names, ReadsHead, body_length, bad_head, bad_length, too_long, marks_of, most_head}
+use Rattle.http_head.specs.Heads.{Fault, NoLength, bad, over, Marks, Names, ReadsHead, body_length, bad_head}
+use Rattle.http_head.specs.Heads.{bad_length, too_long, marks_of, most_head}
 
 abbrev pub fault_view : CodeFault → Fault
 fault_view code.Head = bad_head

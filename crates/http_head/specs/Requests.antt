@@ -1,5 +1,6 @@
 -- What the bytes of a connection are as requests (RFC 9112).
-use Rattle.std.specs.Prelude.{◌≡◌, ◌≢◌, ℕ, ◌<◌, ◌≤◌, ◌⊎◌, List, [], ◌∷◌, ◌++◌, length, Bool, false, ◌==◌, if◌then◌else◌, Ok}
+use Rattle.std.specs.Prelude.{◌≡◌, ◌≢◌, ℕ, ◌<◌, ◌≤◌, ◌⊎◌, List, [], ◌∷◌, ◌++◌, length, Bool, false, ◌==◌, if◌then◌else◌}
+use Rattle.std.specs.Prelude.{Ok}
 use Rattle.httparse.specs.Grammar.{RequestHead, HasNoRequest, MayBecomeRequest, print_request}
 use Rattle.http_head.specs.Heads.{ReadsHead, body_length, marks_of, most_head}
 
@@ -21,7 +22,8 @@ pub record IsHeadOf (bytes : List ℕ) (a : Asked) (h : RequestHead) (after : Li
 -- the bytes are that request, and then rest
 abbrev pub ReadsAsked : List ℕ → Asked → List ℕ → Type 0
 ReadsAsked bytes a rest =
-    (h : RequestHead) × (after : List ℕ) × IsHeadOf bytes a h after × (body_length (marks_of h.fields) ≡ Ok (length a.body)) × (after ≡ a.body ++ rest)
+    (h : RequestHead) × (after : List ℕ) × IsHeadOf bytes a h after
+    × (body_length (marks_of h.fields) ≡ Ok (length a.body)) × (after ≡ a.body ++ rest)
 
 -- the bytes end inside a head
 abbrev pub EndsInHead : List ℕ → Type 0
@@ -29,7 +31,8 @@ EndsInHead bytes = (bytes ≢ []) × (length bytes < most_head) × HasNoRequest 
 
 -- the bytes end inside a body, of n bytes
 abbrev pub EndsInBody : List ℕ → Type 0
-EndsInBody bytes = (a : Asked) × (h : RequestHead) × (after : List ℕ) × (n : ℕ) × IsHeadOf bytes a h after × (body_length (marks_of h.fields) ≡ Ok n) × (length after < n)
+EndsInBody bytes = (a : Asked) × (h : RequestHead) × (after : List ℕ) × (n : ℕ) × IsHeadOf bytes a h after
+    × (body_length (marks_of h.fields) ≡ Ok n) × (length after < n)
 
 -- the bytes end later in a request than before its first byte
 abbrev pub IsCut : List ℕ → Type 0

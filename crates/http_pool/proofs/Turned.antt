@@ -9,12 +9,11 @@ use Rattle.http_reply.specs.declared.front.Front.{Front}
 use Rattle.http_reply.specs.declared.front.Front.TheVariants as front
 use Rattle.http_reply.specs.Replies.{refusal_bytes}
 use Rattle.http_front.specs.Connections.{front_of, replies_more}
-use Rattle.http_front.specs.Served.{Declines}
+use Rattle.http_front.specs.Served.{Declines, turn_of}
 use Rattle.http_front.proofs.Conns.{more_twice, no_more}
 use Rattle.http_front.proofs.Texts.{silent}
-use Rattle.http_pool.specs.declared.connection.Turn.{Turn}
-use Rattle.http_pool.specs.declared.connection.Turn.TheVariants as turn
-use Rattle.http_pool.specs.Ends.{turn_of}
+use Rattle.http_front.specs.declared.serving.Turn.{Turn}
+use Rattle.http_front.specs.declared.serving.Turn.TheVariants as turn
 use Rattle.http_pool.specs.Written.{AreAnswers, AreFirst, Grows, IsAnswer, Turned}
 use Rattle.http_pool.proofs.Grown.{by_both, by_none, seen_as}
 
@@ -30,8 +29,8 @@ pub asked : (r : Result Bool Front) (t : Result Turn Front) (c c' : Option (List
 asked r t c c' e g = seen_as c c' (λ out. IsAnswer out r) (Turned t)
     (λ x h. subst (λ (t : Result Turn Front). Turned t x) (sym e) (answered r x h)) g
 
-pub clean : (c : Option (List ℕ)) → Grows c c (Turned (Ok turn.Clean))
-clean c = by_none c (Turned (Ok turn.Clean)) AreAnswers.none
+pub clean : (c : Option (List ℕ)) → Grows c c (Turned (Ok turn.End))
+clean c = by_none c (Turned (Ok turn.End)) AreAnswers.none
 
 -- a request that is not read
 module _ (c c' : Option (List ℕ)) (m m' : ℕ) (end : Front) where
@@ -96,16 +95,16 @@ module _ (n : ℕ) (a b : Option (List ℕ)) (g : Grows a b (AreFirst n)) where
     of : (k : Turn) → t ≡ k → Grows b c (Turned (Ok k))
     of k e = subst (λ (t : Turn). Grows b c (Turned (Ok t))) e h
 
-    pub goes_on : t ≡ turn.Open → Grows a c (AreFirst (n + 1))
-    goes_on e = by_both a b c (AreFirst n) (AreFirst 1) (AreFirst (n + 1)) (first_more n) g (of turn.Open e)
+    pub goes_on : t ≡ turn.More → Grows a c (AreFirst (n + 1))
+    goes_on e = by_both a b c (AreFirst n) (AreFirst 1) (AreFirst (n + 1)) (first_more n) g (of turn.More e)
 
-    pub closes : t ≡ turn.Closed → Grows a c (λ out. AreAnswers out (Ok (n + 1)))
+    pub closes : t ≡ turn.Last → Grows a c (λ out. AreAnswers out (Ok (n + 1)))
     closes e = by_both a b c (AreFirst n) (λ out. AreAnswers out (Ok 1)) (λ out. AreAnswers out (Ok (n + 1)))
-        (λ x y p q. p y (Ok 1) q) g (of turn.Closed e)
+        (λ x y p q. p y (Ok 1) q) g (of turn.Last e)
 
-    pub ends_clean : t ≡ turn.Clean → Grows a c (λ out. AreAnswers out (Ok n))
+    pub ends_clean : t ≡ turn.End → Grows a c (λ out. AreAnswers out (Ok n))
     ends_clean e = by_both a b c (AreFirst n) (λ out. AreAnswers out (Ok 0)) (λ out. AreAnswers out (Ok n))
-        (λ x y p q. subst (λ (k : ℕ). AreAnswers (x ++ y) (Ok k)) (omega arith) (p y (Ok 0) q)) g (of turn.Clean e)
+        (λ x y p q. subst (λ (k : ℕ). AreAnswers (x ++ y) (Ok k)) (omega arith) (p y (Ok 0) q)) g (of turn.End e)
 
   pub ends_badly : (c : Option (List ℕ)) (f : Front) → Grows b c (Turned (Err f)) → Grows a c (λ out. AreAnswers out (Err f))
   ends_badly c f h = by_both a b c (AreFirst n) (λ out. AreAnswers out (Err f)) (λ out. AreAnswers out (Err f))

@@ -7,8 +7,8 @@ use Rattle.http_reply.specs.declared.front.Front.{Front}
 use Rattle.http_reply.specs.declared.front.Front.TheVariants as front
 use Rattle.http_reply.specs.Replies.{chunk, last_chunk, refusal_bytes, reply_bytes, stream_head}
 use Rattle.http_front.specs.Connections.{IsSent, end_of, front_of, replies_more}
-use Rattle.http_pool.specs.declared.connection.Turn.{Turn}
-use Rattle.http_pool.specs.declared.connection.Turn.TheVariants as turn
+use Rattle.http_front.specs.declared.serving.Turn.{Turn}
+use Rattle.http_front.specs.declared.serving.Turn.TheVariants as turn
 
 -- What stands behind the first message of a stream, and whether the connection is closed then, or what cut it.
 pub data AreMessages : List ℕ → Result Bool Front → Type 0 where
@@ -71,9 +71,9 @@ AreFirst n out = (more : List ℕ) (r : Result ℕ Front) → AreAnswers more r
 
 -- what one turn writes
 abbrev pub Turned : Result Turn Front → List ℕ → Type 0
-Turned (Ok turn.Open) out = AreFirst 1 out
-Turned (Ok turn.Closed) out = AreAnswers out (Ok 1)
-Turned (Ok turn.Clean) out = AreAnswers out (Ok 0)
+Turned (Ok turn.More) out = AreFirst 1 out
+Turned (Ok turn.Last) out = AreAnswers out (Ok 1)
+Turned (Ok turn.End) out = AreAnswers out (Ok 0)
 Turned (Err f) out = AreAnswers out (Err f)
 
 -- the head of a stream and its first message, as far as they were written

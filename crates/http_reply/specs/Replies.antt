@@ -1,5 +1,6 @@
 -- The bytes of HTTP/1.1 messages (RFC 9112, sections 2.1, 4, 5, 6 and 7.1).
-use Rattle.std.specs.Prelude.{ℕ, ◌+◌, List, [], ◌∷◌, ◌++◌, length, Bool, true, false, ◌==◌, if◌then◌else◌, Option, None, Some, codes, decimal}
+use Rattle.std.specs.Prelude.{ℕ, ◌+◌, List, [], ◌∷◌, ◌++◌, length, Bool, true, false, ◌==◌, if◌then◌else◌, Option, None}
+use Rattle.std.specs.Prelude.{Some, codes, decimal}
 use Rattle.std.specs.Fmt.{digits}
 use Rattle.kv_model.specs.Answers.{Fault, Response, fault, refused}
 use Rattle.http_reply.specs.declared.front.Front.{Front}
@@ -12,7 +13,8 @@ line_end = 13 ∷ 10 ∷ []
 -- the reason phrase of a status
 abbrev pub reason : ℕ → List ℕ
 reason status = if status == 200 then codes "OK"
-    else (if status == 400 then codes "Bad Request" else (if status == 404 then codes "Not Found" else codes "Internal Server Error"))
+    else (if status == 400 then codes "Bad Request"
+    else (if status == 404 then codes "Not Found" else codes "Internal Server Error"))
 
 abbrev pub status_line : ℕ → List ℕ
 status_line status = codes "HTTP/1.1 " ++ decimal status ++ codes " " ++ reason status ++ line_end
@@ -32,11 +34,13 @@ connection_close = field (codes "Connection") (codes "close")
 
 -- a whole reply, after which the connection is closed or not: status line, fields, an empty line, body
 unfoldable pub reply_bytes : Response → Bool → List ℕ
-reply_bytes r close = status_line r.status ++ content_type ++ content_length r.body ++ (if close then connection_close else []) ++ line_end ++ r.body
+reply_bytes r close = status_line r.status ++ content_type ++ content_length r.body
+    ++ (if close then connection_close else []) ++ line_end ++ r.body
 
 -- what stands before the messages of a stream, whose connection is closed after it
 unfoldable pub stream_head : List ℕ
-stream_head = status_line 200 ++ content_type ++ field (codes "Transfer-Encoding") (codes "chunked") ++ connection_close ++ line_end
+stream_head = status_line 200 ++ content_type ++ field (codes "Transfer-Encoding") (codes "chunked")
+    ++ connection_close ++ line_end
 
 -- a message and a line feed, as one chunk: their length, its line end, they themselves, a line end
 unfoldable pub chunk : List ℕ → List ℕ

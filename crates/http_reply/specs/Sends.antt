@@ -7,7 +7,8 @@ use Rattle.http_reply.specs.declared.front.Front.{Front}
 use Rattle.http_reply.specs.declared.front.Front.TheVariants as front
 use Rattle.http_reply.specs.Counts.{one_more}
 
--- the bytes that a writer is known to hold grow by the text, by exactly the counted beginning of it where a write failed, and by nothing without memory
+-- the bytes that a writer is known to hold grow by the text, by exactly the counted beginning of it where a write
+-- failed, and by nothing without memory
 abbrev pub Sends : {T : Type 0} → Result T Front → Option (List ℕ) → Option (List ℕ) → List ℕ → Type 0
 Sends (Ok x) old new text = Appends old new text
 Sends (Err (front.Write n)) old new text = (n < length text) × Appends old new (take n text)

@@ -1,5 +1,6 @@
 //! Replies, and streams of messages.
-ghost use Rattle.std.specs.Prelude.{◌≡◌, ◌<◌, ◌≤◌, [], codes, decimal, if◌then◌else◌, length, IfErr};
+ghost use Rattle.std.specs.Prelude.{◌≡◌, ◌<◌, ◌≤◌, [], codes, decimal, if◌then◌else◌, length};
+ghost use Rattle.std.specs.Prelude.{IfErr};
 ghost use Rattle.http_reply.specs.Counts.{failures_of, inner_of};
 ghost use Rattle.http_reply.specs.Replies as spec;
 ghost use Rattle.http_reply.specs.Replies.{chunk, last_chunk, reply_bytes, stream_head};

@@ -10,10 +10,8 @@ use Rattle.kv_model.specs.declared.refusal.Refusal.TheVariants.{RevisionsSpent}
 use Rattle.kv_model.specs.Answers.{Response}
 use Rattle.kv_model.specs.Calls.{Call}
 use Rattle.kv_model.specs.Follows as follows
-use Rattle.kv_model.specs.Headline.{IsRun, KeepsWell}
-use Rattle.kv_model.specs.Certificates.{claims_of}
-use Rattle.kv_model.specs.Dumps.{Claim, Dump}
-use Rattle.kv_model.specs.Kept.{Changes, IsDone, Keeping, Trims, dump_of, kept_after}
+use Rattle.kv_model.specs.Headline.{IsRun, KeepsWell, Changes, IsDone, Keeping, Trims, dump_of, kept_after}
+use Rattle.kv_model.specs.Certificates.{claims_of, Claim, Dump}
 use Rattle.kv_model.specs.Requests.{Bad, request_of}
 use Rattle.kv_model.specs.Step.{expire}
 use Rattle.kv_model.specs.Told.{Expiry as ModelExpiry, Trimmed}

@@ -5,7 +5,7 @@ use Rattle.kv_model.specs.declared.ids.Ids.{Ids}
 use Rattle.kv_model.specs.declared.refusal.Refusal.{Refusal}
 use Rattle.kv_model.specs.Answers.{Fault, Response, response_to}
 use Rattle.kv_model.specs.Calls.{Call}
-use Rattle.kv_model.specs.Kept.{kept_after}
+use Rattle.kv_model.specs.Headline.{kept_after}
 use Rattle.kv_model.specs.Leases.{Lease, due}
 use Rattle.kv_model.specs.Requests as requests
 use Rattle.kv_model.specs.Requests.{Read, request_of}

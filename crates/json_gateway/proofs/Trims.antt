@@ -3,10 +3,11 @@ use Rattle.std.proofs.Common.{◌≡◌, ◌<◌, ℕ, suc, ◌&&◌, ◌||◌, 
 use Rattle.std.specs.Prelude.{is_none, is_some}
 use Rattle.kv_model.specs.declared.refusal.Refusal.{Refusal}
 use Rattle.kv_model.specs.declared.call.Txn.{Txn}
-use Rattle.kv_model.specs.Calls.{Call, Ops, as_call, txn_view}
+use Rattle.kv_model.specs.Calls.{Call, Ops, as_call}
+use Rattle.kv_model.specs.Commands.{txn_view}
 use Rattle.kv_model.specs.Step.{perform, refused_or, compact_in, compact_refusal, at_least_zero, answer_of as answer_of_made}
 use Rattle.kv_model.specs.Told.{Answer, Reply, Trimmed}
-use Rattle.kv_model.specs.Kept.{IsDone, IsTrimmed, Keeping, Trims}
+use Rattle.kv_model.specs.Headline.{IsDone, IsTrimmed, Keeping, Trims}
 use Rattle.kv_model.specs.Questions.{IsLeast}
 use Rattle.kv_model.specs.Wire.{WireTold, changes_beside, is_physical_call, trim_told}
 use Rattle.kv_model.specs.Answers.{Response}

@@ -8,7 +8,7 @@ use Rattle.kv_model.specs.Told.{Trimmed}
 use Rattle.kv_model.specs.World.{World, revision}
 use Rattle.kv_model.specs.Step.{Made, made_in}
 use Rattle.kv_model.specs.Wire.{Loss, raised, number_made, changes_beside}
-use Rattle.kv_model.specs.Kept.{kept_after}
+use Rattle.kv_model.specs.Headline.{kept_after}
 use Rattle.store_laws.specs.Stands.{StandsFor}
 use Rattle.gateway_read.specs.declared.bad.Bad.{Bad}
 use Rattle.gateway_read.specs.declared.bad.Bad.TheVariants.{NotJson, BadField, BadBase64, NoPath, TooLong, Memory}

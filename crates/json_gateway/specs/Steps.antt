@@ -5,15 +5,16 @@ use Rattle.kv_model.specs.World.{World}
 use Rattle.kv_model.specs.Follows as follows
 use Rattle.kv_model.specs.Wire as model
 use Rattle.kv_model.specs.Wire.{wire_step, is_free, takes_memory, MayLose}
-use Rattle.kv_model.specs.Kept.{IsTrimmed, Keeps}
+use Rattle.kv_model.specs.Headline.{IsTrimmed, Keeps}
 use Rattle.store_laws.specs.Stands.{StandsFor}
 use Rattle.request_core.specs.State.{CoreState, keeping_of}
 
 -- the outcome is the model's for this event, the core then stands for the world after it, and it keeps what it has to
-pub record Steps (ids : Ids) (w : World) (e : model.WireEvent) (o : model.WireOutcome) (old new : CoreState) : Type 0 where
-  pub answers : follows.Answers (wire_step ids) is_free takes_memory MayLose w e o
-  pub stands : StandsFor new.store (follows.after_outcome (wire_step ids) w e o)
-  pub keeps : Keeps ids w (keeping_of old) e o (keeping_of new)
+pub record Steps (ids : Ids) (w : World) (e : model.WireEvent) (o : model.WireOutcome) (old new : CoreState) : Type 0
+  where
+    pub answers : follows.Answers (wire_step ids) is_free takes_memory MayLose w e o
+    pub stands : StandsFor new.store (follows.after_outcome (wire_step ids) w e o)
+    pub keeps : Keeps ids w (keeping_of old) e o (keeping_of new)
 
 -- ---- trimming that an answer waits for
 

@@ -1,7 +1,7 @@
 //! One command or one request on a core, from bytes to bytes.
 ghost use Rattle.std.specs.Prelude.{◌≡◌, ◌&&◌, true, false, None, Ok, map, IfOk};
 ghost use Rattle.kv_model.specs.Answers.{Response, answered, fault_of, response_to};
-ghost use Rattle.kv_model.specs.Calls.{call_of};
+ghost use Rattle.kv_model.specs.Commands.{call_of};
 ghost use Rattle.kv_model.specs.Requests.{request_of};
 ghost use Rattle.store_laws.specs.Stands.{StandsFor};
 ghost use Rattle.kv_model.specs.Step.{made_in, perform as perform_in};
@@ -12,7 +12,8 @@ ghost use Rattle.gateway_text.specs.Views.{wording_view};
 ghost use Rattle.request_core.specs.Answers.{IsReadable, answer_of, answer_view, has_changed};
 ghost use Rattle.request_core.specs.Answers.{is_memory, time_left_view};
 ghost use Rattle.json_gateway.specs.Endings.{Ends, IsCounted, KeepsAs, Refuses, Settles};
-ghost use Rattle.json_gateway.specs.Endings.{fault_of_reading, is_change, is_change_by, is_physical, is_want};
+ghost use Rattle.json_gateway.specs.Endings.{fault_of_reading, is_change, is_change_by};
+ghost use Rattle.json_gateway.specs.Endings.{is_physical, is_want};
 ghost use Rattle.json_gateway.specs.Outcomes.{IsBare, is_accepted};
 
 use crate::outcome::{Outcome, Reply, Settled};
@@ -106,7 +107,8 @@ fn is_physical(command: &Command) -> bool
     }
 }
 
-/// Whether the answer to an accepted command waits until trimming is done: it is a physical Compact.
+/// Whether the answer to an accepted command waits until trimming is done: it is a physical
+/// Compact.
 fn waits(command: &Command, receipt: &Receipt<'_>) -> bool
     ensures { result ≡ (is_physical (call_of command.now) && has_changed receipt.now) }
 {

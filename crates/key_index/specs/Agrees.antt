@@ -4,8 +4,7 @@ use Rattle.std.specs.List.{find}
 use Rattle.kv_model.specs.declared.version.Rev.{Rev}
 use Rattle.kv_model.specs.declared.version.Version.{Version}
 use Rattle.kv_model.specs.Keys.{same_key}
-use Rattle.kv_model.specs.History.{KeyValue, latest, key_value}
-use Rattle.kv_model.specs.Kept.{is_at}
+use Rattle.kv_model.specs.History.{KeyValue, latest, key_value, is_at}
 use Rattle.key_index.specs.KeyRevisions.{at_place}
 use Rattle.key_index.specs.Index.{Index, IsIndex, revisions}
 

@@ -145,8 +145,8 @@ impl KeyIndex {
         changes::drop_at(&mut self.keys, key, rev);
     }
 
-    /// The revisions of a key, lent: none where the index has not the key. Takes no memory, and time
-    /// logarithmic in the number of keys.
+    /// The revisions of a key, lent: none where the index has not the key. Takes no memory, and
+    /// time logarithmic in the number of keys.
     pub fn get(&self, key: &Bytes) -> Option<&Revisions>
         ensures { option_copied result ≡ found key.now self.now }
     {

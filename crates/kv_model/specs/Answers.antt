@@ -20,7 +20,7 @@ use Rattle.kv_model.specs.declared.ids.Ids.{Ids}
 use Rattle.kv_model.specs.Lists.{is_empty}
 use Rattle.kv_model.specs.History.{KeyValue, key_value}
 use Rattle.kv_model.specs.Ranges.{RangeReply}
-use Rattle.kv_model.specs.Events.{WatchEvent}
+use Rattle.kv_model.specs.Watches.{WatchEvent}
 use Rattle.kv_model.specs.Txns.{Replies}
 use Rattle.kv_model.specs.Watches.{Delivery}
 use Rattle.kv_model.specs.Told.{Reply, Answer}

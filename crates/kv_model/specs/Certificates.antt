@@ -1,18 +1,55 @@
--- Certificates: a dump of the versions that are kept, a need for each, and what a check of the two finds.
-use Rattle.std.specs.Prelude.{◌≡◌, ℕ, max, List, [], ◌∷◌, find, filter_map, count_by, Bool, not, ◌&&◌, ◌==◌, nat_lt}
+-- Certificates: a dump of the versions that are kept, why each is needed, and what a check of the two finds.
+use Rattle.std.specs.Prelude.{◌≡◌, ◌≢◌, ℕ, max, List, [], ◌∷◌, find, filter_map, count_by, Bool, not, ◌&&◌, ◌==◌}
+use Rattle.std.specs.Prelude.{nat_lt}
 use Rattle.std.specs.Prelude.{nat_le, if◌then◌else◌, Option, None, Some, option_map, ⊤}
 use Rattle.std.specs.Option.{option_or}
 use Rattle.kv_model.specs.declared.version.Rev.{Rev}
 use Rattle.kv_model.specs.declared.version.Version.{Version}
 use Rattle.kv_model.specs.declared.version.Body.{Body}
 use Rattle.kv_model.specs.declared.version.Body.TheVariants.{Put, Gone}
-use Rattle.kv_model.specs.Lists.{is_empty}
+use Rattle.kv_model.specs.Lists.{is_empty, IsPart, IsIn}
 use Rattle.kv_model.specs.Keys.{same_key}
-use Rattle.kv_model.specs.History.{rev_lt}
-use Rattle.kv_model.specs.Events.{before_is_kept}
-use Rattle.kv_model.specs.Dumps.{Dump, Claim, Need}
-use Rattle.kv_model.specs.Needs.{HasNeedBy}
-use Rattle.kv_model.specs.Trimming.{is_at, is_tombstone, is_superseded}
+use Rattle.kv_model.specs.History.{rev_lt, is_at, is_tombstone, is_superseded}
+use Rattle.kv_model.specs.Ranges.{plain_range}
+use Rattle.kv_model.specs.Watches.{plain_watch, before_is_kept}
+use Rattle.kv_model.specs.Questions.{Question, IsQuestion, answered_by}
+
+-- the versions that a store keeps; floor is the revision of its last compaction
+pub record Dump : Type 0 where
+  pub floor : ℕ
+  pub revision : ℕ
+  pub versions : List Version
+
+-- a Range of the version's key at a revision, or a watch of it
+pub data Need : Type 0 where
+  range : ℕ → Need
+  watch : ℕ → Need
+
+-- the version at this revision has this need
+pub record Claim : Type 0 where
+  pub rev : Rev
+  pub need : Need
+
+-- ---- why a version is kept: a question that no list without it answers
+
+-- every part without the version answers the question otherwise, by any test of previous values
+abbrev pub IsNeededBy : (ℕ → ℕ → Bool) → ℕ → ℕ → List Version → Version → Question → Type 0
+IsNeededBy has_before c now vs v q =
+    (us : List Version) → IsPart us vs → (IsIn v us → ⊥)
+    → answered_by has_before us c now q ≢ answered_by has_before vs c now q
+
+abbrev pub question_of : Version → Need → Question
+question_of v (Need.range r) = Question.range (plain_range v.key r)
+question_of v (Need.watch r) = Question.watch (plain_watch v.key) r
+
+-- the version has this need among the versions, by any test of previous values
+pub record HasNeedBy (has_before : ℕ → ℕ → Bool) (c now : ℕ) (vs : List Version) (v : Version) (n : Need) : Type 0 where
+  pub asked : IsQuestion c now (question_of v n)
+  pub needed : IsNeededBy has_before c now vs v (question_of v n)
+
+-- and by this store's
+abbrev pub HasNeed : ℕ → ℕ → List Version → Version → Need → Type 0
+HasNeed = HasNeedBy before_is_kept
 
 -- ---- the certificate of a dump
 

@@ -1,18 +1,14 @@
 -- What an event changes of the versions and of the compaction, as it is published to readers.
-use Rattle.std.specs.Prelude.{List, [], ◌∷◌, length, drop, nat_lt, if◌then◌else◌}
+use Rattle.std.specs.Prelude.{List, [], ◌∷◌, nat_lt, if◌then◌else◌}
 use Rattle.kv_model.specs.declared.version.Version.{Version}
 use Rattle.kv_model.specs.Calls.{Call}
-use Rattle.kv_model.specs.World.{World, versions, revision}
+use Rattle.kv_model.specs.World.{World, versions, revision, added}
 use Rattle.kv_model.specs.Step.{perform, expire}
 use Rattle.kv_model.specs.Feed.{Published, Untrimmed}
 
 -- a world as one has it who was told of every change
 abbrev pub untrimmed : World → Untrimmed
 untrimmed w = record { versions = versions w; compacted = w.compacted; revision = revision w }
-
--- the versions that the second world has behind those of the first
-abbrev pub added : World → World → List Version
-added w u = drop (length (versions w)) (versions u)
 
 -- one batch, or none where there is nothing in it
 abbrev pub batch_of : List Version → List Published

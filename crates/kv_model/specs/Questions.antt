@@ -7,7 +7,7 @@ use Rattle.kv_model.specs.declared.refusal.Refusal.{Refusal}
 use Rattle.kv_model.specs.Lists.{IsPart}
 use Rattle.kv_model.specs.History.{Mutation, now, dress, end_of}
 use Rattle.kv_model.specs.Ranges.{RangeReply, range_answer}
-use Rattle.kv_model.specs.Events.{WatchEvent, events_of_by, before_is_kept}
+use Rattle.kv_model.specs.Watches.{WatchEvent, events_of_by, before_is_kept}
 
 -- a Range at the revision that it names, or a watch of one revision
 pub data Question : Type 0 where

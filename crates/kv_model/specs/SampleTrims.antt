@@ -5,15 +5,15 @@ use Rattle.kv_model.specs.declared.version.Version.{Version}
 use Rattle.kv_model.specs.declared.version.Body.TheVariants.{Put}
 use Rattle.kv_model.specs.Calls.{Call, Ops}
 use Rattle.kv_model.specs.World.{World, opening}
-use Rattle.kv_model.specs.Told.{Event, Trimmed}
-use Rattle.kv_model.specs.Step.{step, world_after}
-use Rattle.kv_model.specs.Trimming.{trimmed, is_superseded}
-use Rattle.kv_model.specs.Certificates.{NeedFault, claims_of, first_fault}
+use Rattle.kv_model.specs.PlainRuns.{Event, step, world_after}
+use Rattle.kv_model.specs.Told.{Trimmed}
+use Rattle.kv_model.specs.Trimming.{trimmed}
+use Rattle.kv_model.specs.History.{is_superseded}
+use Rattle.kv_model.specs.Certificates.{NeedFault, claims_of, first_fault, Dump, Claim, Need}
 use Rattle.kv_model.specs.Feed.{Published, Snapshot, blank, absorb}
 use Rattle.kv_model.specs.Changes.{change_between}
 use Rattle.kv_model.specs.OnLiterals.{model_on_literals}
 use Rattle.kv_model.specs.Samples.{a, b, c, x, y, one, two, put_of, put_event, delete_event, compact_event, rev_at}
-use Rattle.kv_model.specs.Dumps.{Dump, Claim, Need}
 
 -- an `unfolding` line that names this opens the definitions of trimming and of certificates
 unfoldable pub trimming_on_literals : ⊤

@@ -9,12 +9,12 @@ use Rattle.kv_model.specs.declared.refusal.Refusal.{Refusal}
 use Rattle.kv_model.specs.Keys.{one_key, all_keys}
 use Rattle.kv_model.specs.History.{KeyValue}
 use Rattle.kv_model.specs.Ranges.{plain_range}
-use Rattle.kv_model.specs.Events.{WatchEvent}
+use Rattle.kv_model.specs.Watches.{WatchEvent}
 use Rattle.kv_model.specs.Calls.{Call}
 use Rattle.kv_model.specs.Watches.{Delivery}
 use Rattle.kv_model.specs.World.{opening}
-use Rattle.kv_model.specs.Told.{Reply, Event, Told}
-use Rattle.kv_model.specs.Step.{told_by, world_after}
+use Rattle.kv_model.specs.Told.{Reply}
+use Rattle.kv_model.specs.PlainRuns.{Event, Told, told_by, world_after}
 
 -- ---- keys and values
 

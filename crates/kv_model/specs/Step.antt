@@ -1,6 +1,6 @@
 -- One event of the store: its reply, and the world after it.
 use Rattle.std.specs.Prelude.{ℕ, zero, suc, ◌+◌, ◌-◌, ◌^◌, ℤ, pos, negsuc, List, [], ◌∷◌, ◌++◌, length, map, Bool}
-use Rattle.std.specs.Prelude.{false, not, ◌||◌, ◌==◌, nat_lt, nat_le, if◌then◌else◌, Option, None, Some, is_some}
+use Rattle.std.specs.Prelude.{false, not, ◌||◌, ◌==◌, nat_lt, nat_le, if◌then◌else◌, Option, None, Some}
 use Rattle.std.specs.Prelude.{Result, Ok, Err}
 use Rattle.std.specs.Option.{option_or}
 use Rattle.kv_model.specs.declared.version.KeyRange.{KeyRange}
@@ -21,9 +21,8 @@ use Rattle.kv_model.specs.Txns.{Path, put_fault, put_refusal, static_fault, run_
 use Rattle.kv_model.specs.Txns.{delete_changes, deletes_of, put_change, previous_value, if_asked}
 use Rattle.kv_model.specs.Leases.{Lease, is_granted, lease_at, insert_lease, without_lease, id_asked, ttl_asked}
 use Rattle.kv_model.specs.Leases.{deadline_of, seconds_left, renewed, keys_of_lease, due, most_leases, longest_ttl}
-use Rattle.kv_model.specs.World.{World, Watch, revision, versions, changed, at_moment, watch_at, without_watch}
-use Rattle.kv_model.specs.Watches.{Delivery, deliver}
-use Rattle.kv_model.specs.Told.{Reply, Answer, Expiry, Event, Told}
+use Rattle.kv_model.specs.World.{World, Watch, revision, versions, changed}
+use Rattle.kv_model.specs.Told.{Reply, Answer, Expiry}
 
 abbrev pub last_main : ℕ
 last_main = 2 ^ 63 - 1
@@ -207,37 +206,3 @@ expire_at w (Some l) = expiry_of l.id w (revoke_in w l.id)
 -- the lease that is due first is revoked
 abbrev pub expire : World → Expiry × World
 expire w = expire_at w (due w.clock w.leases)
-
--- ---- any event
-
-abbrev pub tell_answer : Result Answer Refusal × World → Told × World
-tell_answer p = (Told.answer p.0, p.1)
-
-abbrev pub tell_delivery : ℕ → Delivery × World → Told × World
-tell_delivery now p = (Told.delivery p.0 now, p.1)
-
-abbrev pub tell_expiry : Expiry × World → Told × World
-tell_expiry p = (Told.expiry p.0, p.1)
-
--- one event: what is told, and the world after it; trimming and certifying change nothing, and what they tell goes by
--- what is kept
-abbrev pub step : World → Event → Told × World
-step w (Event.moment m) = (Told.clock (at_moment w m).clock, at_moment w m)
-step w (Event.command call) = tell_answer (perform w call)
-step w (Event.deliver n) = tell_delivery (revision w) (deliver w n)
-step w (Event.close n) = (
-  Told.closed (is_some (watch_at w.watches n)),
-  record w { watches = without_watch n w.watches },
-)
-step w Event.expire = tell_expiry (expire w)
-step w Event.trim = (Told.untold, w)
-step w Event.certify = (Told.untold, w)
-
--- what a list of events tells, from a world on
-abbrev pub told_by : World → List Event → List Told
-told_by w [] = []
-told_by w (e ∷ es) = (step w e).0 ∷ told_by (step w e).1 es
-
-abbrev pub world_after : World → List Event → World
-world_after w [] = w
-world_after w (e ∷ es) = world_after (step w e).1 es

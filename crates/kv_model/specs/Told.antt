@@ -1,17 +1,14 @@
 -- What happens to a store, and what it tells.
-use Rattle.std.specs.Prelude.{ℕ, ℤ, List, Bool, Option, Result}
-use Rattle.kv_model.specs.declared.refusal.Refusal.{Refusal}
+use Rattle.std.specs.Prelude.{ℕ, ℤ, List, Bool, Option}
 use Rattle.kv_model.specs.declared.version.Rev.{Rev}
 use Rattle.kv_model.specs.History.{KeyValue}
 use Rattle.kv_model.specs.Ranges.{RangeReply}
-use Rattle.kv_model.specs.Calls.{Call}
 use Rattle.kv_model.specs.Txns.{Replies}
-use Rattle.kv_model.specs.Watches.{Delivery}
 
 -- The reply to an accepted command. A put has the key-value before, where it was asked for; a delete the number of keys
 -- deleted, and their key-values before; a transaction whether its compares held. A watch has the client's ID for it and
--- the store's number, a grant and a KeepAlive the lease's ID and time to live in seconds. A time to live has the ID, the
--- seconds left, those granted, and the keys of the lease.
+-- the store's number, a grant and a KeepAlive the lease's ID and time to live in seconds. A time to live has the ID,
+-- the seconds left, those granted, and the keys of the lease.
 pub data Reply : Type 0 where
   range : RangeReply → Reply
   put : Option KeyValue → Reply
@@ -30,8 +27,8 @@ pub record Answer : Type 0 where
   pub reply : Reply
   pub revision : ℕ
 
--- An expiry step: no lease is due, or one is revoked (its ID, the revision after it, and whether that rose), or its keys
--- can't be deleted since the revisions are spent.
+-- An expiry step: no lease is due, or one is revoked (its ID, the revision after it, and whether that rose), or its
+-- keys can't be deleted since the revisions are spent.
 pub data Expiry : Type 0 where
   nothing : Expiry
   expired : ℤ → ℕ → Bool → Expiry
@@ -42,24 +39,3 @@ pub data Trimmed : Type 0 where
   removed : Rev → Trimmed
   kept : Rev → Trimmed
   done : ℕ → Trimmed
-
--- What happens to a store: the clock is read (in milliseconds), a client asks, a watch is told what it has not seen or is
--- closed (by its number), or the server itself makes a step of expiry or of trimming, or shows what it keeps.
-pub data Event : Type 0 where
-  moment : ℕ → Event
-  command : Call → Event
-  deliver : ℕ → Event
-  close : ℕ → Event
-  expire : Event
-  trim : Event
-  certify : Event
-
--- What an event is answered. A delivery comes with the revision of the store, and a closing tells whether the watch stood.
--- Untold is what trimming and certifying tell: that goes by what is kept.
-pub data Told : Type 0 where
-  clock : ℕ → Told
-  answer : Result Answer Refusal → Told
-  delivery : Delivery → ℕ → Told
-  closed : Bool → Told
-  expiry : Expiry → Told
-  untold : Told

@@ -1,21 +1,11 @@
 -- Trimming: one step looks at one version at or below the compaction, the oldest first (etcd: mvcc compaction).
-use Rattle.std.specs.Prelude.{◌≡◌, ℕ, ◌+◌, ◌-◌, ◌^◌, List, length, filter, find, Bool, false, not, ◌&&◌, ◌||◌, ◌==◌}
+use Rattle.std.specs.Prelude.{◌≡◌, ℕ, ◌+◌, ◌-◌, ◌^◌, List, length, find, Bool, false, not, ◌&&◌, ◌||◌}
 use Rattle.std.specs.Prelude.{nat_lt, nat_le, if◌then◌else◌, Option, None, Some}
-use Rattle.std.specs.List.{list_any, AllByRecursion}
+use Rattle.std.specs.List.{AllByRecursion}
 use Rattle.kv_model.specs.declared.version.Rev.{Rev}
 use Rattle.kv_model.specs.declared.version.Version.{Version}
-use Rattle.kv_model.specs.declared.version.Body.{Body}
-use Rattle.kv_model.specs.declared.version.Body.TheVariants.{Put, Gone}
-use Rattle.kv_model.specs.Keys.{same_key}
-use Rattle.kv_model.specs.History.{rev_lt}
+use Rattle.kv_model.specs.History.{rev_lt, without_rev, is_tombstone, is_superseded}
 use Rattle.kv_model.specs.Told.{Trimmed}
-
-abbrev pub is_at : Rev → Version → Bool
-is_at p v = v.rev.main == p.main && v.rev.sub == p.sub
-
-abbrev pub without_rev : Option Rev → List Version → List Version
-without_rev None vs = vs
-without_rev (Some p) vs = filter (λ v. not (is_at p v)) vs
 
 -- ---- where trimming has come to: the first place that it has not looked at
 
@@ -29,14 +19,6 @@ place_after p = if nat_lt p.sub (2 ^ 64 - 1) then record p { sub = p.sub + 1 }
     else p
 
 -- ---- what goes
-
-abbrev pub is_tombstone : Body → Bool
-is_tombstone (Put create version lease value) = Bool.false
-is_tombstone Gone = Bool.true
-
--- a later version of its key stands at or below the revision
-unfoldable pub is_superseded : List Version → ℕ → Version → Bool
-is_superseded vs r v = list_any (λ u. same_key u.key v.key && rev_lt v.rev u.rev && nat_le u.rev.main r) vs
 
 -- of the versions at or below the compaction c these go: a later one of the key is there, or it is a tombstone below c
 abbrev pub is_trimmed : List Version → ℕ → Version → Bool

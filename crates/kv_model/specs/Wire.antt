@@ -13,7 +13,7 @@ use Rattle.kv_model.specs.declared.ids.Ids.{Ids}
 use Rattle.kv_model.specs.Answers.{Response, response_to, refused, fault_of_bad, message_text}
 use Rattle.kv_model.specs.Follows as follows
 use Rattle.kv_model.specs.Follows.{Outcome}
-use Rattle.kv_model.specs.Dumps.{Dump, Claim}
+use Rattle.kv_model.specs.Certificates.{Dump, Claim}
 
 abbrev pub post_call : Ids → World → Result Call Bad → Response × World
 post_call ids w (Ok call) = (response_to ids (perform w call).0, (perform w call).1)

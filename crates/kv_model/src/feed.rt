@@ -21,7 +21,8 @@ pub trait Sink {
     /// That taking this operation leads from the first state to the second.
     ghost takes: { Self → Published → Self → Type 0 };
 
-    /// Takes one operation. `AllocError` comes where a growth found no memory, and then nothing has changed.
+    /// Takes one operation. `AllocError` comes where a growth found no memory, and then nothing has
+    /// changed.
     fn take(&mut self, op: Op) -> Result<(), AllocError>
         ensures ok { OnOk result (takes self.old (published op) self.new) }
         ensures err { OnErr result (self.new ≡ self.old) };

@@ -1,4 +1,10 @@
-// A revisioned key store: its data types, and in specs/ what it does.
+//! What a store of keys with revisions is, and what it answers.
+//!
+//! The data types stand here: requests ([`call`]), versions ([`version`]), refusals ([`refusal`]).
+//! Their meaning stands in `specs/`: `Step` says what each command does to the whole history, and
+//! `Headline` what a run of the program promises. `specs/Sample*.antt` and `specs/Texts.antt` are
+//! worked rows, which the check computes. No code of the store stands here, and no test: those who
+//! use a type test it.
 #![tactic(auto)]
 
 pub mod call;

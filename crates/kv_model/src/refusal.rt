@@ -39,7 +39,8 @@ pub enum Refusal {
     NoWatch,
     /// A change would need a revision above 2^63 - 1.
     RevisionsSpent,
-    /// The engine has made all the clients it can, or no reader's place is free. It never comes on the wire.
+    /// The engine has made all the clients it can, or no reader's place is free. It never comes on
+    /// the wire.
     NoPlace,
 }
 

@@ -8,8 +8,7 @@ use Rattle.std.proofs.lemmas.List.Elements.{filter-append}
 use Rattle.std.specs.List.{AllByRecursion}
 use Rattle.kv_model.specs.declared.version.Rev.{Rev}
 use Rattle.kv_model.specs.declared.version.Version.{Version}
-use Rattle.kv_model.specs.History.{rev_lt}
-use Rattle.kv_model.specs.Kept.{is_at, without_rev}
+use Rattle.kv_model.specs.History.{rev_lt, is_at, without_rev}
 use Rattle.store_laws.proofs.PlaceLaws.{each-map}
 use Rattle.store_laws.proofs.RevOrder.{below-cases, not-below-main}
 use Rattle.store_laws.proofs.Rising.{newest-cons, newest-none, rising-filter, rising-parts}

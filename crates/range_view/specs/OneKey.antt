@@ -4,7 +4,7 @@ use Rattle.std.specs.Borrow.{Bor}
 use Rattle.std.specs.List.{find}
 use Rattle.kv_model.specs.declared.version.Rev.{Rev}
 use Rattle.kv_model.specs.declared.version.Version.{Version}
-use Rattle.kv_model.specs.Kept.{is_at}
+use Rattle.kv_model.specs.History.{is_at}
 
 -- the revisions that the index has of a key, if it has the key
 abbrev pub held : Option (Bor (List Rev)) → List Rev

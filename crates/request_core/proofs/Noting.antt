@@ -7,7 +7,7 @@ use Rattle.std.proofs.lemmas.Bool.Decides.{nat_tests}
 use Rattle.std.proofs.lemmas.List.Elements.{filter-append}
 use Rattle.kv_model.specs.declared.version.Version.{Version}
 use Rattle.kv_model.specs.declared.call.Watched.{Watched}
-use Rattle.kv_model.specs.Events.{matches}
+use Rattle.kv_model.specs.Watches.{matches}
 use Rattle.store_laws.specs.Stands.{Tracked, ahead_of, noted, first_main_of, is_reached, still_ahead}
 use Rattle.range_view.specs.Stored.{AreOf}
 use Rattle.watch_hub.proofs.Noted.{held}

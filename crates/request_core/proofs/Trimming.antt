@@ -3,12 +3,12 @@ use Rattle.std.proofs.Common.{◌≡◌, ◌≤◌, ◌<◌, ℕ, ◌^◌, List,
 use Rattle.std.specs.List.{AllByRecursion}
 use Rattle.kv_model.specs.declared.version.Version.{Version}
 use Rattle.kv_model.specs.History.{value_at, value_now, end_of, rev_le}
-use Rattle.kv_model.specs.Kept.{Trims}
+use Rattle.kv_model.specs.Headline.{Trims}
 use Rattle.kv_model.specs.Told.{Trimmed}
 use Rattle.kv_model.specs.Trimming.{trimmed, IsTrimmedTo}
 use Rattle.kv_model.specs.World.{World}
 use Rattle.store_laws.specs.Stands.{StandsFor}
-use Rattle.kv_model.specs.Dumps.{Claim}
+use Rattle.kv_model.specs.Certificates.{Claim}
 use Rattle.kv_model.specs.Wire.{trim_told}
 use Rattle.store_laws.specs.TrimmingLaws.{StepsWell, IsOwn, IsVisit, keeping}
 use Rattle.store_laws.proofs.PlaceLaws.{each-part, value_at-by}

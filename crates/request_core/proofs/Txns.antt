@@ -7,7 +7,8 @@ use Rattle.kv_model.specs.declared.call.Txn.{Txn}
 use Rattle.kv_model.specs.declared.refusal.Refusal.{Refusal}
 use Rattle.kv_model.specs.declared.refusal.Refusal.TheVariants.{Memory, RevisionsSpent}
 use Rattle.kv_model.specs.declared.version.Version.{Version}
-use Rattle.kv_model.specs.Calls.{Ops, as_call, txn_view}
+use Rattle.kv_model.specs.Calls.{Ops, as_call}
+use Rattle.kv_model.specs.Commands.{txn_view}
 use Rattle.kv_model.specs.History.{Mutation, end_of, rev_le, now_after}
 use Rattle.kv_model.specs.Leases.{is_granted}
 use Rattle.kv_model.specs.Lists.{is_empty}

@@ -24,7 +24,7 @@ use Rattle.store_laws.proofs.MoveLaws as model
 use Rattle.store_laws.proofs.MoveLaws.{command_moves}
 use Rattle.store_laws.proofs.KeepingLaws.{adds_kept, rises_kept}
 use Rattle.store_laws.specs.TrimmingLaws.{keeping}
-use Rattle.kv_model.specs.Kept.{kept_after}
+use Rattle.kv_model.specs.Headline.{kept_after}
 use Rattle.std.specs.List.{AllByRecursion}
 use Rattle.std.proofs.lemmas.List.{append-nil}
 use Rattle.request_core.specs.declared.answer.Receipt.{Receipt}

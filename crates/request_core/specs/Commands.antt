@@ -1,5 +1,6 @@
 -- What a command does with a core, and what one that is refused leaves.
-use Rattle.std.specs.Prelude.{◌≡◌, ◌⊎◌, ◌<◌, ℕ, List, ◌++◌, Bool, true, false, ◌||◌, nat_lt, Option, None, Some, Result, Ok, Err}
+use Rattle.std.specs.Prelude.{◌≡◌, ◌⊎◌, ◌<◌, ℕ, List, ◌++◌, Bool, true, false, ◌||◌, nat_lt, Option, None, Some, Result}
+use Rattle.std.specs.Prelude.{Ok, Err}
 use Rattle.std.specs.List.{AllByRecursion}
 use Rattle.kv_model.specs.declared.version.Version.{Version}
 use Rattle.std.specs.Prelude.{MatchBool, ⊤}
@@ -10,9 +11,9 @@ use Rattle.kv_model.specs.Step.{made_in, perform, expire}
 use Rattle.kv_model.specs.Told.{Reply, Answer, Trimmed, Expiry as ModelExpiry}
 use Rattle.kv_model.specs.Wire.{raised, number_made, changes_beside, trim_told}
 use Rattle.kv_model.specs.World.{World}
-use Rattle.kv_model.specs.Kept.{Trims, kept_after}
+use Rattle.kv_model.specs.Headline.{Trims, kept_after}
 use Rattle.kv_model.specs.Trimming.{oldest_place}
-use Rattle.kv_model.specs.Dumps.{Claim}
+use Rattle.kv_model.specs.Certificates.{Claim}
 use Rattle.store_laws.specs.TrimmingLaws.{IsOwn, IsVisit}
 use Rattle.trim_core.specs.declared.trimmer.Trim.{Trim}
 use Rattle.trim_core.specs.Told.{told_of}
@@ -109,8 +110,8 @@ pub record RefusesExpiry (old new : CoreState) (e : Refusal) : Type 0 where
 pub record MayTrim (w : World) (old new : CoreState) (told : Trimmed) : Type 0 where
   -- no answer has changed: it stands for the same world
   pub stands : StandsFor new.store w
-  -- the step is one that a run may make, told with the certificate of what is kept or with none: what goes no least list
-  -- has, and what stays some least list has
+  -- the step is one that a run may make, told with the certificate of what is kept or with none: what goes no least
+  -- list has, and what stays some least list has
   pub may : (certificate : Option (List Claim)) → IsOwn w old.store.versions certificate
       → Trims w (keeping_of old) (keeping_of old).ahead (trim_told told certificate) (keeping_of new)
 
@@ -152,8 +153,8 @@ pub record StartsOver (old new : CoreState) : Type 0 where
   pub up : old.store.compacted < new.store.compacted
   pub place : new.place ≡ oldest_place
 
--- a change that is not counted yet, and that is none where neither the revision rose nor something else changed, with the
--- number of the watch that it made
+-- a change that is not counted yet, and that is none where neither the revision rose nor something else changed, with
+-- the number of the watch that it made
 pub record Moves (old new : CoreState) (beside : Bool) (watch : Option ℕ) : Type 0 where
   pub keeps : AddsVersions old new ⊎ StartsOver old new
   pub unchanged : (nat_lt old.store.revision new.store.revision || beside) ≡ false → new ≡ old

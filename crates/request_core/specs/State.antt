@@ -14,7 +14,7 @@ use Rattle.kv_model.specs.declared.call.Watched.{Watched}
 use Rattle.kv_model.specs.declared.refusal.Refusal.{Refusal}
 use Rattle.kv_model.specs.declared.refusal.Refusal.TheVariants.{RevisionsSpent}
 use Rattle.kv_model.specs.Calls.{Call, Ops}
-use Rattle.kv_model.specs.Dumps.{Dump}
+use Rattle.kv_model.specs.Certificates.{Dump}
 use Rattle.kv_model.specs.Feed.{Published}
 use Rattle.kv_model.specs.Keys.{all_keys}
 use Rattle.kv_model.specs.Leases.{Lease, is_granted, insert_lease, without_lease, due}
@@ -24,7 +24,7 @@ use Rattle.kv_model.specs.Txns.{put_fault, static_fault}
 use Rattle.kv_model.specs.Txns as txns
 use Rattle.kv_model.specs.History.{KeyValue, value_at, end_of, rev_le}
 use Rattle.kv_model.specs.Step.{last_main, at_least_zero}
-use Rattle.kv_model.specs.Kept.{Keeping}
+use Rattle.kv_model.specs.Headline.{Keeping}
 use Rattle.kv_model.specs.Told.{Trimmed}
 use Rattle.kv_model.specs.Trimming.{TrimStep, trimmed, oldest_place, IsTrimmedTo}
 use Rattle.store_laws.specs.TrimmingLaws.{keeping}
@@ -38,8 +38,8 @@ use Rattle.range_view.specs.Stored.{Stored}
 use Rattle.txn_core.specs.KeyWrites.{held_refusal, put_version, IsCountedTo}
 use Rattle.request_core.specs.Writing.{next_rev, tombstones}
 
--- what clauses see of a core: what is kept, the first place that trimming has not looked at, and how many changing calls
--- came, wrapping
+-- what clauses see of a core: what is kept, the first place that trimming has not looked at, and how many changing
+-- calls came, wrapping
 pub record CoreState : Type 0 where
   pub store : Store
   pub place : Rev

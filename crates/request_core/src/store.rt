@@ -60,7 +60,7 @@ impl Model for Core {
 }
 
 impl Core {
-    ghost use Rattle.kv_model.specs.Calls.{call_of};
+    ghost use Rattle.kv_model.specs.Commands.{call_of};
     ghost use Rattle.kv_model.specs.World.{opening};
     ghost use Rattle.store_laws.specs.Stands.{StandsFor};
     ghost use Rattle.request_core.specs.State.{CoreState, IsTold, added_by, core_state, held_in};
@@ -137,12 +137,12 @@ impl Core {
     /// keeps what it also gives, `KeyMissing` where it keeps what is not there, and `LeaseMissing`
     /// where it names a lease that is not granted; of a grant, `TtlTooLarge` above 9,000,000,000
     /// seconds, `LeaseExists` for an ID in use and `TooManyLeases` where 65,536 are granted; of a
-    /// revoke, `LeaseMissing`; of a Compact, `Compacted` where its revision is 0 or below, or not above
-    /// that of the last one, and `Future` where it is above the present one; of a watch, `TooManyWatches` where 1,024 stand or 2^63 - 1 were made;
-    /// and last `RevisionsSpent` where a change would need a revision above the greatest. `Memory`
-    /// comes where a list, a copy or the place of a lease or a watch found none, and may come in
-    /// place of `RevisionsSpent`; a Range, a Compact, a keepalive, a time to live and the list of
-    /// leases take none here.
+    /// revoke, `LeaseMissing`; of a Compact, `Compacted` where its revision is 0 or below, or not
+    /// above that of the last one, and `Future` where it is above the present one; of a watch,
+    /// `TooManyWatches` where 1,024 stand or 2^63 - 1 were made; and last `RevisionsSpent` where a
+    /// change would need a revision above the greatest. `Memory` comes where a list, a copy or the
+    /// place of a lease or a watch found none, and may come in place of `RevisionsSpent`; a Range,
+    /// a Compact, a keepalive, a time to live and the list of leases take none here.
     ///
     /// A Txn is first refused for what its request shows, also in branches that do not run, and a
     /// transaction before its parts: `TooDeep` where it lies in eight others, `TooManyOps` where it
@@ -159,10 +159,9 @@ impl Core {
     /// the time of a read or a write by itself; all its changes stand in one revision. All this is
     /// but for the growth of a list. A grant and a keepalive are logarithmic in the number of
     /// leases. A revoke looks up the keys that were put under the lease, each in such time, and
-    /// deletes those that still are in one revision. A Compact takes constant time: what it leaves over
-    /// goes step by step (`trim_step`), and where it is `physical`, its caller makes the steps before
-    /// it answers. A watch takes the time of
-    /// `WatchHub::create`.
+    /// deletes those that still are in one revision. A Compact takes constant time: what it leaves
+    /// over goes step by step (`trim_step`), and where it is `physical`, its caller makes the steps
+    /// before it answers. A watch takes the time of `WatchHub::create`.
     pub fn apply<'c>(&mut self, command: &'c Command) -> Result<Receipt<'c>, Refusal>
         ensures done { IfOk result (λ r. Does self.old self.new (call_of command.now) r) }
         ensures refused { IfErr result (λ e. Refuses self.old self.new (call_of command.now) e) }
@@ -221,10 +220,10 @@ impl Core {
     /// and copies none.
     ///
     /// `AllocError` comes where the list of an answer, or the sort of a Range, found no memory; so
-    /// never to a Put, a Compact, a grant, a revoke, a keepalive or a watch. What a delete showed is read at the end of
-    /// the revision before its own, and each operation of a transaction is read before its own
-    /// changes. The keys of a lease are found by an index, and no others are walked but those that
-    /// were put under it.
+    /// never to a Put, a Compact, a grant, a revoke, a keepalive or a watch. What a delete showed
+    /// is read at the end of the revision before its own, and each operation of a transaction is
+    /// read before its own changes. The keys of a lease are found by an index, and no others are
+    /// walked but those that were put under it.
     pub fn answer<'a>(&'a self, receipt: &Receipt<'_>) -> Result<Answer<'a>, AllocError>
         requires { IsReadable receipt.now self.now }
         ensures lends { IfOk result (λ a. answer_view a ≡ answer_of receipt.now self.now) }

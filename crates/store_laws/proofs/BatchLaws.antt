@@ -12,10 +12,11 @@ use Rattle.kv_model.specs.declared.version.Version.{Version}
 use Rattle.kv_model.specs.declared.version.KeyRange.{KeyRange}
 use Rattle.kv_model.specs.declared.call.Watched.{Watched}
 use Rattle.kv_model.specs.Lists.{IsPart, nothing, keep, leave}
-use Rattle.kv_model.specs.History.{Mutation, IsBefore, IsHistory, IsBatch, now, now_after, dress, value_at, value_now, end_of, rev_le}
+use Rattle.kv_model.specs.History.{Mutation, now, now_after, dress, value_at, value_now, end_of, rev_le}
+use Rattle.kv_model.specs.Sound.{IsBefore, IsHistory, IsBatch}
 use Rattle.kv_model.specs.History.{KeyValue}
 use Rattle.kv_model.specs.Ranges.{live}
-use Rattle.kv_model.specs.Events.{WatchEvent, matches, event_of, events_of, before_is_kept}
+use Rattle.kv_model.specs.Watches.{WatchEvent, matches, event_of, events_of, before_is_kept}
 use Rattle.kv_model.specs.Txns.{extend, extend_all, next_body, next_version, added_by}
 use Rattle.kv_model.specs.Questions.{Question, IsQuestion, IsKept, Answered, answered, IsGood}
 use Rattle.store_laws.proofs.KeyLaws.{live-same}

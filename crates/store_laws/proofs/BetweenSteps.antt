@@ -11,10 +11,12 @@ use Rattle.kv_model.specs.declared.version.Rev.{Rev}
 use Rattle.kv_model.specs.declared.version.Version.{Version}
 use Rattle.kv_model.specs.declared.call.Watched.{Watched}
 use Rattle.kv_model.specs.Keys.{same_key}
-use Rattle.kv_model.specs.History.{Mutation, IsHistory, now, dress, value_at, key_value, rev_le, rev_lt, end_of}
-use Rattle.kv_model.specs.Events.{event_of, before_is_kept, matches}
+use Rattle.kv_model.specs.History.{Mutation, now, dress, value_at, key_value, rev_le, rev_lt, end_of}
+use Rattle.kv_model.specs.Sound.{IsHistory}
+use Rattle.kv_model.specs.Watches.{event_of, before_is_kept, matches}
 use Rattle.kv_model.specs.Questions.{Question, IsQuestion, IsKept, Answered, answered, IsGood}
-use Rattle.kv_model.specs.Trimming.{is_superseded, is_trimmed, is_tombstone, oldest_place}
+use Rattle.kv_model.specs.History.{is_superseded, is_tombstone}
+use Rattle.kv_model.specs.Trimming.{is_trimmed, oldest_place}
 use Rattle.store_laws.specs.TrimmingLaws.{TrimmingStartsOver, TrimmingGoesOn, GoodStaysGood}
 use Rattle.store_laws.proofs.Compacting.{same_ranges}
 use Rattle.store_laws.proofs.PlaceLaws.{each-map, each-part, each-append, last_that-none, rev_le-after, value_at-by}

@@ -11,17 +11,16 @@ use Rattle.kv_model.specs.declared.version.Body.{Body}
 use Rattle.kv_model.specs.declared.version.Body.TheVariants.{Put, Gone}
 use Rattle.kv_model.specs.Lists.{IsPart, IsIn, is_empty}
 use Rattle.kv_model.specs.Keys.{same_key}
-use Rattle.kv_model.specs.History.{value_at, end_of}
+use Rattle.kv_model.specs.History.{value_at, end_of, is_tombstone, is_superseded}
 use Rattle.kv_model.specs.Ranges.{plain_range}
-use Rattle.kv_model.specs.Events.{before_is_kept}
-use Rattle.kv_model.specs.World.{World, IsSound, revision, versions}
+use Rattle.kv_model.specs.Watches.{before_is_kept}
+use Rattle.kv_model.specs.World.{World, revision, versions}
+use Rattle.kv_model.specs.Sound.{IsSound}
 use Rattle.kv_model.specs.Questions.{Question, IsKept, answered, IsGood}
-use Rattle.kv_model.specs.Needs.{HasNeed}
-use Rattle.kv_model.specs.Trimming.{is_tombstone, is_superseded}
+use Rattle.kv_model.specs.Certificates.{HasNeed, Claim, Need}
 use Rattle.kv_model.specs.Certificates.{need_of, claim_of, claims_of, is_met, is_asked, NeedFault, fall_after, first_fall, is_double}
 use Rattle.kv_model.specs.Certificates.{claims_fault, first_fault}
-use Rattle.kv_model.specs.Kept.{dump_of, AreNeeds}
-use Rattle.kv_model.specs.Dumps.{Claim, Need}
+use Rattle.kv_model.specs.Headline.{dump_of, AreNeeds}
 use Rattle.store_laws.specs.TrimmingLaws.{SettledIsCertified}
 use Rattle.store_laws.proofs.PartLaws.{in_whole}
 use Rattle.store_laws.proofs.Compacting.{kvs_of, plain_shows, one_listed}

@@ -15,7 +15,7 @@ use Rattle.kv_model.specs.Lists.{nothing, keep, leave}
 use Rattle.kv_model.specs.Keys.{same_key}
 use Rattle.kv_model.specs.History.{dress, value_at, end_of, key_value, latest, rev_le, shown, Mutation, KeyValue, now}
 use Rattle.kv_model.specs.Ranges.{plain_range, range_answer, range_refusal, reply_from, unless_refused, read_place}
-use Rattle.kv_model.specs.Events.{event_of, matches}
+use Rattle.kv_model.specs.Watches.{event_of, matches}
 use Rattle.kv_model.specs.Questions.{Question, IsQuestion, IsRangeAt, IsKept, Answered, answered, IsGood}
 use Rattle.store_laws.specs.Laws.{put_delete_put, last_put, LastPutIsLeast}
 use Rattle.store_laws.proofs.KeyLaws.{live-same, live-one}

@@ -15,11 +15,10 @@ use Rattle.kv_model.specs.Keys.{all_keys}
 use Rattle.kv_model.specs.Lists.{IsPart, nothing}
 use Rattle.kv_model.specs.History.{Mutation, dress}
 use Rattle.kv_model.specs.Txns.{added_by}
-use Rattle.kv_model.specs.Events.{matches, wants}
+use Rattle.kv_model.specs.Watches.{matches, wants}
 use Rattle.kv_model.specs.Watches.{undelivered}
-use Rattle.kv_model.specs.World.{World, Watch, opening, revision, versions}
-use Rattle.kv_model.specs.Changes.{added}
-use Rattle.kv_model.specs.Kept.{Keeping, kept_after}
+use Rattle.kv_model.specs.World.{World, Watch, opening, revision, versions, added}
+use Rattle.kv_model.specs.Headline.{Keeping, kept_after}
 use Rattle.kv_model.specs.Headline.{nothing_kept}
 use Rattle.kv_model.specs.Trimming.{oldest_place}
 use Rattle.store_laws.specs.Stands.{Store, StandsFor}

@@ -9,13 +9,15 @@ use Rattle.kv_model.specs.declared.version.Version.{Version}
 use Rattle.kv_model.specs.declared.version.Body.{Body}
 use Rattle.kv_model.specs.declared.version.Body.TheVariants.{Put, Gone}
 use Rattle.kv_model.specs.declared.call.Watched.{Watched}
-use Rattle.kv_model.specs.Lists.{IsPart, IsIn, IsOnce, last_that}
+use Rattle.kv_model.specs.Lists.{IsPart, IsIn, last_that}
 use Rattle.kv_model.specs.Keys.{same_key}
-use Rattle.kv_model.specs.History.{Mutation, IsHistory, KeyValue, now, dress, latest, value_at, key_value, shown, rev_le, end_of}
-use Rattle.kv_model.specs.Events.{event_of_by, before_is_kept, matches, wants, plain_watch}
+use Rattle.kv_model.specs.History.{Mutation, KeyValue, now, dress, latest, value_at, key_value, shown, rev_le, end_of}
+use Rattle.kv_model.specs.Sound.{IsHistory}
+use Rattle.kv_model.specs.Watches.{event_of_by, before_is_kept, matches, wants, plain_watch}
 use Rattle.kv_model.specs.Questions.{Question, IsKept, Answered, answered_by, IsGood, IsLeast}
-use Rattle.kv_model.specs.Trimming.{is_superseded, is_tombstone, is_trimmed, IsSettled}
-use Rattle.store_laws.proofs.PartLaws.{in_whole, part_length, part_same}
+use Rattle.kv_model.specs.History.{is_superseded, is_tombstone}
+use Rattle.kv_model.specs.Trimming.{is_trimmed, IsSettled}
+use Rattle.store_laws.proofs.PartLaws.{IsOnce, in_whole, part_length, part_same}
 use Rattle.store_laws.proofs.Compacting.{latest-out}
 use Rattle.store_laws.proofs.HistoryLaws.{same_key-eq}
 use Rattle.store_laws.proofs.PlaceLaws.{rev_le-end}

@@ -9,13 +9,11 @@ use Rattle.std.proofs.lemmas.List.Sums.{length-filter}
 use Rattle.kv_model.specs.declared.version.Version.{Version}
 use Rattle.kv_model.specs.Lists.{IsPart, IsIn, is_empty}
 use Rattle.kv_model.specs.Keys.{same_key}
-use Rattle.kv_model.specs.History.{value_at, key_value, end_of, rev_lt}
+use Rattle.kv_model.specs.History.{value_at, key_value, end_of, rev_lt, is_tombstone, is_superseded}
 use Rattle.kv_model.specs.Questions.{IsQuestion, IsKept, answered_by}
-use Rattle.kv_model.specs.Needs.{question_of, HasNeedBy}
-use Rattle.kv_model.specs.Trimming.{is_tombstone, is_superseded}
+use Rattle.kv_model.specs.Certificates.{question_of, HasNeedBy, Dump, Claim, Need}
 use Rattle.kv_model.specs.Certificates.{NeedFault, is_asked, is_met, fall_after, first_fall, is_double, first_double}
 use Rattle.kv_model.specs.Certificates.{claims_fault, first_fault, AreNeedsBy}
-use Rattle.kv_model.specs.Dumps.{Dump, Claim, Need}
 use Rattle.store_laws.specs.TrimmingLaws.{PassingIsLeast}
 use Rattle.store_laws.proofs.PartLaws.{part_length}
 use Rattle.store_laws.proofs.PlaceLaws.{each-map}

@@ -7,15 +7,16 @@ use Rattle.std.specs.List.{AllByRecursion}
 use Rattle.kv_model.specs.declared.version.Rev.{Rev}
 use Rattle.kv_model.specs.declared.version.Version.{Version}
 use Rattle.kv_model.specs.Lists.{IsIn}
-use Rattle.kv_model.specs.History.{now, rev_lt}
-use Rattle.kv_model.specs.World.{World, IsSound}
+use Rattle.kv_model.specs.History.{now, rev_lt, without_rev}
+use Rattle.kv_model.specs.World.{World}
+use Rattle.kv_model.specs.Sound.{IsSound}
 use Rattle.kv_model.specs.Told.{Trimmed}
 use Rattle.kv_model.specs.Questions.{IsGood}
-use Rattle.kv_model.specs.Trimming.{TrimStep, trimmed, trimmed_next, visited, finished, without_rev, place_after, is_trimmed, IsSettled}
+use Rattle.kv_model.specs.Trimming.{TrimStep, trimmed, trimmed_next, visited, finished, place_after, is_trimmed, IsSettled}
 use Rattle.kv_model.specs.Trimming.{IsTrimmedTo}
 use Rattle.kv_model.specs.Wire.{WireTold, trim_told}
-use Rattle.kv_model.specs.Kept.{Keeping, IsInLeast, IsTrimmed, IsCertificate, Trims}
-use Rattle.kv_model.specs.Dumps.{Claim}
+use Rattle.kv_model.specs.Headline.{Keeping, IsInLeast, IsTrimmed, IsCertificate, Trims}
+use Rattle.kv_model.specs.Certificates.{Claim}
 use Rattle.store_laws.specs.TrimmingLaws.{keeping, IsOwn, StepsWell, TrimmedStepsWell, DoneIsTrimmed}
 use Rattle.store_laws.proofs.PartLaws.{in_whole}
 use Rattle.store_laws.proofs.RevOrder.{rev_lt-self}

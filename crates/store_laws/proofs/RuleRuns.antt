@@ -10,15 +10,16 @@ use Rattle.kv_model.specs.declared.version.Rev.{Rev}
 use Rattle.kv_model.specs.declared.version.Version.{Version}
 use Rattle.kv_model.specs.declared.ids.Ids.{Ids}
 use Rattle.kv_model.specs.Lists.{nothing}
-use Rattle.kv_model.specs.History.{Mutation, IsHistory, IsBatch, now, dress}
+use Rattle.kv_model.specs.History.{Mutation, now, dress}
+use Rattle.kv_model.specs.Sound.{IsHistory, IsBatch, IsSound}
 use Rattle.kv_model.specs.Txns.{added_by}
-use Rattle.kv_model.specs.World.{World, IsSound, opening}
+use Rattle.kv_model.specs.World.{World, opening}
 use Rattle.kv_model.specs.Questions.{IsGood}
 use Rattle.kv_model.specs.Trimming.{TrimStep, trimmed, oldest_place, IsTrimmedTo}
 use Rattle.kv_model.specs.Certificates.{claims_of}
 use Rattle.kv_model.specs.Follows.{FollowsFrom}
 use Rattle.kv_model.specs.Wire.{WireEvent, wire_step, is_free, takes_memory, is_physical, MayLose}
-use Rattle.kv_model.specs.Kept.{Keeping, Changes, kept_after, dump_of}
+use Rattle.kv_model.specs.Headline.{Keeping, Changes, kept_after, dump_of}
 use Rattle.kv_model.specs.Headline.{KeepsWell}
 use Rattle.store_laws.specs.TrimmingLaws.{keeping, GoesOn, StepsWell}
 use Rattle.store_laws.specs.ByRule.{Trimming, not_begun, moved_on, by_rule, AddsBatch, Compacts, AreMoves, RuleMakesRun}

@@ -10,10 +10,11 @@ use Rattle.std.specs.List.{list_any}
 use Rattle.kv_model.specs.declared.version.Version.{Version}
 use Rattle.kv_model.specs.declared.call.Watched.{Watched}
 use Rattle.kv_model.specs.Lists.{IsPart, nothing, keep, leave}
-use Rattle.kv_model.specs.History.{Mutation, IsHistory, now, dress, value_at, end_of}
-use Rattle.kv_model.specs.Events.{WatchEvent, event_of, events_of, matches}
+use Rattle.kv_model.specs.History.{Mutation, now, dress, value_at, end_of, is_superseded, is_tombstone}
+use Rattle.kv_model.specs.Sound.{IsHistory}
+use Rattle.kv_model.specs.Watches.{WatchEvent, event_of, events_of, matches}
 use Rattle.kv_model.specs.Questions.{Question, IsQuestion, Answered, answered, IsGood}
-use Rattle.kv_model.specs.Trimming.{is_superseded, is_tombstone, is_trimmed, IsSettled}
+use Rattle.kv_model.specs.Trimming.{is_trimmed, IsSettled}
 use Rattle.store_laws.proofs.Compacting.{same_ranges}
 use Rattle.store_laws.proofs.PlaceLaws.{each-map, each-append}
 use Rattle.store_laws.proofs.HistoryLaws.{AllByRecursion-split}

@@ -12,21 +12,21 @@ use Rattle.base64.specs.Rfc4648.{encode_symbols}
 use Rattle.base64.specs.Decode.{groups_error, groups_bytes, scan_steps}
 use Rattle.serde_json.proofs.OnLiterals.{serde_json_on_literals}
 use Rattle.kv_model.specs.declared.version.Rev.{Rev}
-use Rattle.kv_model.specs.History.{Mutation, Action, IsBefore, IsChange, IsHistory, put, delete}
+use Rattle.kv_model.specs.History.{Mutation, Action, put, delete}
+use Rattle.kv_model.specs.Sound.{IsBefore, IsChange, IsHistory}
 use Rattle.kv_model.specs.World.{World, opening, revision, versions}
-use Rattle.kv_model.specs.Told.{Event}
+use Rattle.kv_model.specs.PlainRuns.{Event, step, world_after}
 use Rattle.kv_model.specs.Trimming.{oldest_place}
-use Rattle.kv_model.specs.Step.{step, world_after}
 use Rattle.kv_model.specs.Follows.{Outcome, FollowsFrom}
 use Rattle.kv_model.specs.Wire.{WireEvent, WireTold, WireOutcome, wire_step, is_free, takes_memory, MayLose}
-use Rattle.kv_model.specs.Kept.{Keeping, Keeps}
+use Rattle.kv_model.specs.Headline.{Keeping, Keeps}
 use Rattle.kv_model.specs.Headline.{IsRun, KeepsWell}
 use Rattle.kv_model.specs.OnLiterals.{model_on_literals}
 use Rattle.kv_model.specs.Samples.{a, one, two, rev_at, put_version}
 use Rattle.kv_model.specs.SampleTrims.{trimming_on_literals, put_delete_compact, put_delete, first_changes, later_changes}
 use Rattle.kv_model.specs.SampleTrims.{range_need, watch_need}
 use Rattle.kv_model.specs.Texts.{ones, ok, wire_on_literals}
-use Rattle.kv_model.specs.Dumps.{Claim}
+use Rattle.kv_model.specs.Certificates.{Claim}
 use Rattle.store_laws.specs.TrimmingLaws.{keeping}
 use Rattle.store_laws.specs.ByRule.{Trimming, not_begun, moved_on, rule_keeps, by_rule, AddsBatch, Compacts, AreMoves}
 use Rattle.store_laws.proofs.PlaceLaws.{each-map}

@@ -4,14 +4,14 @@ use Rattle.std.specs.Prelude.{⊤}
 use Rattle.kv_model.specs.declared.version.Rev.{Rev}
 use Rattle.kv_model.specs.declared.version.Version.{Version}
 use Rattle.kv_model.specs.declared.ids.Ids.{Ids}
-use Rattle.kv_model.specs.History.{Mutation, IsBatch}
-use Rattle.kv_model.specs.World.{World, opening, revision}
+use Rattle.kv_model.specs.History.{Mutation}
+use Rattle.kv_model.specs.Sound.{IsBatch}
+use Rattle.kv_model.specs.World.{World, opening, revision, added}
 use Rattle.kv_model.specs.Trimming.{trimmed, oldest_place}
 use Rattle.kv_model.specs.Certificates.{claims_of}
 use Rattle.kv_model.specs.Follows.{Outcome}
 use Rattle.kv_model.specs.Wire.{WireEvent, WireTold, WireOutcome, wire_step, is_physical, trim_told}
-use Rattle.kv_model.specs.Changes.{added}
-use Rattle.kv_model.specs.Kept.{dump_of}
+use Rattle.kv_model.specs.Headline.{dump_of}
 use Rattle.kv_model.specs.Headline.{IsRun}
 
 -- the versions that are kept, and the first place that trimming has not looked at

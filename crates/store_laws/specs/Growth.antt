@@ -8,7 +8,8 @@ use Rattle.kv_model.specs.declared.call.RangeQuery.{RangeQuery}
 use Rattle.kv_model.specs.declared.call.PutRequest.{PutRequest}
 use Rattle.kv_model.specs.declared.call.DeleteRequest.{DeleteRequest}
 use Rattle.kv_model.specs.declared.refusal.Refusal.{Refusal}
-use Rattle.kv_model.specs.History.{Mutation, IsHistory, IsBatch, now, dress, value_at, value_now, rev_le, end_of}
+use Rattle.kv_model.specs.History.{Mutation, now, dress, value_at, value_now, rev_le, end_of}
+use Rattle.kv_model.specs.Sound.{IsHistory, IsBatch}
 use Rattle.kv_model.specs.Ranges.{live, range_answer}
 use Rattle.kv_model.specs.Txns.{extend_all, added_by}
 use Rattle.kv_model.specs.Calls.{Call}

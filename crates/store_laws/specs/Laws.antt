@@ -11,7 +11,8 @@ use Rattle.kv_model.specs.Ranges.{live, keys}
 use Rattle.kv_model.specs.Txns.{extend, Touch, collides}
 use Rattle.kv_model.specs.Questions.{IsLeast}
 use Rattle.kv_model.specs.Feed.{Published, store_of, absorb}
-use Rattle.kv_model.specs.World.{opening, IsSound}
+use Rattle.kv_model.specs.World.{opening}
+use Rattle.kv_model.specs.Sound.{IsSound}
 use Rattle.store_laws.specs.Stands.{Store, StandsFor}
 use Rattle.kv_model.specs.declared.ids.Ids.{Ids}
 use Rattle.kv_model.specs.Headline.{IsRun}

@@ -4,15 +4,15 @@ use Rattle.std.specs.Prelude.{MatchOption, ⊤}
 use Rattle.std.specs.List.{AllByRecursion}
 use Rattle.kv_model.specs.declared.version.Rev.{Rev}
 use Rattle.kv_model.specs.declared.version.Version.{Version}
-use Rattle.kv_model.specs.History.{Mutation, IsHistory, now, rev_lt}
-use Rattle.kv_model.specs.World.{World, IsSound}
+use Rattle.kv_model.specs.History.{Mutation, now, rev_lt}
+use Rattle.kv_model.specs.Sound.{IsHistory, IsSound}
+use Rattle.kv_model.specs.World.{World}
 use Rattle.kv_model.specs.Told.{Trimmed}
 use Rattle.kv_model.specs.Questions.{IsGood, IsLeast, IsLeastBy}
 use Rattle.kv_model.specs.Trimming.{TrimStep, trimmed, IsSettled, IsTrimmedTo, oldest_place}
-use Rattle.kv_model.specs.Certificates.{claims_of, first_fault, AreNeedsBy}
+use Rattle.kv_model.specs.Certificates.{claims_of, first_fault, AreNeedsBy, Dump, Claim}
 use Rattle.kv_model.specs.Wire.{trim_told}
-use Rattle.kv_model.specs.Kept.{Keeping, Trims, IsTrimmed, IsCertificate, dump_of}
-use Rattle.kv_model.specs.Dumps.{Dump, Claim}
+use Rattle.kv_model.specs.Headline.{Keeping, Trims, IsTrimmed, IsCertificate, dump_of}
 
 -- ---- the least list
 

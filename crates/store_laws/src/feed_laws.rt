@@ -1,5 +1,7 @@
 //! Laws of what is published to readers, each the contract of a function that does nothing.
-ghost use Rattle.store_laws.specs.FeedLaws.{CommandIsPublished, ExpiryIsPublished, CommandIsOneChange, ExpiryIsOneChange, ReaderStoresPart};
+ghost use Rattle.store_laws.specs.FeedLaws.{CommandIsPublished, ExpiryIsPublished};
+ghost use Rattle.store_laws.specs.FeedLaws.{CommandIsOneChange, ExpiryIsOneChange};
+ghost use Rattle.store_laws.specs.FeedLaws.{ReaderStoresPart};
 
 /// What a command publishes leads from its world to the world after it.
 pub fn command_is_published()

@@ -1,4 +1,5 @@
-//! Laws of the model: what a store that keeps only some of the versions says of the whole history, and why trimming is right.
+//! Laws of the model: what a store that keeps only some of the versions says of the whole history,
+//! and why trimming is right.
 #![tactic(auto)]
 
 pub mod feed_laws;

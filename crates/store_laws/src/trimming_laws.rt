@@ -1,6 +1,8 @@
 //! Laws of trimming, each the contract of a function that does nothing.
 ghost use Rattle.store_laws.specs.ByRule.{RuleMakesRun};
-ghost use Rattle.store_laws.specs.TrimmingLaws.{SettledIsLeast, LeastIsOne, SettledIsCertified, PassingIsLeast, TrimmedStepsWell, DoneIsTrimmed, TrimmingStartsOver, TrimmingGoesOn, GoodStaysGood};
+ghost use Rattle.store_laws.specs.TrimmingLaws.{SettledIsLeast, LeastIsOne, SettledIsCertified};
+ghost use Rattle.store_laws.specs.TrimmingLaws.{PassingIsLeast, TrimmedStepsWell, DoneIsTrimmed};
+ghost use Rattle.store_laws.specs.TrimmingLaws.{TrimmingStartsOver, TrimmingGoesOn, GoodStaysGood};
 
 /// What answers as the whole history does, and has nothing left to take out, is a least list.
 pub fn settled_is_least()
@@ -12,13 +14,14 @@ pub fn least_is_one()
     ensures { LeastIsOne }
 {}
 
-/// Where nothing is left to take out, the certificate passes its check, and each of its needs is one.
+/// Where nothing is left to take out, the certificate passes its check, and each of its needs is
+/// one.
 pub fn settled_is_certified()
     ensures { SettledIsCertified }
 {}
 
-/// A certificate that passes its check gives each listed version its claimed need in the list, and no shorter part of the
-/// list answers as it does.
+/// A certificate that passes its check gives each listed version its claimed need in the list, and
+/// no shorter part of the list answers as it does.
 pub fn passing_is_least()
     ensures { PassingIsLeast }
 {}
@@ -28,7 +31,8 @@ pub fn trimmed_steps_well()
     ensures { TrimmedStepsWell }
 {}
 
-/// Where a step by the rule says that it is done, a least list is kept and nothing is left to visit.
+/// Where a step by the rule says that it is done, a least list is kept and nothing is left to
+/// visit.
 pub fn done_is_trimmed()
     ensures { DoneIsTrimmed }
 {}

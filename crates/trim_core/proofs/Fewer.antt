@@ -5,8 +5,8 @@ use Rattle.std.specs.List.{AllByRecursion, list_any}
 use Rattle.kv_model.specs.declared.version.Rev.{Rev}
 use Rattle.kv_model.specs.declared.version.Version.{Version}
 use Rattle.kv_model.specs.Keys.{same_key}
-use Rattle.kv_model.specs.History.{rev_lt}
-use Rattle.kv_model.specs.Trimming.{is_superseded, is_tombstone, is_trimmed}
+use Rattle.kv_model.specs.History.{rev_lt, is_superseded, is_tombstone}
+use Rattle.kv_model.specs.Trimming.{is_trimmed}
 use Rattle.trim_core.specs.Steps.{FewerStayTrimmed}
 
 neither : (a b : Bool) → (a || b) ≡ false → (a ≡ false) × (b ≡ false)

@@ -1,7 +1,8 @@
 //! Which version a trimming step visits, and whether it goes (etcd: mvcc compaction).
 ghost use Rattle.std.specs.Prelude.{◌≡◌, List, option_copied};
 ghost use Rattle.kv_model.specs.declared.version.Version.{Version};
-ghost use Rattle.kv_model.specs.Trimming.{is_superseded, is_tombstone, is_trimmed, place_after};
+ghost use Rattle.kv_model.specs.History.{is_superseded, is_tombstone};
+ghost use Rattle.kv_model.specs.Trimming.{is_trimmed, place_after};
 ghost use Rattle.version_table.specs.Rising.{IsRising};
 ghost use Rattle.key_index.specs.Agrees.{Agrees};
 ghost use Rattle.trim_core.specs.Steps.{next_version};

@@ -78,8 +78,9 @@ impl Trimmer {
     ///
     /// The time is logarithmic in the number of versions and of keys, but for two things: the
     /// versions behind the one that goes, on its page of 256 places, move one place, and where it
-    /// is not the oldest of its key, the revisions of that key are walked. It is the oldest where trimming began again at each
-    /// compaction, and versions above it came since (`laws::visited_is_oldest`).
+    /// is not the oldest of its key, the revisions of that key are walked. It is the oldest where
+    /// trimming began again at each compaction, and versions above it came since
+    /// (`laws::visited_is_oldest`).
     pub fn step(&mut self, table: &mut VersionTable, index: &mut KeyIndex, compacted: u64) -> Trim
         requires { Agrees index.old table.old }
         ensures exact { step_of result table.new self.new ≡ trimmed table.old self.old compacted }

@@ -12,7 +12,8 @@ use Rattle.kv_model.specs.declared.call.DeleteRequest.{DeleteRequest}
 use Rattle.kv_model.specs.declared.call.Operation.{Operation}
 use Rattle.kv_model.specs.declared.call.Operation.TheVariants.{Range, Put, Delete}
 use Rattle.kv_model.specs.declared.call.Txn.{Txn, out-Txn}
-use Rattle.kv_model.specs.Calls.{Ops, then, op_view, txn_view, ops_view}
+use Rattle.kv_model.specs.Calls.{Ops, then}
+use Rattle.kv_model.specs.Commands.{op_view, txn_view, ops_view}
 use Rattle.kv_model.specs.Txns.{Path, Touch, collides, touches, any_collide, clashes, path_of}
 use Rattle.store_laws.specs.Plans.{path_touches}
 use Rattle.store_laws.proofs.SmallLaws.{same_key-comm, collides-comm}

@@ -22,7 +22,7 @@ use Rattle.store_laws.proofs.GoodLaws.{live_now-by}
 use Rattle.store_laws.proofs.KeyLaws.{IsAscending, AllAbove, cmp-refl}
 use Rattle.store_laws.proofs.HistoryLaws.{same_key-eq}
 use Rattle.store_laws.proofs.TouchLaws.{live_now-ascends}
-use Rattle.kv_model.specs.Trimming.{is_tombstone}
+use Rattle.kv_model.specs.History.{is_tombstone}
 use Rattle.txn_core.specs.KeyWrites.{held_refusal, put_version, tombstone}
 use Rattle.txn_core.specs.Planning.{buries, is_gone, with_grave, with_graves, made, refusal_of}
 

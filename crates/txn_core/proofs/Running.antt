@@ -15,7 +15,8 @@ use Rattle.kv_model.specs.declared.call.Txn.{Txn, out-Txn}
 use Rattle.kv_model.specs.declared.refusal.Refusal.{Refusal}
 use Rattle.kv_model.specs.declared.refusal.Refusal.TheVariants.{Memory}
 use Rattle.kv_model.specs.declared.version.Version.{Version}
-use Rattle.kv_model.specs.Calls.{Ops, then, op_view, txn_view, ops_view}
+use Rattle.kv_model.specs.Calls.{Ops, then}
+use Rattle.kv_model.specs.Commands.{op_view, txn_view, ops_view}
 use Rattle.kv_model.specs.Leases.{Lease}
 use Rattle.kv_model.specs.Txns.{Path, path_of, holds}
 use Rattle.range_view.specs.Stored.{Viewed}

@@ -15,7 +15,8 @@ use Rattle.kv_model.specs.declared.call.Operation.TheOpen.{Operation-F}
 use Rattle.kv_model.specs.declared.call.Txn.{Txn, out-Txn, fold_out-Txn}
 use Rattle.kv_model.specs.declared.refusal.Refusal.{Refusal}
 use Rattle.kv_model.specs.declared.refusal.Refusal.TheVariants.{NoKey, TooDeep}
-use Rattle.kv_model.specs.Calls.{Ops, then, op_step, txn_step, op_view, txn_view, ops_view}
+use Rattle.kv_model.specs.Calls.{Ops, then}
+use Rattle.kv_model.specs.Commands.{op_step, txn_step, op_view, txn_view, ops_view}
 use Rattle.kv_model.specs.Lists.{is_empty}
 use Rattle.kv_model.specs.Ranges.{refuse_if}
 use Rattle.txn_core.proofs.Elements.{At, from-here}

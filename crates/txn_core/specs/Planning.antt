@@ -8,11 +8,10 @@ use Rattle.kv_model.specs.declared.version.Version.{Version}
 use Rattle.kv_model.specs.declared.refusal.Refusal.{Refusal}
 use Rattle.kv_model.specs.declared.refusal.Refusal.TheVariants.{Memory}
 use Rattle.kv_model.specs.Keys.{same_key}
-use Rattle.kv_model.specs.History.{value_at, end_of}
+use Rattle.kv_model.specs.History.{value_at, end_of, is_tombstone}
 use Rattle.kv_model.specs.Ranges.{keys_of, live, revision_refusal}
 use Rattle.kv_model.specs.Step.{last_main}
 use Rattle.kv_model.specs.Txns.{Path, path_of}
-use Rattle.kv_model.specs.Trimming.{is_tombstone}
 use Rattle.kv_model.specs.Calls.{Ops}
 use Rattle.kv_model.specs.Leases.{Lease, is_granted}
 use Rattle.range_view.specs.Stored.{Viewed}

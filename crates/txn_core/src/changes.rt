@@ -2,7 +2,7 @@
 ghost use Rattle.std.specs.Prelude.{◌≡◌, [], ◌∷◌, ◌++◌, ℕ, List, true, false, length, OnOk, OnErr};
 ghost use Rattle.std.specs.Prelude.{map};
 ghost use Rattle.kv_model.specs.Ranges.{keys_of};
-ghost use Rattle.kv_model.specs.Trimming.{is_tombstone};
+ghost use Rattle.kv_model.specs.History.{is_tombstone};
 ghost use Rattle.range_view.specs.Replies.{kv_view};
 ghost use Rattle.txn_core.specs.Graves.{has_key};
 ghost use Rattle.txn_core.specs.Planning as planning;

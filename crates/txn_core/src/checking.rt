@@ -1,7 +1,7 @@
 //! What a transaction is refused for, whatever the state.
 ghost use Rattle.std.specs.Prelude.{◌≡◌, ◌⊎◌, OnOk, IfErr, Some, None};
 ghost use Rattle.kv_model.specs.declared.refusal.Refusal.TheVariants.{Memory};
-ghost use Rattle.kv_model.specs.Calls.{txn_view};
+ghost use Rattle.kv_model.specs.Commands.{txn_view};
 ghost use Rattle.kv_model.specs.Txns as txns;
 
 use crate::clash::clashes;

@@ -1,7 +1,7 @@
 //! Operations of a transaction that may not run together.
 ghost use Rattle.std.specs.Prelude.{◌≡◌, map, IfOk};
 ghost use Rattle.std.specs.List.{list_any};
-ghost use Rattle.kv_model.specs.Calls.{txn_view, op_view, ops_view};
+ghost use Rattle.kv_model.specs.Commands.{txn_view, op_view, ops_view};
 ghost use Rattle.kv_model.specs.Txns.{Touch};
 ghost use Rattle.kv_model.specs.Txns as txns;
 ghost use Rattle.txn_core.specs.Touching as touching;

@@ -3,7 +3,7 @@ ghost use Rattle.std.specs.Prelude.{◌≡◌, length};
 ghost use Rattle.std.specs.List.{list_any};
 ghost use Rattle.std.specs.Option.{option_or};
 ghost use Rattle.kv_model.specs.declared.call.Compare.{Compare};
-ghost use Rattle.kv_model.specs.Calls.{txn_view, op_view, ops_view};
+ghost use Rattle.kv_model.specs.Commands.{txn_view, op_view, ops_view};
 ghost use Rattle.kv_model.specs.Lists as lists;
 ghost use Rattle.kv_model.specs.Ranges as ranges;
 ghost use Rattle.kv_model.specs.Txns as txns;

@@ -2,7 +2,8 @@
 ghost use Rattle.std.specs.Prelude.{◌≡◌, ◌⊎◌, ◌+◌, ◌<◌, ◌≤◌, ◌^◌, ◌∷◌, ◌++◌, [], length, map, None};
 ghost use Rattle.std.specs.Prelude.{Some, IfOk, IfErr, OnOk};
 ghost use Rattle.std.specs.List.{AllByRecursion};
-ghost use Rattle.kv_model.specs.Calls.{Ops, then, op_view, ops_view, txn_view};
+ghost use Rattle.kv_model.specs.Calls.{Ops, then};
+ghost use Rattle.kv_model.specs.Commands.{op_view, ops_view, txn_view};
 ghost use Rattle.kv_model.specs.History as history;
 ghost use Rattle.kv_model.specs.Leases.{is_granted};
 ghost use Rattle.kv_model.specs.Ranges as ranges;

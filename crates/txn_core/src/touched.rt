@@ -1,6 +1,6 @@
 //! What the operations of a transaction change.
 ghost use Rattle.std.specs.Prelude.{◌≡◌, ◌∷◌, [], ◌++◌, map, OnOk};
-ghost use Rattle.kv_model.specs.Calls.{txn_view, op_view, ops_view};
+ghost use Rattle.kv_model.specs.Commands.{txn_view, op_view, ops_view};
 ghost use Rattle.kv_model.specs.Txns.{touches};
 ghost use Rattle.txn_core.specs.Views.{touch_view};
 

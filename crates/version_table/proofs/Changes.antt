@@ -7,8 +7,7 @@ use Rattle.std.specs.List.{AllByRecursion, find}
 use Rattle.kv_model.specs.declared.version.Rev.{Rev}
 use Rattle.kv_model.specs.declared.version.Version.{Version}
 use Rattle.kv_model.specs.Keys.{same_key}
-use Rattle.kv_model.specs.History.{rev_lt, rev_le, latest}
-use Rattle.kv_model.specs.Kept.{is_at, without_rev}
+use Rattle.kv_model.specs.History.{rev_lt, rev_le, latest, is_at, without_rev}
 use Rattle.store_laws.specs.Rising.{is_of}
 use Rattle.store_laws.proofs.PlaceLaws.{each-map}
 use Rattle.store_laws.proofs.RevOrder.{is_rev-self, is_rev-before}

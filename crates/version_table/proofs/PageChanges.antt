@@ -12,7 +12,7 @@ use Rattle.std.specs.List.{remove, slice_get}
 use Rattle.kv_model.specs.Lists.{is_empty}
 use Rattle.kv_model.specs.declared.version.Rev.{Rev}
 use Rattle.kv_model.specs.declared.version.Version.{Version}
-use Rattle.kv_model.specs.Kept.{is_at, without_rev}
+use Rattle.kv_model.specs.History.{is_at, without_rev}
 use Rattle.store_laws.proofs.PlaceLaws.{each-append}
 use Rattle.store_laws.proofs.RevOrder.{is_rev-before}
 use Rattle.store_laws.proofs.Rising.{others-above, slice_get-newest}

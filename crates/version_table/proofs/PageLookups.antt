@@ -10,8 +10,7 @@ use Rattle.std.specs.List.{AllByRecursion, slice_get}
 use Rattle.std.specs.List.Sorted.{IsPartitionedBy}
 use Rattle.kv_model.specs.declared.version.Rev.{Rev}
 use Rattle.kv_model.specs.declared.version.Version.{Version}
-use Rattle.kv_model.specs.History.{rev_lt}
-use Rattle.kv_model.specs.Kept.{is_at}
+use Rattle.kv_model.specs.History.{rev_lt, is_at}
 use Rattle.store_laws.proofs.PlaceLaws.{each-map}
 use Rattle.store_laws.proofs.RevOrder.{rev_lt-trans, rev_lt-turn, is_rev-same, is_rev-before}
 use Rattle.store_laws.proofs.Rising.{newest-cons, newest-none, newest-behind, behind-newest, behind-none, each-at}

@@ -4,8 +4,7 @@ use Rattle.std.proofs.Common.{Option, None, Some, filter, refl, sym, ◌∙◌, 
 use Rattle.std.specs.List.{AllByRecursion, find, slice_get, remove}
 use Rattle.kv_model.specs.declared.version.Rev.{Rev}
 use Rattle.kv_model.specs.declared.version.Version.{Version}
-use Rattle.kv_model.specs.History.{rev_lt}
-use Rattle.kv_model.specs.Kept.{is_at}
+use Rattle.kv_model.specs.History.{rev_lt, is_at}
 use Rattle.store_laws.proofs.PlaceLaws.{each-map}
 use Rattle.store_laws.proofs.RevOrder.{rev_lt-main, rev_lt-not, is_rev-same, is_rev-before, is_rev-behind}
 use Rattle.store_laws.proofs.Rising as rising

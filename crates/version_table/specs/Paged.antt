@@ -3,7 +3,7 @@ use Rattle.std.specs.Prelude.{◌≡◌, ℕ, suc, zero, ◌<◌, ◌+◌, ◌-�
 use Rattle.std.specs.Prelude.{Option, None, Some, if◌then◌else◌, length, nat_lt}
 use Rattle.std.specs.List.{AllByRecursion, flat_map, slice_get, remove}
 use Rattle.kv_model.specs.Lists.{is_empty, last_that}
-use Rattle.kv_model.specs.Kept.{without_rev}
+use Rattle.kv_model.specs.History.{without_rev}
 use Rattle.kv_model.specs.declared.version.Rev.{Rev}
 use Rattle.kv_model.specs.declared.version.Version.{Version}
 use Rattle.kv_model.specs.History.{rev_lt}

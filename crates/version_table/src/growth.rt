@@ -1,7 +1,7 @@
 //! How pages grow and shrink.
 ghost use Rattle.std.specs.Prelude.{◌≡◌, ◌+◌, ◌<◌, length, true, Some, OnOk, OnErr};
 ghost use Rattle.std.specs.List.{slice_get};
-ghost use Rattle.kv_model.specs.Kept.{without_rev};
+ghost use Rattle.kv_model.specs.History.{without_rev};
 ghost use Rattle.version_table.specs.Paged.{HaveVersions, change_at, flat, freed, has_room};
 ghost use Rattle.version_table.specs.Paged.{is_void, pushed, without_version};
 ghost use Rattle.version_table.specs.Rising.{IsRising};

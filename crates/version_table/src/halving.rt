@@ -2,8 +2,7 @@
 ghost use Rattle.std.specs.Prelude.{◌≡◌, ◌<◌, ◌≤◌, ◌+◌, length, drop, filter, not, option_and_then};
 ghost use Rattle.std.specs.Prelude.{IfSome, option_map, option_copied, Some};
 ghost use Rattle.std.specs.List.{find, slice_get};
-ghost use Rattle.kv_model.specs.History.{rev_lt};
-ghost use Rattle.kv_model.specs.Kept.{is_at, without_rev};
+ghost use Rattle.kv_model.specs.History.{rev_lt, is_at, without_rev};
 ghost use Rattle.version_table.specs.Rising.{IsRising, newest, count_before, without_index};
 
 use kv_model::version::{Rev, Version};

@@ -32,11 +32,12 @@ impl Model for Page {
 }
 
 impl Page {
-    /// A page whose first place has a version, and the others none. The error is want of memory.
+    /// A page whose first place has a version, and the others none. It takes the memory of all its
+    /// places at once: a page that grew would leave holes behind. The error is want of memory.
     pub(crate) fn of(alloc: Global, version: Version) -> Result<Page, AllocError>
         ensures { IfOk result (λ p. p ≡ fresh version) }
     {
-        let mut versions = Vec::new(alloc);
+        let mut versions = Vec::with_capacity(alloc, PLACES)?;
         versions.push(version)?;
         Ok(Page { used: 1, versions })
     }

@@ -2,8 +2,7 @@
 ghost use Rattle.std.specs.Prelude.{◌≡◌, ◌≤◌, length, drop, filter, not, IfSome, option_copied};
 ghost use Rattle.std.specs.Prelude.{option_map, Some};
 ghost use Rattle.std.specs.List.{find, slice_get};
-ghost use Rattle.kv_model.specs.History.{rev_lt};
-ghost use Rattle.kv_model.specs.Kept.{is_at};
+ghost use Rattle.kv_model.specs.History.{rev_lt, is_at};
 ghost use Rattle.version_table.specs.Paged.{HaveVersions, flat, pages_before, place_of};
 ghost use Rattle.version_table.specs.Paged.{versions_in};
 ghost use Rattle.version_table.specs.Rising.{IsRising, newest, rev_of};

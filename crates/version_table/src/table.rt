@@ -3,8 +3,7 @@
 ghost use Rattle.std.specs.Prelude.{◌≡◌, ◌↔◌, ◌≤◌, [], ◌∷◌, ◌++◌, length, filter, not, option_map};
 ghost use Rattle.std.specs.Prelude.{option_copied, OnOk, OnErr, IsTrue, Some};
 ghost use Rattle.std.specs.List.{find};
-ghost use Rattle.kv_model.specs.History.{rev_lt};
-ghost use Rattle.kv_model.specs.Kept.{is_at, without_rev};
+ghost use Rattle.kv_model.specs.History.{rev_lt, is_at, without_rev};
 ghost use Rattle.version_table.specs.Rising.{IsBehind, IsRising, newest};
 
 use crate::halving::is_before;

@@ -3,7 +3,7 @@ use Rattle.std.proofs.Common.{◌≡◌, ◌&&◌, ◌≤◌, ℕ, List, filter,
 use Rattle.std.specs.Prelude.{nat_lt, nat_le}
 use Rattle.std.proofs.lemmas.Bool.Decides.{nat_tests}
 use Rattle.kv_model.specs.declared.version.Version.{Version}
-use Rattle.kv_model.specs.Events.{matches}
+use Rattle.kv_model.specs.Watches.{matches}
 use Rattle.kv_model.specs.Watches.{Delivery, last_revision}
 use Rattle.watch_hub.specs.Hub.{PendingWatch}
 use Rattle.watch_hub.specs.Delivering.{Course, course_from, course_of, delivery_from, delivery_due, message_from}

@@ -5,7 +5,7 @@ use Rattle.std.specs.List.{AllByRecursion}
 use Rattle.std.proofs.lemmas.Bool.Decides.{nat_tests}
 use Rattle.kv_model.specs.declared.version.Version.{Version}
 use Rattle.kv_model.specs.declared.call.Watched.{Watched}
-use Rattle.kv_model.specs.Events.{matches}
+use Rattle.kv_model.specs.Watches.{matches}
 use Rattle.kv_model.specs.World.{World, Watch, revision, versions, watch_at}
 use Rattle.kv_model.specs.Watches.{Delivery, undelivered, last_revision, delivery, after_delivery, deliver}
 use Rattle.store_laws.specs.Stands.{Store, Tracked, TracksNext, Tracks, TracksAll, StandsFor, first_main_of}

@@ -6,7 +6,7 @@ use Rattle.std.specs.List.{AllByRecursion, list_any}
 use Rattle.std.proofs.lemmas.Bool.Decides.{nat_tests}
 use Rattle.kv_model.specs.declared.version.Version.{Version}
 use Rattle.kv_model.specs.History.{value_at, end_of}
-use Rattle.kv_model.specs.Events.{WatchEvent, event_of, matches}
+use Rattle.kv_model.specs.Watches.{WatchEvent, event_of, matches}
 use Rattle.kv_model.specs.World.{World, Watch, revision, versions}
 use Rattle.kv_model.specs.Watches.{Delivery, undelivered, last_revision, delivery_of, watch_delivery}
 use Rattle.store_laws.specs.Stands.{Store, Tracked, TracksNext, Tracks, StandsFor, first_main_of}

@@ -6,7 +6,7 @@ use Rattle.std.specs.List.{find}
 use Rattle.kv_model.specs.declared.version.Version.{Version}
 use Rattle.kv_model.specs.declared.call.Watched.{Watched}
 use Rattle.kv_model.specs.Keys.{in_range, same_key}
-use Rattle.kv_model.specs.Events.{matches, wants}
+use Rattle.kv_model.specs.Watches.{matches, wants}
 use Rattle.store_laws.specs.Stands.{first_main_of}
 use Rattle.range_view.proofs.OneKey.{filter-both}
 

@@ -6,7 +6,7 @@ use Rattle.std.proofs.lemmas.Bool.Decides.{nat_tests}
 use Rattle.kv_model.specs.declared.version.Version.{Version}
 use Rattle.kv_model.specs.declared.call.Watched.{Watched}
 use Rattle.kv_model.specs.Keys.{in_range}
-use Rattle.kv_model.specs.Events.{matches, wants}
+use Rattle.kv_model.specs.Watches.{matches, wants}
 use Rattle.store_laws.specs.Stands.{Tracked, noted, first_main_of, is_reached, still_ahead}
 use Rattle.watch_hub.specs.declared.guards.Guard.{Guard}
 use Rattle.watch_hub.specs.Guards.{ArePast, AreToCome}

@@ -6,7 +6,7 @@ use Rattle.std.specs.List.{AllByRecursion, remove}
 use Rattle.std.proofs.lemmas.Bool.Decides.{nat_tests}
 use Rattle.kv_model.specs.declared.version.Version.{Version}
 use Rattle.store_laws.specs.Stands.{Tracked, noted, first_main_of, still_ahead, is_reached}
-use Rattle.kv_model.specs.Events.{matches}
+use Rattle.kv_model.specs.Watches.{matches}
 use Rattle.std.specs.Option.{option_or}
 use Rattle.slab.specs.Slab.{Slab, get}
 use Rattle.watch_hub.specs.declared.entry.Entry.{Entry}

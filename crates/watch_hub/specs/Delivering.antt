@@ -3,7 +3,7 @@ use Rattle.std.specs.Prelude.{ℕ, ◌≤◌, ⊤, List, map, filter, ◌&&◌, 
 use Rattle.std.specs.Prelude.{if◌then◌else◌}
 use Rattle.kv_model.specs.declared.version.Version.{Version}
 use Rattle.kv_model.specs.declared.call.Watched.{Watched}
-use Rattle.kv_model.specs.Events.{WatchEvent, event_of, matches}
+use Rattle.kv_model.specs.Watches.{WatchEvent, event_of, matches}
 use Rattle.kv_model.specs.Watches.{Delivery, last_revision}
 use Rattle.store_laws.specs.Stands.{Tracked}
 use Rattle.watch_hub.specs.Hub.{PendingWatch, pending_of, tracked_at, without_tracked, advanced_to}

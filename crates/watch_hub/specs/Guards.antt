@@ -1,5 +1,6 @@
 -- Guards: the ranges of the watches, in the order of their first keys, and how far back each of them tells.
-use Rattle.std.specs.Prelude.{◌≡◌, ℕ, ◌<◌, ◌≤◌, List, [], ◌∷◌, length, Bool, true, false, ◌&&◌, ◌==◌, Option, None, Some, if◌then◌else◌, ⊤}
+use Rattle.std.specs.Prelude.{◌≡◌, ℕ, ◌<◌, ◌≤◌, List, [], ◌∷◌, length, Bool, true, false, ◌&&◌, ◌==◌, Option, None}
+use Rattle.std.specs.Prelude.{Some, if◌then◌else◌, ⊤}
 use Rattle.std.specs.Prelude.{slice_index_or}
 use Rattle.std.specs.List.{AllByRecursion}
 use Rattle.kv_model.specs.declared.version.KeyRange.{KeyRange}
@@ -45,7 +46,8 @@ AreInOrder (g ∷ gs) = AllByRecursion (begins_before g) gs × AreInOrder gs
 
 -- those from the index back on up to this one end no later than it
 abbrev pub IsBack : List Guard → ℕ → ℕ → Type 0
-IsBack gs i back = (back ≤ i) × ((j : ℕ) (d : Guard) → back ≤ j → j < i → EndsBy (slice_index_or gs j d).range (slice_index_or gs i d).range)
+IsBack gs i back = (back ≤ i) × ((j : ℕ) (d : Guard) → back ≤ j → j < i
+    → EndsBy (slice_index_or gs j d).range (slice_index_or gs i d).range)
 
 -- each of the first so many guards has its way back
 abbrev pub AreBacks : List Guard → List ℕ → ℕ → Type 0

@@ -5,7 +5,7 @@ use Rattle.std.specs.Prelude.{Option, find, if◌then◌else◌}
 use Rattle.std.specs.List.{AllByRecursion}
 use Rattle.kv_model.specs.declared.version.Version.{Version}
 use Rattle.kv_model.specs.declared.call.Watched.{Watched}
-use Rattle.kv_model.specs.Events.{matches}
+use Rattle.kv_model.specs.Watches.{matches}
 use Rattle.store_laws.specs.Stands.{Store, Tracked, first_main_of, ahead_of}
 use Rattle.kv_model.specs.Step.{start_of, watched_range}
 use Rattle.range_view.specs.Stored.{Stored}

@@ -1,8 +1,7 @@
 -- How far a message goes: the matched versions are counted one after another, up to the one that it has no room for.
 use Rattle.std.specs.Prelude.{ℕ, ◌+◌, List, [], ◌∷◌, Bool, ◌&&◌, ◌||◌, ◌==◌, map, nat_lt, if◌then◌else◌, option_map}
 use Rattle.kv_model.specs.declared.version.Version.{Version}
-use Rattle.kv_model.specs.Watches.{most_events}
-use Rattle.kv_model.specs.Events.{WatchEvent}
+use Rattle.kv_model.specs.Watches.{most_events, WatchEvent}
 use Rattle.range_view.specs.Replies.{kv_view}
 use Rattle.watch_hub.specs.declared.tally.Tally.{Tally}
 use Rattle.watch_hub.specs.declared.message.Event.{Event}

@@ -1,7 +1,9 @@
 //! The ranges of the watches in the order of their first keys, by which those that a key may
 //! concern are found.
-ghost use Rattle.std.specs.Prelude.{◌≡◌, ℕ, ◌<◌, ◌≤◌, ◌+◌, [], ◌∷◌, length, true, false, filter, not};
-ghost use Rattle.std.specs.Prelude.{◌==◌, None, Some, OnOk, OnErr, MatchOption, slice_index_or, if◌then◌else◌};
+ghost use Rattle.std.specs.Prelude.{◌≡◌, ℕ, ◌<◌, ◌≤◌, ◌+◌, [], ◌∷◌, length, true, false, filter};
+ghost use Rattle.std.specs.Prelude.{not};
+ghost use Rattle.std.specs.Prelude.{◌==◌, None, Some, OnOk, OnErr, MatchOption, slice_index_or};
+ghost use Rattle.std.specs.Prelude.{if◌then◌else◌};
 ghost use Rattle.kv_model.specs.declared.version.KeyRange.{KeyRange};
 ghost use Rattle.watch_hub.specs.declared.guards.Guard.{Guard};
 ghost use Rattle.watch_hub.specs.Guards.{ends_by, is_past, range_at, AreBacks, AreInOrder, ArePast};

@@ -1,6 +1,6 @@
 //! Which versions a watch matches.
 ghost use Rattle.std.specs.Prelude.{◌≡◌, ◌&&◌, filter, find, option_copied};
-ghost use Rattle.kv_model.specs.Events.{matches, wants};
+ghost use Rattle.kv_model.specs.Watches.{matches, wants};
 ghost use Rattle.store_laws.specs.Stands.{ahead_of, first_main_of, is_reached, still_ahead};
 
 use kv_model::call::Watched;

@@ -1,6 +1,6 @@
 //! A message to a watch: whole revisions from the front (the etcd documentation's WatchResponse).
 ghost use Rattle.std.specs.Prelude.{◌≡◌, ◌++◌, filter, map, nat_le, IfOk, OnOk};
-ghost use Rattle.kv_model.specs.Events.{event_of};
+ghost use Rattle.kv_model.specs.Watches.{event_of};
 ghost use Rattle.kv_model.specs.Watches.{last_revision};
 ghost use Rattle.version_table.specs.Rising.{IsRising};
 ghost use Rattle.watch_hub.specs.Delivering.{message_from};

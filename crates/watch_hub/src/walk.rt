@@ -5,7 +5,7 @@ ghost use Rattle.kv_model.specs.declared.version.Version.{Version};
 ghost use Rattle.store_laws.specs.Stands.{first_main_of};
 ghost use Rattle.watch_hub.specs.Hub.{first_from};
 ghost use Rattle.watch_hub.specs.Walks.{left_in};
-ghost use Rattle.kv_model.specs.Events.{matches};
+ghost use Rattle.kv_model.specs.Watches.{matches};
 ghost use Rattle.range_view.specs.Stored.{IsStored};
 
 use crate::matching::matches;
@@ -33,7 +33,7 @@ enum Source<'a> {
 impl<'a> Model for Walk<'a> {
     ghost use Rattle.std.specs.Prelude.{List, filter};
     ghost use Rattle.kv_model.specs.declared.version.Version.{Version};
-    ghost use Rattle.kv_model.specs.Events.{matches};
+    ghost use Rattle.kv_model.specs.Watches.{matches};
     ghost use Rattle.watch_hub.specs.Walks.{left_in};
 
     ghost Value = { List Version };

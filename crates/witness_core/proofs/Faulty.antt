@@ -8,9 +8,8 @@ use Rattle.kv_model.specs.declared.version.Rev.{Rev}
 use Rattle.kv_model.specs.declared.version.Version.{Version}
 use Rattle.kv_model.specs.Lists.{IsIn}
 use Rattle.kv_model.specs.Keys.{same_key}
-use Rattle.kv_model.specs.History.{rev_lt}
-use Rattle.kv_model.specs.Dumps.{Dump, Claim}
-use Rattle.kv_model.specs.Trimming.{is_at}
+use Rattle.kv_model.specs.History.{rev_lt, is_at}
+use Rattle.kv_model.specs.Certificates.{Dump, Claim}
 use Rattle.kv_model.specs.Certificates.{NeedFault, is_met, fall_after, first_fall, first_double, claims_fault, first_fault}
 use Rattle.store_laws.proofs.HistoryLaws.{same_key-eq}
 use Rattle.witness_core.specs.declared.fault.NeedFault as declared

@@ -12,8 +12,7 @@ use Rattle.std.proofs.lemmas.List.Sums.{length-filter}
 use Rattle.kv_model.specs.declared.version.Rev.{Rev}
 use Rattle.kv_model.specs.declared.version.Version.{Version}
 use Rattle.kv_model.specs.Keys.{same_key}
-use Rattle.kv_model.specs.History.{rev_lt}
-use Rattle.kv_model.specs.Trimming.{is_superseded}
+use Rattle.kv_model.specs.History.{rev_lt, is_superseded}
 use Rattle.kv_model.specs.Certificates.{fall_after, first_fall, is_double, first_double}
 use Rattle.version_table.specs.Rising.{IsRising}
 use Rattle.store_laws.proofs.CertificateLaws.{is_twin}

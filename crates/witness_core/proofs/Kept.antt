@@ -6,8 +6,7 @@ use Rattle.std.proofs.lemmas.Bool.Decides.{nat_tests}
 use Rattle.kv_model.specs.declared.version.Rev.{Rev}
 use Rattle.kv_model.specs.declared.version.Version.{Version}
 use Rattle.kv_model.specs.Keys.{same_key}
-use Rattle.kv_model.specs.History.{rev_lt}
-use Rattle.kv_model.specs.Trimming.{is_superseded}
+use Rattle.kv_model.specs.History.{rev_lt, is_superseded}
 use Rattle.version_table.specs.Rising.{IsRising}
 use Rattle.store_laws.proofs.RevOrder.{rev_lt-main}
 use Rattle.witness_core.specs.Making.{is_first_by}

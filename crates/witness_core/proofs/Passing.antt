@@ -7,9 +7,9 @@ use Rattle.std.specs.List.{AllByRecursion}
 use Rattle.std.proofs.lemmas.List.{append_assoc}
 use Rattle.kv_model.specs.declared.version.Rev.{Rev}
 use Rattle.kv_model.specs.declared.version.Version.{Version}
-use Rattle.kv_model.specs.Events.{before_is_kept}
-use Rattle.kv_model.specs.Dumps.{Dump, Claim, Need}
-use Rattle.kv_model.specs.Trimming.{is_at, is_tombstone, is_superseded}
+use Rattle.kv_model.specs.Watches.{before_is_kept}
+use Rattle.kv_model.specs.Certificates.{Dump, Claim, Need}
+use Rattle.kv_model.specs.History.{is_at, is_tombstone, is_superseded}
 use Rattle.kv_model.specs.Certificates.{NeedFault, is_asked, is_met, first_fall, first_double, claims_fault, first_fault}
 use Rattle.version_table.specs.Rising.{IsRising}
 use Rattle.store_laws.specs.TrimmingLaws.{IsLeastOfItself}

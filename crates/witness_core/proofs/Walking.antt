@@ -3,7 +3,7 @@ use Rattle.std.proofs.Common.{◌≡◌, ◌⊎◌, inl, inr, ℕ, length, List,
 use Rattle.std.specs.List.{AllByRecursion, push}
 use Rattle.std.proofs.lemmas.List.{append_assoc, append-nil, drop_all, at_drop_more, reverse-append}
 use Rattle.kv_model.specs.declared.version.Version.{Version}
-use Rattle.kv_model.specs.Dumps.{Dump, Claim}
+use Rattle.kv_model.specs.Certificates.{Dump, Claim}
 use Rattle.kv_model.specs.Certificates.{claim_of, claims_of}
 use Rattle.witness_core.specs.Walks.{first_twin, walked, left_over}
 

@@ -2,10 +2,11 @@
 use Rattle.std.specs.Prelude.{◌≡◌, ℕ, List, Option, None, Some}
 use Rattle.kv_model.specs.declared.version.Rev.{Rev}
 use Rattle.kv_model.specs.declared.version.Version.{Version}
-use Rattle.kv_model.specs.Dumps.{Dump, Claim}
+use Rattle.kv_model.specs.Certificates.{Dump, Claim}
 use Rattle.kv_model.specs.Certificates as model
 use Rattle.witness_core.specs.declared.fault.NeedFault.{NeedFault}
-use Rattle.witness_core.specs.declared.fault.NeedFault.TheVariants.{NotRising, DoubleKey, NoNeed, NeedUnmet, Extra, Memory}
+use Rattle.witness_core.specs.declared.fault.NeedFault.TheVariants.{NotRising, DoubleKey, NoNeed, NeedUnmet, Extra}
+use Rattle.witness_core.specs.declared.fault.NeedFault.TheVariants.{Memory}
 use Rattle.witness_core.specs.Walks.{next_mains}
 
 abbrev pub number_of : NeedFault → ℕ

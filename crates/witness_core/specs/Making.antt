@@ -3,7 +3,7 @@ use Rattle.std.specs.Prelude.{ℕ, List, [], ◌∷◌, Bool, false, nat_le, if�
 use Rattle.kv_model.specs.declared.version.Rev.{Rev}
 use Rattle.kv_model.specs.declared.version.Version.{Version}
 use Rattle.kv_model.specs.History.{rev_lt}
-use Rattle.kv_model.specs.Dumps.{Dump}
+use Rattle.kv_model.specs.Certificates.{Dump}
 use Rattle.range_view.specs.Stored.{Stored}
 
 -- what is kept

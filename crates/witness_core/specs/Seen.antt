@@ -1,5 +1,5 @@
 -- How a need of the program is seen as the model's.
-use Rattle.kv_model.specs.Dumps as model
+use Rattle.kv_model.specs.Certificates as model
 use Rattle.witness_core.specs.declared.certificate.Need.{Need}
 use Rattle.witness_core.specs.declared.certificate.Need.TheVariants.{Range, Watch}
 

@@ -3,12 +3,12 @@ use Rattle.std.specs.Prelude.{◌≡◌, ◌<◌, List, [], ◌∷◌, ◌++◌,
 use Rattle.kv_model.specs.declared.version.Rev.{Rev}
 use Rattle.kv_model.specs.declared.version.Version.{Version}
 use Rattle.kv_model.specs.Lists.{IsIn}
-use Rattle.kv_model.specs.History.{rev_lt}
-use Rattle.kv_model.specs.Dumps.{Dump, Claim}
-use Rattle.kv_model.specs.Trimming.{is_at}
+use Rattle.kv_model.specs.History.{rev_lt, is_at}
+use Rattle.kv_model.specs.Certificates.{Dump, Claim}
 use Rattle.kv_model.specs.Certificates as model
 use Rattle.witness_core.specs.declared.fault.NeedFault.{NeedFault}
-use Rattle.witness_core.specs.declared.fault.NeedFault.TheVariants.{NotRising, DoubleKey, NoNeed, NeedUnmet, Extra, Memory}
+use Rattle.witness_core.specs.declared.fault.NeedFault.TheVariants.{NotRising, DoubleKey, NoNeed, NeedUnmet, Extra}
+use Rattle.witness_core.specs.declared.fault.NeedFault.TheVariants.{Memory}
 
 -- the version at the revision is not above the one before it
 pub record Falls (vs : List Version) (p : Rev) : Type 0 where

@@ -5,8 +5,8 @@ use Rattle.std.specs.Option.{option_or}
 use Rattle.kv_model.specs.declared.version.Rev.{Rev}
 use Rattle.kv_model.specs.declared.version.Version.{Version}
 use Rattle.kv_model.specs.Keys.{same_key}
-use Rattle.kv_model.specs.Dumps.{Dump, Claim, Need}
-use Rattle.kv_model.specs.Trimming.{is_at, is_tombstone}
+use Rattle.kv_model.specs.Certificates.{Dump, Claim, Need}
+use Rattle.kv_model.specs.History.{is_at, is_tombstone}
 use Rattle.kv_model.specs.Certificates.{NeedFault, is_asked}
 
 -- the main revision of the first version of a key
@@ -37,7 +37,8 @@ first_twin (v ∷ vs) (n ∷ ns) = if is_next_in v.rev.main n then Some v.rev el
 
 -- the need is met by a version with this next one
 abbrev pub is_met_by : Dump → Version → Option ℕ → Need → Bool
-is_met_by d v n (Need.range r) = is_asked d v r && not (is_tombstone v.body) && nat_le v.rev.main r && not (is_next_by r n)
+is_met_by d v n (Need.range r) = is_asked d v r && not (is_tombstone v.body) && nat_le v.rev.main r
+    && not (is_next_by r n)
 is_met_by d v n (Need.watch r) = is_asked d v r && v.rev.main == r
 
 -- what is wrong with the claim that stands where the version's has to

@@ -21,7 +21,7 @@ pub struct Claim {
 }
 
 impl Model for Claim {
-    ghost use Rattle.kv_model.specs.Dumps.{Claim as SeenClaim};
+    ghost use Rattle.kv_model.specs.Certificates.{Claim as SeenClaim};
 
     ghost Value = { SeenClaim };
 
@@ -39,7 +39,7 @@ pub struct Certificate {
 
 impl Model for Certificate {
     ghost use Rattle.std.specs.Prelude.{List};
-    ghost use Rattle.kv_model.specs.Dumps.{Claim as SeenClaim};
+    ghost use Rattle.kv_model.specs.Certificates.{Claim as SeenClaim};
 
     ghost Value = { List SeenClaim };
 

@@ -2,7 +2,7 @@
 ghost use Rattle.std.specs.Prelude.{◌≡◌, length, None, option_copied, IfOk, OnOk, IfErr};
 ghost use Rattle.kv_model.specs.Certificates.{is_asked, first_fault, AreNeedsOf};
 ghost use Rattle.kv_model.specs.Questions.{IsLeastOf};
-ghost use Rattle.kv_model.specs.Trimming.{is_tombstone};
+ghost use Rattle.kv_model.specs.History.{is_tombstone};
 ghost use Rattle.witness_core.specs.Faults.{Finds, IsFirst, IsListFault, IsSound};
 ghost use Rattle.witness_core.specs.Seen.{seen_need};
 ghost use Rattle.witness_core.specs.Standing.{IsThere};

@@ -20,7 +20,7 @@ pub struct Dump {
 }
 
 impl Model for Dump {
-    ghost use Rattle.kv_model.specs.Dumps.{Dump as SeenDump};
+    ghost use Rattle.kv_model.specs.Certificates.{Dump as SeenDump};
 
     ghost Value = { SeenDump };
 

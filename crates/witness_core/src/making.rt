@@ -1,9 +1,8 @@
 //! The certificate of what a store keeps.
 ghost use Rattle.std.specs.Prelude.{◌≡◌, ◌++◌, List, option_map, IfOk, OnOk};
 ghost use Rattle.std.specs.List.{cons_option};
-ghost use Rattle.kv_model.specs.Certificates.{claim_of, claims_of, need_of};
-ghost use Rattle.kv_model.specs.Dumps.{Claim as SeenClaim};
-ghost use Rattle.kv_model.specs.Trimming.{is_superseded};
+ghost use Rattle.kv_model.specs.Certificates.{claim_of, claims_of, need_of, Claim as SeenClaim};
+ghost use Rattle.kv_model.specs.History.{is_superseded};
 ghost use Rattle.witness_core.specs.Making.{dump_of, is_first_by};
 ghost use Rattle.witness_core.specs.Seen.{seen_need};
 

@@ -9,9 +9,9 @@ impl Core {
     ghost use Rattle.kv_model.specs.Certificates.{claims_of};
     ghost use Rattle.request_core.specs.State.{dump_kept};
 
-    /// What is kept: a copy of its versions, the oldest first, with the present revision and that of
-    /// the last compaction. Takes time and memory linear in the number of versions; what a version
-    /// holds is shared and not copied. `AllocError` comes where the list found no memory.
+    /// What is kept: a copy of its versions, the oldest first, with the present revision and that
+    /// of the last compaction. Takes time and memory linear in the number of versions; what a
+    /// version holds is shared and not copied. `AllocError` comes where the list found no memory.
     pub fn dump(&self) -> Result<Dump, AllocError>
         ensures { IfOk result (λ dump. dump ≡ dump_kept self.now.store) }
     {

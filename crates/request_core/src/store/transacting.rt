@@ -23,7 +23,8 @@ use txn_core::step::{Plan, Step};
 use txn_core::{check, plan};
 
 impl Core {
-    ghost use Rattle.kv_model.specs.Calls.{as_call, txn_view};
+    ghost use Rattle.kv_model.specs.Calls.{as_call};
+    ghost use Rattle.kv_model.specs.Commands.{txn_view};
     ghost use Rattle.kv_model.specs.History.{end_of};
     ghost use Rattle.request_core.specs.State.{IsTold, added_by, fault_of_txn, added_by_txn};
     ghost use Rattle.request_core.specs.State.{after_txn};

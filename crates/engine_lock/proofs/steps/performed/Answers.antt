@@ -1,4 +1,4 @@
-use Rattle.kv_model.specs.Calls.{call_of}
+use Rattle.kv_model.specs.Commands.{call_of}
 use Rattle.engine_lock.proofs.Counting.{Counted, ended}
 use Rattle.engine_lock.specs.Locked.{rise}
 use Rattle.engine_lock.proofs.steps.performed.Goals as goal

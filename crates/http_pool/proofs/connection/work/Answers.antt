@@ -13,22 +13,22 @@ loop-replies-init g c = (omega arith, refl, refl, none_yet _)
 
 pub loop-replies-preserved : goal.loop-replies-preserved
 loop-replies-preserved g c = (
-  omega (arith, c.loop-replies.invariant.0, c.in-Ok-Open.ensures.share),
-  c.in-Ok-Open.ensures.reader ∙ c.loop-replies.invariant.1,
-  c.in-Ok-Open.ensures.writer ∙ c.loop-replies.invariant.2,
-  goes_on c.loop-replies.replies _ _ c.loop-replies.invariant.3 _ c.in-Ok-Open.field-0 c.in-Ok-Open.ensures.writes
-      c.in-Ok-Open.field-0-is,
+  omega (arith, c.loop-replies.invariant.0, c.in-Ok-More.ensures.share),
+  c.in-Ok-More.ensures.reader ∙ c.loop-replies.invariant.1,
+  c.in-Ok-More.ensures.writer ∙ c.loop-replies.invariant.2,
+  goes_on c.loop-replies.replies _ _ c.loop-replies.invariant.3 _ c.in-Ok-More.field-0 c.in-Ok-More.ensures.writes
+      c.in-Ok-More.field-0-is,
 )
 
-pub returns-in-Ok-Closed-clause-writes : goal.returns-in-Ok-Closed-clause-writes
-returns-in-Ok-Closed-clause-writes g c =
-    closes c.loop-replies.replies _ _ c.loop-replies.invariant.3 _ c.in-Ok-Closed.field-0
-    c.in-Ok-Closed.ensures.writes c.in-Ok-Closed.field-0-is
+pub returns-in-Ok-Last-clause-writes : goal.returns-in-Ok-Last-clause-writes
+returns-in-Ok-Last-clause-writes g c =
+    closes c.loop-replies.replies _ _ c.loop-replies.invariant.3 _ c.in-Ok-Last.field-0
+    c.in-Ok-Last.ensures.writes c.in-Ok-Last.field-0-is
 
-pub returns-in-Ok-Clean-clause-writes : goal.returns-in-Ok-Clean-clause-writes
-returns-in-Ok-Clean-clause-writes g c =
-    ends_clean c.loop-replies.replies _ _ c.loop-replies.invariant.3 _ c.in-Ok-Clean.field-0
-    c.in-Ok-Clean.ensures.writes c.in-Ok-Clean.field-0-is
+pub returns-in-Ok-End-clause-writes : goal.returns-in-Ok-End-clause-writes
+returns-in-Ok-End-clause-writes g c =
+    ends_clean c.loop-replies.replies _ _ c.loop-replies.invariant.3 _ c.in-Ok-End.field-0
+    c.in-Ok-End.ensures.writes c.in-Ok-End.field-0-is
 
 pub returns-in-Err-clause-writes : goal.returns-in-Err-clause-writes
 returns-in-Err-clause-writes g c =

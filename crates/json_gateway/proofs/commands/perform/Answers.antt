@@ -1,4 +1,4 @@
-use Rattle.kv_model.specs.Calls.{call_of}
+use Rattle.kv_model.specs.Commands.{call_of}
 use Rattle.std.proofs.Common.{refl, ◌∙◌}
 use Rattle.kv_model.specs.Answers.{answered, fault_of}
 use Rattle.request_core.specs.Answers.{answer_of, has_changed}

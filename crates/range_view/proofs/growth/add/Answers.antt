@@ -1,7 +1,7 @@
 -- The index has the version that the table has, or both are as they were.
 use Rattle.std.proofs.Common.{◌≡◌, ◌∙◌, [], Some, ap}
 use Rattle.std.proofs.lemmas.List.{append-nil}
-use Rattle.kv_model.specs.Kept.{without_rev}
+use Rattle.kv_model.specs.History.{without_rev}
 use Rattle.store_laws.proofs.Rising.{rising-push}
 use Rattle.version_table.specs.Rising.{rev_of}
 use Rattle.version_table.proofs.Changes.{without_rev-middle}

@@ -2,7 +2,7 @@ use Rattle.std.proofs.Common.{◌≡◌, IfOk, Bool, sym, ap, subst, ◌∙◌, 
 use Rattle.std.proofs.lemmas.List.{drop_all}
 use Rattle.std.specs.List.{list_any}
 use Rattle.kv_model.specs.declared.call.Operation.{Operation}
-use Rattle.kv_model.specs.Calls.{op_view}
+use Rattle.kv_model.specs.Commands.{op_view}
 use Rattle.kv_model.specs.Txns.{clashes}
 use Rattle.txn_core.proofs.Clashing.{clashes-range, clashes-put, clashes-delete, clash-collide, clash-inner, txn-first, txn-second}
 use Rattle.txn_core.proofs.Elements.{At, any-here}

@@ -1,5 +1,5 @@
 use Rattle.std.proofs.Common.{◌≡◌, ◌++◌, map, ap, ◌∙◌}
-use Rattle.kv_model.specs.Calls.{op_view}
+use Rattle.kv_model.specs.Commands.{op_view}
 use Rattle.kv_model.specs.Txns.{Touch, touches}
 use Rattle.txn_core.specs.Touching.{keys_put, count_touched}
 use Rattle.txn_core.specs.Views.{touch_view, keys_view}

@@ -2,7 +2,7 @@ use Rattle.std.proofs.Common.{◌≡◌, true, Bool, sym, ap, ◌∙◌, arith}
 use Rattle.std.proofs.lemmas.List.{drop_all}
 use Rattle.std.specs.List.{list_any}
 use Rattle.kv_model.specs.declared.call.Operation.{Operation}
-use Rattle.kv_model.specs.Calls.{op_view}
+use Rattle.kv_model.specs.Commands.{op_view}
 use Rattle.kv_model.specs.Txns.{touches}
 use Rattle.txn_core.specs.Touching.{meets_more}
 use Rattle.txn_core.specs.Views.{keys_view}

@@ -1,6 +1,6 @@
 use Rattle.std.proofs.Common.{◌≡◌, drop}
 use Rattle.std.specs.List.{list_any}
-use Rattle.kv_model.specs.Calls.{op_view}
+use Rattle.kv_model.specs.Commands.{op_view}
 use Rattle.kv_model.specs.Txns.{touches}
 use Rattle.txn_core.specs.Touching.{meets_more}
 use Rattle.txn_core.specs.Views.{keys_view}

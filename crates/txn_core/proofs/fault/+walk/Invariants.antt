@@ -1,5 +1,5 @@
 use Rattle.std.proofs.Common.{◌≡◌, drop}
-use Rattle.kv_model.specs.Calls.{ops_view}
+use Rattle.kv_model.specs.Commands.{ops_view}
 use Rattle.kv_model.specs.Txns.{walk_fault}
 use Rattle.txn_core.proofs.fault.+walk.Given as goal
 

@@ -3,7 +3,8 @@ use Rattle.std.proofs.Common.{◌≡◌, sym, ◌∙◌, ap, subst, arith, map, 
 use Rattle.std.specs.Prelude.{IfOk, IfErr}
 use Rattle.std.specs.List.{list_all}
 use Rattle.kv_model.specs.declared.call.Txn.{out-Txn}
-use Rattle.kv_model.specs.Calls.{then, op_view, ops_view}
+use Rattle.kv_model.specs.Calls.{then}
+use Rattle.kv_model.specs.Commands.{op_view, ops_view}
 use Rattle.kv_model.specs.History.{value_at}
 use Rattle.kv_model.specs.Leases.{is_granted}
 use Rattle.kv_model.specs.Ranges.{revision_refusal}

@@ -1,5 +1,5 @@
 use Rattle.std.proofs.Common.{◌≡◌, drop, map}
-use Rattle.kv_model.specs.Calls.{ops_view}
+use Rattle.kv_model.specs.Commands.{ops_view}
 use Rattle.txn_core.specs.Planning.{path_in, made_in, refusal_in}
 use Rattle.txn_core.specs.Steps.{in_row, step_view}
 use Rattle.txn_core.proofs.planning.+run.Given as goal

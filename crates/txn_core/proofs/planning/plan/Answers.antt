@@ -1,6 +1,6 @@
 -- What is told of the view's place is what is told of its versions, since none is behind it.
 use Rattle.std.proofs.Common.{sym, ◌∙◌, ap, subst, []}
-use Rattle.kv_model.specs.Calls.{txn_view}
+use Rattle.kv_model.specs.Commands.{txn_view}
 use Rattle.kv_model.specs.Leases.{is_granted}
 use Rattle.store_laws.proofs.PlaceLaws.{AreBy}
 use Rattle.txn_core.specs.Planning.{IsRefusal, path_in, made_in, refusal_in}

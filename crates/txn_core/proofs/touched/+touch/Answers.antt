@@ -1,5 +1,5 @@
 use Rattle.std.proofs.Common.{◌++◌, ◌+◌, map, drop, sym, ap, ◌∙◌, append_assoc, arith}
-use Rattle.kv_model.specs.Calls.{op_view, ops_view}
+use Rattle.kv_model.specs.Commands.{op_view, ops_view}
 use Rattle.kv_model.specs.Txns.{touches}
 use Rattle.txn_core.specs.Views.{touch_view}
 use Rattle.txn_core.proofs.Clashing.{touches-step}

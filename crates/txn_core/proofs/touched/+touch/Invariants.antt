@@ -1,5 +1,5 @@
 use Rattle.std.proofs.Common.{◌≡◌, ◌++◌, map, drop}
-use Rattle.kv_model.specs.Calls.{ops_view}
+use Rattle.kv_model.specs.Commands.{ops_view}
 use Rattle.kv_model.specs.Txns.{touches}
 use Rattle.txn_core.specs.Views.{touch_view}
 use Rattle.txn_core.proofs.touched.+touch.Given as goal

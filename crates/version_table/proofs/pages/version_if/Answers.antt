@@ -2,7 +2,7 @@
 use Rattle.std.proofs.Common.{◌≡◌, Bor, Some, sym}
 use Rattle.std.specs.List.{find}
 use Rattle.kv_model.specs.declared.version.Version.{Version}
-use Rattle.kv_model.specs.Kept.{is_at}
+use Rattle.kv_model.specs.History.{is_at}
 use Rattle.version_table.specs.Paged.{flat}
 use Rattle.version_table.proofs.PageLookups.{find-in, rising-page, some-other}
 use Rattle.version_table.proofs.pages.version_if.Goals as goal

@@ -2,7 +2,7 @@
 use Rattle.std.proofs.Common.{◌&&◌, ◌∙◌, List, filter, sym, ap, subst}
 use Rattle.std.specs.Prelude.{nat_le}
 use Rattle.kv_model.specs.declared.version.Version.{Version}
-use Rattle.kv_model.specs.Events.{matches}
+use Rattle.kv_model.specs.Watches.{matches}
 use Rattle.kv_model.specs.Watches.{last_revision}
 use Rattle.version_table.specs.Rising.{IsRising}
 use Rattle.watch_hub.specs.Delivering.{Course}

@@ -1,6 +1,6 @@
 use Rattle.std.proofs.Common.{◌&&◌, option_copied, option_map, sym, ◌∙◌, ap, Option}
 use Rattle.kv_model.specs.declared.version.Version.{Version}
-use Rattle.kv_model.specs.Events.{matches}
+use Rattle.kv_model.specs.Watches.{matches}
 use Rattle.store_laws.specs.Stands.{is_reached}
 use Rattle.watch_hub.proofs.Matches.{first-found}
 use Rattle.watch_hub.proofs.matching.first_reached.Goals as goal

@@ -1,5 +1,5 @@
 use Rattle.std.proofs.Common.{◌≡◌, take, map}
-use Rattle.kv_model.specs.Events.{event_of}
+use Rattle.kv_model.specs.Watches.{event_of}
 use Rattle.watch_hub.specs.Messages.{event_view}
 use Rattle.watch_hub.proofs.message.events_of.Given as goal
 

@@ -1,5 +1,5 @@
 use Rattle.std.proofs.Common.{◌≡◌, filter, length}
-use Rattle.kv_model.specs.Events.{matches}
+use Rattle.kv_model.specs.Watches.{matches}
 use Rattle.watch_hub.specs.Walks.{left_in}
 use Rattle.watch_hub.proofs.walk.next_match.Given as goal
 

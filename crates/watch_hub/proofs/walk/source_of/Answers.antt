@@ -1,5 +1,5 @@
 -- Of one key by the index, and else among all.
-use Rattle.kv_model.specs.Events.{matches}
+use Rattle.kv_model.specs.Watches.{matches}
 use Rattle.std.proofs.Common.{◌∙◌, ap, filter, List}
 use Rattle.kv_model.specs.declared.version.Version.{Version}
 use Rattle.watch_hub.proofs.Matches.{filter-key}

@@ -1,4 +1,4 @@
-use Rattle.kv_model.specs.Calls.{call_of}
+use Rattle.kv_model.specs.Commands.{call_of}
 use Rattle.engine_lock.proofs.Counting.{submitted}
 use Rattle.engine_lock.proofs.state.State.submit.Goals as goal
 

@@ -1,5 +1,6 @@
 use Rattle.std.proofs.Common.{ℕ, sym, ◌∙◌, ap, subst}
-use Rattle.kv_model.specs.Calls.{as_call, txn_view}
+use Rattle.kv_model.specs.Calls.{as_call}
+use Rattle.kv_model.specs.Commands.{txn_view}
 use Rattle.request_core.specs.declared.answer.Todo.TheVariants as todo
 use Rattle.request_core.specs.State.{CoreState}
 use Rattle.request_core.specs.Commands.{CarriesOut}

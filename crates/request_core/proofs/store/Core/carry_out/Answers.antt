@@ -2,7 +2,8 @@ use Rattle.std.proofs.Common.{sym, ◌∙◌, ap, subst, rules}
 use Rattle.std.specs.Int.{w64}
 use Rattle.std.specs.Int.RustNames.{FitsSigned}
 use Rattle.std.proofs.lemmas.Int.{to_z-of_z}
-use Rattle.kv_model.specs.Calls.{Call, call_of}
+use Rattle.kv_model.specs.Calls.{Call}
+use Rattle.kv_model.specs.Commands.{call_of}
 use Rattle.request_core.specs.Commands.{CarriesOut}
 use Rattle.request_core.proofs.store.Core.carry_out.Goals as goal
 

@@ -1,4 +1,4 @@
-use Rattle.kv_model.specs.Calls.{txn_view}
+use Rattle.kv_model.specs.Commands.{txn_view}
 use Rattle.store_laws.specs.Stores.{path_in}
 use Rattle.request_core.proofs.Planned.{planned-next}
 use Rattle.request_core.proofs.store.Core.run.Goals as goal

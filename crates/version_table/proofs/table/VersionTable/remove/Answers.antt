@@ -1,6 +1,6 @@
 -- A rising list still rises when an element is taken out, and is counted.
 use Rattle.std.proofs.Common.{not, sym, subst, arith}
-use Rattle.kv_model.specs.Kept.{is_at}
+use Rattle.kv_model.specs.History.{is_at}
 use Rattle.store_laws.proofs.Rising.{rising-filter}
 use Rattle.version_table.specs.Paged.{flat}
 use Rattle.version_table.specs.Rising.{IsRising, rev_of}
