@@ -15,8 +15,8 @@ use json_gateway::Settled;
 use std::io::Write;
 
 /// The path of the command that a request asks for (RFC 9110, section 9.3.3): that of its target,
-/// up to a `?`, where its method is POST. Another method asks for none, and the path is empty. Takes
-/// no memory.
+/// up to a `?`, where its method is POST. Another method asks for none, and the path is empty.
+/// Takes no memory.
 pub fn command_path<'b>(request: &Request<'b>) -> &'b [u8]
     ensures { result.now ≡ path_asked (request_view request.now) }
 {

@@ -17,7 +17,8 @@
 //! POST /v3/kv/put, Content-Length: 1x                HTTP/1.1 400 Bad Request, and it is closed
 //! ```
 //!
-//! A server with threads takes [`command_path`], [`write_settled`] and [`decline`] for itself.
+//! A server with threads takes [`command_path`], [`write_settled`], [`decline`] and [`turn_after`]
+//! for itself.
 //!
 //! The tests stand in the crate `front_tests`.
 #![tactic(auto)]
@@ -27,4 +28,4 @@ mod serving;
 mod streaming;
 
 pub use answering::{command_path, decline, write_settled};
-pub use serving::serve_alone;
+pub use serving::{Turn, serve_alone, turn_after};

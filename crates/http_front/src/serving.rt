@@ -4,7 +4,8 @@ ghost use Rattle.http_input.specs.Inputs.{failures_after_read, request_view};
 ghost use Rattle.http_reply.specs.Counts.{failures_of, inner_of};
 ghost use Rattle.http_reply.specs.Sends.{failures_after};
 ghost use Rattle.http_front.specs.Connections.{Standing};
-ghost use Rattle.http_front.specs.Served.{Does, IsOfWriting, IsTold, NotBegun, ServesOf, Stands, Turns, ids_alone, turn_of};
+ghost use Rattle.http_front.specs.Served.{Does, IsOfWriting, IsTold, NotBegun, ServesOf, Stands};
+ghost use Rattle.http_front.specs.Served.{Turns, ids_alone, turn_of};
 
 use crate::answering::{command_path, decline, write_settled};
 use crate::streaming::stream;
@@ -15,8 +16,9 @@ use request_core::store::Core;
 use std::alloc::Global;
 use std::io::{Read, Write};
 
-/// What a turn came to.
-enum Turn {
+/// Where a connection stands after a turn.
+#[derive(Clone, Copy, Debug, PartialEq, Eq)]
+pub enum Turn {
     /// A request was answered, and the connection stays open.
     More,
     /// A request was answered, and the connection is closed.
@@ -129,8 +131,8 @@ fn take_turn<R: Read, W: Write>(
     }
 }
 
-/// What a turn came to whose request was answered so.
-fn turn_after(answered: Result<bool, Front>) -> Result<Turn, Front>
+/// Where a connection stands after a request that was answered so: `true` tells that it is closed.
+pub fn turn_after(answered: Result<bool, Front>) -> Result<Turn, Front>
     ensures { result ≡ turn_of answered }
 {
     match answered {

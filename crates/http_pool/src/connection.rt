@@ -3,30 +3,19 @@ ghost use Rattle.std.specs.Prelude.{◌≡◌, ◌≤◌, IfErr};
 ghost use Rattle.http_input.specs.Inputs.{failures_after_read};
 ghost use Rattle.http_reply.specs.Counts.{failures_of, inner_of};
 ghost use Rattle.http_reply.specs.Sends.{failures_after};
-ghost use Rattle.http_pool.specs.Ends.{IsOfConnection, turn_of};
+ghost use Rattle.http_pool.specs.Ends.{IsOfConnection};
 ghost use Rattle.http_pool.specs.Written.{AreAnswers, Grows, Turned};
 
 use crate::gate::{Clock, Gate};
 use crate::replying::answer;
 use engine_lock::{Client, Engine, EngineName, Feed};
-use http_front::decline;
+use http_front::{Turn, decline, turn_after};
 use http_input::Input;
 use http_reply::{Counted, Front, ReplyBuffer};
 use std::alloc::Global;
 use std::io::{Read, Write};
 use std::sync::Wait;
 use std::time;
-
-/// Where a connection stands after a turn.
-#[derive(Clone, Copy, Debug, PartialEq, Eq)]
-enum Turn {
-    /// A request was answered, and another may come.
-    Open,
-    /// A request was answered, and it was the last.
-    Closed,
-    /// The input ended before a further request.
-    Clean,
-}
 
 /// Answers the requests of a connection one after the other, each by one `submit` to the engine,
 /// and gives the number of its replies. It ends at the input's end before a request, after a
@@ -91,9 +80,9 @@ where
             r,
             w,
         ) {
-            Ok(Turn::Open) => {}
-            Ok(Turn::Closed) => return Ok(replies + 1),
-            Ok(Turn::Clean) => return Ok(replies),
+            Ok(Turn::More) => {}
+            Ok(Turn::Last) => return Ok(replies + 1),
+            Ok(Turn::End) => return Ok(replies),
             Err(front) => return Err(front),
         }
     }
@@ -138,18 +127,7 @@ where
             input.skip(head);
             turn_after(closes)
         }
-        Ok(None) => Ok(Turn::Clean),
+        Ok(None) => Ok(Turn::End),
         Err(front) => Err(decline(buffer, w, front)),
-    }
-}
-
-/// The turn of a request that was answered so.
-fn turn_after(closes: Result<bool, Front>) -> Result<Turn, Front>
-    ensures { result ≡ turn_of closes }
-{
-    match closes {
-        Ok(true) => Ok(Turn::Closed),
-        Ok(false) => Ok(Turn::Open),
-        Err(front) => Err(front),
     }
 }

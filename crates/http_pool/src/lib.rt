@@ -12,7 +12,7 @@
 //! falls. A [`Gate`] holds requests back for tests, and a [`Clock`] tells the moments by which
 //! leases end.
 //!
-//! Each thread is started in a small function of its own (`threads.rs`): what a thread asks of its
+//! Each thread is started in a small function of its own (`threads.rt`): what a thread asks of its
 //! closure, that it may cross, is proved where little else is known. The path that a request asks
 //! for, a reply and a refusal are those of `http_front`.
 //!
@@ -24,6 +24,7 @@ mod connection;
 mod door;
 pub mod gate;
 mod replying;
+mod shared;
 mod stream;
 mod threads;
 mod workers;

@@ -4,16 +4,16 @@ ghost use Rattle.engine_lock.specs.Locked.{IsStanding};
 ghost use Rattle.http_pool.specs.Ends.{IsOfServer};
 
 use crate::background::{keep_expiring, keep_trimming};
-use crate::door::Door;
 use crate::gate::{Clock, Gate};
+use crate::shared::Shared;
 use crate::workers::{Worked, keep_working};
 use engine_lock::{Client, Engine, EngineName, Feed};
 use http_reply::Front;
 use request_core::store::Core;
 use std::alloc::Global;
 use std::net::TcpListener;
-use std::sync::atomic::{AtomicBool, Ordering};
-use std::sync::{Mutex, Wait};
+use std::sync::Wait;
+use std::sync::atomic::Ordering;
 use std::thread::{JoinHandle, Scope, Threads};
 use std::{thread, time};
 
@@ -60,10 +60,9 @@ where
         Ok(clients) => clients,
         Err(front) => return Err(front),
     };
-    let door = Mutex::new(Door::new(connections));
-    let Served { clients, trouble } = run_threads(
-        rt, alloc, &engine, gate, clock, listener, &door, clients, expirer,
-    );
+    let shared = Shared::new(&engine, gate, clock, listener, connections);
+    let Served { clients, trouble } = run_threads(rt, alloc, &shared, clients, expirer);
+    drop(shared);
     closed(engine, clients, trouble)
 }
 
@@ -140,11 +139,7 @@ struct Served<L: EngineName, F: Feed> {
 fn run_threads<L, F, G, C, R>(
     rt: &R,
     alloc: Global,
-    engine: &Engine<L, F>,
-    gate: &G,
-    clock: &C,
-    listener: &TcpListener,
-    door: &Mutex<Door>,
+    shared: &Shared<'_, L, F, G, C>,
     clients: Vec<Client<L, F>>,
     expirer: Client<L, F>,
 ) -> Served<L, F>
@@ -155,12 +150,8 @@ where
     C: Clock + Sync,
     R: Wait + Threads + time::Clock + Sync,
 {
-    let ended = AtomicBool::new(false);
-    let ended = &ended;
     thread::scope(thread::scope_env(), rt, move |scope| {
-        serve_trimmed(
-            scope, rt, alloc, engine, gate, clock, listener, door, ended, clients, expirer,
-        )
+        serve_trimmed(scope, rt, alloc, shared, clients, expirer)
     })
 }
 
@@ -169,12 +160,7 @@ fn serve_trimmed<'s, E, L, F, G, C, R>(
     scope: &Scope<'s, E>,
     rt: &'s R,
     alloc: Global,
-    engine: &'s Engine<L, F>,
-    gate: &'s G,
-    clock: &'s C,
-    listener: &'s TcpListener,
-    door: &'s Mutex<Door>,
-    ended: &'s AtomicBool,
+    shared: &'s Shared<'s, L, F, G, C>,
     clients: Vec<Client<L, F>>,
     expirer: Client<L, F>,
 ) -> Served<L, F>
@@ -185,17 +171,12 @@ where
     C: Clock + Sync + 's,
     R: Wait + Threads + time::Clock + Sync + 's,
 {
-    let trimmer = start_trimming(scope, rt, engine, ended);
+    let trimmer = start_trimming(scope, rt, shared);
     let served = serve_expiring(
         scope,
         rt,
         alloc,
-        engine,
-        gate,
-        clock,
-        listener,
-        door,
-        ended,
+        shared,
         clients,
         expirer,
         trimmer.is_some(),
@@ -212,12 +193,7 @@ fn serve_expiring<'s, E, L, F, G, C, R>(
     scope: &Scope<'s, E>,
     rt: &'s R,
     alloc: Global,
-    engine: &'s Engine<L, F>,
-    gate: &'s G,
-    clock: &'s C,
-    listener: &'s TcpListener,
-    door: &'s Mutex<Door>,
-    ended: &'s AtomicBool,
+    shared: &'s Shared<'s, L, F, G, C>,
     clients: Vec<Client<L, F>>,
     expirer: Client<L, F>,
     trims: bool,
@@ -229,13 +205,11 @@ where
     C: Clock + Sync + 's,
     R: Wait + Threads + time::Clock + Sync + 's,
 {
-    let expirer = start_expiring(scope, rt, engine, clock, ended, expirer);
+    let expirer = start_expiring(scope, rt, shared, expirer);
     let all = trims && expirer.is_some();
-    let served = serve_all(
-        scope, rt, alloc, engine, gate, clock, listener, door, clients, all,
-    );
-    ended.store(true, Ordering::SeqCst);
-    let mut served = served;
+    let (working, trouble) = start_all(scope, rt, alloc, shared, clients, all);
+    let mut served = join_all(rt, alloc, working, trouble);
+    shared.ended.store(true, Ordering::SeqCst);
     if let Some(handle) = expirer {
         if served.clients.push(handle.join(rt)).is_err() {
             served.trouble = Some(Trouble::Memory);
@@ -244,44 +218,13 @@ where
     served
 }
 
-/// Serves with a worker for each client, and joins them. `all` tells whether the threads beside
-/// them were started: where not, no connection comes in.
-fn serve_all<'s, E, L, F, G, C, R>(
-    scope: &Scope<'s, E>,
-    rt: &'s R,
-    alloc: Global,
-    engine: &'s Engine<L, F>,
-    gate: &'s G,
-    clock: &'s C,
-    listener: &'s TcpListener,
-    door: &'s Mutex<Door>,
-    clients: Vec<Client<L, F>>,
-    all: bool,
-) -> Served<L, F>
-where
-    L: EngineName + 's,
-    F: Feed + 's,
-    G: Gate + Sync + 's,
-    C: Clock + Sync + 's,
-    R: Wait + Threads + time::Clock + Sync + 's,
-{
-    let (working, trouble) = start_all(
-        scope, rt, alloc, engine, gate, clock, listener, door, clients, all,
-    );
-    join_all(rt, alloc, working, trouble)
-}
-
-/// Starts a worker for each client. No connection comes in before all are started, and none where
-/// one is not.
+/// Starts a worker for each client, and tells why one has none. No connection comes in before all
+/// are started, and none where one is not, or where those beside them were not all started.
 fn start_all<'s, E, L, F, G, C, R>(
     scope: &Scope<'s, E>,
     rt: &'s R,
     alloc: Global,
-    engine: &'s Engine<L, F>,
-    gate: &'s G,
-    clock: &'s C,
-    listener: &'s TcpListener,
-    door: &'s Mutex<Door>,
+    shared: &'s Shared<'s, L, F, G, C>,
     clients: Vec<Client<L, F>>,
     all: bool,
 ) -> (Vec<JoinHandle<Worked<L, F>>>, Option<Trouble>)
@@ -292,10 +235,8 @@ where
     C: Clock + Sync + 's,
     R: Wait + Threads + time::Clock + Sync + 's,
 {
-    let mut guard = door.lock(rt);
-    let (working, trouble) = start_workers(
-        scope, rt, alloc, engine, gate, clock, listener, door, clients,
-    );
+    let mut guard = shared.door.lock(rt);
+    let (working, trouble) = start_workers(scope, rt, alloc, shared, clients);
     let trouble = if all { trouble } else { Some(Trouble::Spawn) };
     if trouble.is_some() {
         guard.shut();
@@ -305,17 +246,20 @@ where
 }
 
 /// Starts the thread that trims; `None` where no thread could be started.
-fn start_trimming<'s, E, L, F, R>(
+fn start_trimming<'s, E, L, F, G, C, R>(
     scope: &Scope<'s, E>,
     rt: &'s R,
-    engine: &'s Engine<L, F>,
-    ended: &'s AtomicBool,
+    shared: &'s Shared<'s, L, F, G, C>,
 ) -> Option<JoinHandle<()>>
 where
     L: EngineName + 's,
     F: Feed + 's,
+    G: Sync + 's,
+    C: Sync + 's,
     R: Wait + time::Clock + Sync + 's,
 {
+    let engine = shared.engine;
+    let ended = &shared.ended;
     match scope.spawn(move || keep_trimming(rt, engine, ended)) {
         Ok(handle) => Some(handle),
         Err(_) => None,
@@ -323,20 +267,22 @@ where
 }
 
 /// Starts the thread that ends leases; `None` where no thread could be started.
-fn start_expiring<'s, E, L, F, C, R>(
+fn start_expiring<'s, E, L, F, G, C, R>(
     scope: &Scope<'s, E>,
     rt: &'s R,
-    engine: &'s Engine<L, F>,
-    clock: &'s C,
-    ended: &'s AtomicBool,
+    shared: &'s Shared<'s, L, F, G, C>,
     client: Client<L, F>,
 ) -> Option<JoinHandle<Client<L, F>>>
 where
     L: EngineName + 's,
     F: Feed + 's,
+    G: Sync + 's,
     C: Clock + Sync + 's,
     R: Wait + time::Clock + Sync + 's,
 {
+    let engine = shared.engine;
+    let clock = shared.clock;
+    let ended = &shared.ended;
     match scope.spawn(move || keep_expiring(rt, engine, clock, ended, client)) {
         Ok(handle) => Some(handle),
         Err(_) => None,
@@ -348,11 +294,7 @@ fn start_workers<'s, E, L, F, G, C, R>(
     scope: &Scope<'s, E>,
     rt: &'s R,
     alloc: Global,
-    engine: &'s Engine<L, F>,
-    gate: &'s G,
-    clock: &'s C,
-    listener: &'s TcpListener,
-    door: &'s Mutex<Door>,
+    shared: &'s Shared<'s, L, F, G, C>,
     clients: Vec<Client<L, F>>,
 ) -> (Vec<JoinHandle<Worked<L, F>>>, Option<Trouble>)
 where
@@ -365,9 +307,7 @@ where
     let mut working = Vec::new(alloc);
     let mut trouble = None;
     for client in clients {
-        match start_working(
-            scope, rt, alloc, engine, gate, clock, listener, door, client,
-        ) {
+        match start_working(scope, rt, alloc, shared, client) {
             Some(handle) => {
                 if working.push(handle).is_err() {
                     trouble = Some(Trouble::Memory);
@@ -384,11 +324,7 @@ fn start_working<'s, E, L, F, G, C, R>(
     scope: &Scope<'s, E>,
     rt: &'s R,
     alloc: Global,
-    engine: &'s Engine<L, F>,
-    gate: &'s G,
-    clock: &'s C,
-    listener: &'s TcpListener,
-    door: &'s Mutex<Door>,
+    shared: &'s Shared<'s, L, F, G, C>,
     client: Client<L, F>,
 ) -> Option<JoinHandle<Worked<L, F>>>
 where
@@ -398,6 +334,11 @@ where
     C: Clock + Sync + 's,
     R: Wait + time::Clock + Sync + 's,
 {
+    let engine = shared.engine;
+    let gate = shared.gate;
+    let clock = shared.clock;
+    let listener = shared.listener;
+    let door = &shared.door;
     match scope.spawn(move || keep_working(
         rt, alloc, engine, gate, clock, listener, door, client,
     )) {

@@ -1,0 +1,40 @@
+//! What the threads of a server share.
+
+use crate::door::Door;
+use engine_lock::{Engine, EngineName, Feed};
+use std::net::TcpListener;
+use std::sync::Mutex;
+use std::sync::atomic::AtomicBool;
+
+/// What the threads of a server share.
+#[derive(Drop)]
+pub(crate) struct Shared<'s, L: EngineName, F: Feed, G, C> {
+    pub(crate) engine: &'s Engine<L, F>,
+    pub(crate) gate: &'s G,
+    pub(crate) clock: &'s C,
+    pub(crate) listener: &'s TcpListener,
+    /// Under which a worker accepts a connection.
+    pub(crate) door: Mutex<Door>,
+    /// Whether the workers have ended, so that the threads beside them end, too.
+    pub(crate) ended: AtomicBool,
+}
+
+impl<'s, L: EngineName, F: Feed, G, C> Shared<'s, L, F, G, C> {
+    /// Nothing has begun. At most `connections` come in.
+    pub(crate) fn new(
+        engine: &'s Engine<L, F>,
+        gate: &'s G,
+        clock: &'s C,
+        listener: &'s TcpListener,
+        connections: u64,
+    ) -> Self {
+        Shared {
+            engine,
+            gate,
+            clock,
+            listener,
+            door: Mutex::new(Door::new(connections)),
+            ended: AtomicBool::new(false),
+        }
+    }
+}
