@@ -8,7 +8,7 @@ use Rattle.kv_model.specs.Answers.{message_text}
 use Rattle.kv_model.specs.Watches.{matches}
 use Rattle.kv_model.specs.Watches.{Delivery, advanced, after_delivery, deliver, delivery, delivery_of, last_revision, message_of, undelivered}
 use Rattle.kv_model.specs.Wire.{client_id, message_to}
-use Rattle.kv_model.specs.Sound.{IsSound}
+use Rattle.store_laws.specs.Sound.{IsSound}
 use Rattle.kv_model.specs.World.{Watch, World, revision, versions, watch_at, without_watch}
 use Rattle.store_laws.proofs.BatchLaws.{dressed-mains}
 use Rattle.watch_hub.proofs.Tallies.{last-from}

@@ -13,7 +13,7 @@ use Rattle.kv_model.specs.declared.version.KeyRange.{KeyRange}
 use Rattle.kv_model.specs.declared.call.Watched.{Watched}
 use Rattle.kv_model.specs.Lists.{IsPart, nothing, keep, leave}
 use Rattle.kv_model.specs.History.{Mutation, now, now_after, dress, value_at, value_now, end_of, rev_le}
-use Rattle.kv_model.specs.Sound.{IsBefore, IsHistory, IsBatch}
+use Rattle.store_laws.specs.Sound.{IsBefore, IsHistory, IsBatch}
 use Rattle.kv_model.specs.History.{KeyValue}
 use Rattle.kv_model.specs.Ranges.{live}
 use Rattle.kv_model.specs.Watches.{WatchEvent, matches, event_of, events_of, before_is_kept}

@@ -12,7 +12,7 @@ use Rattle.kv_model.specs.declared.call.Watched.{Watched}
 use Rattle.kv_model.specs.Lists.{IsPart, IsIn, last_that}
 use Rattle.kv_model.specs.Keys.{same_key}
 use Rattle.kv_model.specs.History.{Mutation, KeyValue, now, dress, latest, value_at, key_value, shown, rev_le, end_of}
-use Rattle.kv_model.specs.Sound.{IsHistory}
+use Rattle.store_laws.specs.Sound.{IsHistory}
 use Rattle.kv_model.specs.Watches.{event_of_by, before_is_kept, matches, wants, plain_watch}
 use Rattle.kv_model.specs.Questions.{Question, IsKept, Answered, answered_by, IsGood, IsLeast}
 use Rattle.kv_model.specs.History.{is_superseded, is_tombstone}

@@ -12,7 +12,7 @@ use Rattle.kv_model.specs.declared.version.Version.{Version}
 use Rattle.kv_model.specs.Lists.{IsPart, nothing, keep, leave, last_that}
 use Rattle.kv_model.specs.Keys.{same_key}
 use Rattle.kv_model.specs.History.{Mutation, now, now_after, dress, dress_after, latest, value_at, value_now}
-use Rattle.kv_model.specs.Sound.{IsChange, IsBefore, IsHistory}
+use Rattle.store_laws.specs.Sound.{IsChange, IsBefore, IsHistory}
 use Rattle.kv_model.specs.History.{key_value, rev_le, end_of}
 use Rattle.store_laws.proofs.HistoryLaws.{last_that-append}
 use Rattle.store_laws.proofs.RevOrder.{rev_lt-main}

@@ -9,7 +9,7 @@ use Rattle.kv_model.specs.declared.version.Version.{Version}
 use Rattle.kv_model.specs.Lists.{IsIn}
 use Rattle.kv_model.specs.History.{now, rev_lt, without_rev}
 use Rattle.kv_model.specs.World.{World}
-use Rattle.kv_model.specs.Sound.{IsSound}
+use Rattle.store_laws.specs.Sound.{IsSound}
 use Rattle.kv_model.specs.Told.{Trimmed}
 use Rattle.kv_model.specs.Questions.{IsGood}
 use Rattle.kv_model.specs.Trimming.{TrimStep, trimmed, trimmed_next, visited, finished, place_after, is_trimmed, IsSettled}

@@ -10,7 +10,7 @@ use Rattle.kv_model.specs.declared.refusal.Refusal.{Refusal}
 use Rattle.kv_model.specs.declared.refusal.Refusal.TheVariants.{NoKey, RevisionsSpent}
 use Rattle.kv_model.specs.Lists.{is_empty}
 use Rattle.kv_model.specs.History.{Mutation, end_of, KeyValue}
-use Rattle.kv_model.specs.Sound.{IsBatch}
+use Rattle.store_laws.specs.Sound.{IsBatch}
 use Rattle.kv_model.specs.Ranges.{live, keys_of, range_reply, refuse_if, unless_refused}
 use Rattle.kv_model.specs.Txns.{put_fault, deletes_of, delete_changes, previous_value, if_asked}
 use Rattle.kv_model.specs.Calls.{Call}

@@ -6,7 +6,7 @@ use Rattle.std.specs.Option.{option_or}
 use Rattle.std.specs.Ordering.{int_eq}
 use Rattle.kv_model.specs.declared.refusal.Refusal.TheVariants.{TtlTooLarge, LeaseExists, TooManyLeases, LeaseMissing}
 use Rattle.kv_model.specs.Keys.{all_keys}
-use Rattle.kv_model.specs.Sound.{IsBatch}
+use Rattle.store_laws.specs.Sound.{IsBatch}
 use Rattle.kv_model.specs.History.{end_of, KeyValue}
 use Rattle.kv_model.specs.Ranges.{live, refuse_if}
 use Rattle.kv_model.specs.Txns.{deletes_of, if_asked}

@@ -13,7 +13,7 @@ use Rattle.kv_model.specs.Ranges.{refuse_if}
 use Rattle.kv_model.specs.Calls.{Call}
 use Rattle.kv_model.specs.Told.{Reply}
 use Rattle.kv_model.specs.History.{Mutation, now, dress}
-use Rattle.kv_model.specs.Sound.{IsChange, IsHistory}
+use Rattle.store_laws.specs.Sound.{IsChange, IsHistory}
 use Rattle.kv_model.specs.Watches.{WatchEvent, matches}
 use Rattle.kv_model.specs.Questions.{IsGood}
 use Rattle.kv_model.specs.World.{World, Watch, revision, versions}

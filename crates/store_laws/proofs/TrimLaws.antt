@@ -17,7 +17,7 @@ use Rattle.kv_model.specs.declared.version.Body.TheVariants.{Put, Gone}
 use Rattle.kv_model.specs.Lists.{IsPart, nothing, keep, leave}
 use Rattle.kv_model.specs.Keys.{same_key}
 use Rattle.kv_model.specs.History.{Mutation, now, dress, dress_after, latest, value_at, rev_le, rev_lt, end_of}
-use Rattle.kv_model.specs.Sound.{IsChange, IsHistory}
+use Rattle.store_laws.specs.Sound.{IsChange, IsHistory}
 use Rattle.kv_model.specs.History.{is_superseded, is_tombstone}
 use Rattle.kv_model.specs.Trimming.{is_trimmed}
 use Rattle.store_laws.proofs.HistoryLaws.{same_key-eq, AllByRecursion-split}
