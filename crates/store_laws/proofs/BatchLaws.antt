@@ -66,18 +66,6 @@ part-append zs (leave p) = leave (part-append zs p)
 
 -- ---- histories that grow
 
-pub history-front : (ms us : List Mutation) → IsHistory (ms ++ us) → IsHistory ms
-history-front [] us h = tt
-history-front (m ∷ ms) us h = (h.0, front ms us h.1, history-front ms us h.2)
-  where
-    front : (ms us : List Mutation) → AllByRecursion (IsBefore m) (ms ++ us) → AllByRecursion (IsBefore m) ms
-    front [] us h = tt
-    front (n ∷ ms) us h = (h.0, front ms us h.1)
-
-pub history-back : (ms us : List Mutation) → IsHistory (ms ++ us) → IsHistory us
-history-back [] us h = h
-history-back (m ∷ ms) us h = history-back ms us h.2
-
 -- the changes of a later revision go on a history
 pub history-grows : (ms us : List Mutation) (r : ℕ) → IsHistory ms → AllByRecursion (λ m. m.rev.main ≤ r) ms → IsBatch (r + 1) us
     → IsHistory (ms ++ us)

@@ -5,7 +5,7 @@ use Rattle.std.specs.Prelude.{⊤}
 use Rattle.std.specs.List.{AllByRecursion, list_any}
 use Rattle.std.proofs.lemmas.Bool.Decides.{nat_tests}
 use Rattle.std.proofs.lemmas.List.Folds.{list_any-append}
-use Rattle.std.proofs.lemmas.List.{append-nil}
+use Rattle.std.proofs.Math.Bool.{or-false, or-true}
 use Rattle.kv_model.specs.declared.call.RangeQuery.{RangeQuery}
 use Rattle.kv_model.specs.declared.call.PutRequest.{PutRequest}
 use Rattle.kv_model.specs.declared.call.DeleteRequest.{DeleteRequest}
@@ -30,14 +30,6 @@ use Rattle.txn_core.proofs.Walking.{txn_view-out, op_view-Range, op_view-Put, op
 use Rattle.txn_core.proofs.Elements.{At, from-here}
 
 -- ---- laws of or
-
-or-true : (a : Bool) → true ≡ (a || true)
-or-true true = refl
-or-true false = refl
-
-or-false : (a : Bool) → (a || false) ≡ a
-or-false true = refl
-or-false false = refl
 
 exchange : (a b c d : Bool) → ((a || b) || (c || d)) ≡ ((a || c) || (b || d))
 exchange true b c d = refl
@@ -272,10 +264,6 @@ clashes-txn t =
     let f = ops_view (out-Txn t).failure.items in
     ap clashes (txn_view-out t) ∙ first-of (any_collide (touches s ++ touches f) []) (clashes s) (clashes f)
     (any_collide-none (touches s ++ touches f))
-
-pub touches-txn : (t : Txn) → touches (txn_view t)
-    ≡ touches (ops_view (out-Txn t).success.items) ++ touches (ops_view (out-Txn t).failure.items)
-touches-txn t = ap touches (txn_view-out t) ∙ append-nil _
 
 pub clashes-range : (q : RangeQuery) → clashes (op_view (Range q)) ≡ false
 unfolding clashes
