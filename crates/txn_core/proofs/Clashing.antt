@@ -57,11 +57,11 @@ later-txn false true g h c d e = refl
 later-txn false false g h c d e = past (g || h) c d e
 
 order : (p q w u v : Bool) → ((p || q) || (w || (u || v))) ≡ (((q || v) || w) || (p || u))
-order true q w u v = or-true ((q || v) || w)
+order true q w u v = sym (or-true ((q || v) || w))
 order false true w u v = refl
 order false false true u true = refl
 order false false true u false = refl
-order false false false true v = or-true (v || false)
+order false false false true v = sym (or-true (v || false))
 order false false false false true = refl
 order false false false false false = refl
 
@@ -112,7 +112,7 @@ meets-put true s y a h = refl
 meets-put false s y a h = ap (λ b. s || (b || a)) (sym h)
 
 meets-each : (x s a : Bool) → (x || (s || a)) ≡ (s || ((x || false) || a))
-meets-each true s a = or-true s
+meets-each true s a = sym (or-true s)
 meets-each false s a = refl
 
 or-same : (b c : Bool) → c ≡ b → (b || (c || false)) ≡ b
