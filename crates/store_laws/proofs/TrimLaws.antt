@@ -272,6 +272,7 @@ out-values c r xs v ys k l h = by (why-goes (xs ++ v ∷ ys) c v h.goes)
     has : (u : Version) → replaces c u v ≡ true → list_any (replaces c u) (xs ++ v ∷ ys) ≡ true
     has u e = list_any-append (replaces c u) xs (v ∷ ys) ∙ ap (λ b. list_any (replaces c u) xs || (b || list_any (replaces c u) ys)) e
         ∙ or-true (list_any (replaces c u) xs)
+
     earlier : AllByRecursion (λ u. same_key u.key v.key ≡ false) xs
     earlier = no-earlier (xs ++ v ∷ ys) c v xs h.by has h.left h.before
 
