@@ -1,4 +1,3 @@
-pub mod Sound
 pub mod Plans
 pub mod FeedLaws
 pub mod Stands
