@@ -1,11 +1,12 @@
 -- Bytes in base64: which text bytes are read from.
-use Rattle.std.proofs.Common.{◌≡◌, ℕ, ◌+◌, ◌*◌, ◌/◌, ◌%◌, ◌<◌, zero, suc, List, [], ◌∷◌, ◌++◌, length, get_or, Bool, true, false, cond, nat_lt, Option, None, Some, option_and_then, Result, Ok, Err, refl, sym, ap, subst, ◌∙◌, arith}
+use Rattle.std.proofs.Common.{◌≡◌, ℕ, ◌+◌, ◌*◌, ◌/◌, ◌%◌, ◌<◌, zero, suc, List, [], ◌∷◌, ◌++◌, length, get_or, true, cond, nat_lt, None, Some, option_and_then, Result, Ok, Err, refl, sym, ap, subst, ◌∙◌, arith}
 use Rattle.std.specs.Prelude.{replicate}
 use Rattle.std.specs.List.{list_all, AllByRecursion}
 use Rattle.std.specs.Result.{result_ok}
 use Rattle.std.proofs.lemmas.Bool.Decides.{nat_tests}
 use Rattle.std.proofs.lemmas.List.Sums.{AllPass-from_list_all}
 use Rattle.std.proofs.lemmas.Option.{cond_some}
+use Rattle.std.proofs.lemmas.Bool.{and_parts, and_from}
 use Rattle.base64.specs.Engines.{standard}
 use Rattle.base64.specs.GeneralPurpose.{decode_of, decoded_of, encode_of, IsBytes, IsStrict}
 use Rattle.base64.specs.Rfc4648.{encode_symbols, padding_len}
@@ -13,13 +14,13 @@ use Rattle.base64.specs.declared.decode.DecodeError.{DecodeError}
 use Rattle.base64.proofs.EngineFacts.{IsAscii-encode_of, decode_of_strict, decode_of-encode_of}
 use Rattle.certificate_text.specs.Texts.{base64_text, bytes_field}
 use Rattle.certificate_text.specs.Reading.{is_byte, if_bytes, decoded, bytes_of}
-use Rattle.certificate_text.proofs.Digits.{then_some, and_parts, both_true}
+use Rattle.certificate_text.proofs.Digits.{then_some}
 
 -- ---- bytes
 
 pub all_bytes : (bs : List ℕ) → IsBytes bs → list_all is_byte bs ≡ true
 all_bytes [] h = refl
-all_bytes (b ∷ bs) h = both_true _ _ (let small = h 0 in grind (arith, nat_tests, small)) (all_bytes bs (λ i. h (suc i)))
+all_bytes (b ∷ bs) h = and_from _ _ (let small = h 0 in grind (arith, nat_tests, small)) (all_bytes bs (λ i. h (suc i)))
 
 pub are_bytes : (bs : List ℕ) → list_all is_byte bs ≡ true → IsBytes bs
 are_bytes [] h i = omega arith

@@ -1,20 +1,16 @@
 -- Texts cut at a byte: the parts of lines and fields, and what they are parts of.
-use Rattle.std.proofs.Common.{◌≡◌, ℕ, suc, ◌+◌, ◌-◌, ◌<◌, ◌≤◌, List, [], ◌∷◌, ◌++◌, length, take, drop, get_or, Bool, true, false, cond, eqb, nat_eq, None, refl, sym, ap, subst, ◌∙◌, arith, inl, inr, append_assoc, true≢false}
+use Rattle.std.proofs.Common.{◌≡◌, ℕ, suc, ◌+◌, ◌-◌, ◌<◌, ◌≤◌, List, [], ◌∷◌, ◌++◌, length, take, drop, get_or, false, cond, nat_eq, None, refl, sym, ap, subst, ◌∙◌, arith}
 use Rattle.std.specs.Prelude.{◌⊎◌}
-use Rattle.std.specs.List.{All, AllByRecursion, slice_split, onto_first, join_with_byte, position_or_len, before_first, after_first}
+use Rattle.std.specs.List.{AllByRecursion, slice_split, join_with_byte, position_or_len}
 use Rattle.std.proofs.lemmas.Bool.Decides.{nat_tests}
-use Rattle.std.proofs.lemmas.List.{append-nil, take_all, length-drop}
+use Rattle.std.proofs.lemmas.List.{take_all, length-drop}
 use Rattle.std.proofs.lemmas.List.Elements.{All-from_recursion}
-use Rattle.std.proofs.lemmas.List.Splits.{slice_split_first, slice_split_none, slice_split_at, length-slice_split, join_with_byte-slice_split}
+use Rattle.std.proofs.lemmas.List.Splits.{slice_split_first, slice_split_none, length-slice_split, join_with_byte-slice_split}
 use Rattle.std.proofs.lemmas.List.Sums.{position_or_len_is}
 use Rattle.certificate_text.specs.Lines.{is, lines_of, lines_of_parts}
 use Rattle.certificate_text.specs.Reading.{end_at}
 
 -- ---- the first byte of a kind
-
-pub refuted : (b : Bool) → (b ≡ true → ⊥) → b ≡ false
-refuted true h = absurd (h refl)
-refuted false h = refl
 
 pub cut_found : (at : ℕ) (text : List ℕ) (i : ℕ) → i < length text → ((k : ℕ) → k < i → is at (get_or text k 0) ≡ false) → get_or text i 0 ≡ at
     → slice_split (is at) text ≡ take i text ∷ slice_split (is at) (take (length text - (i + 1)) (drop (i + 1) text))

@@ -1,5 +1,5 @@
 -- Numbers in decimal digits: which text a number is read from.
-use Rattle.std.proofs.Common.{◌≡◌, ℕ, ◌+◌, ◌-◌, ◌^◌, ◌<◌, ◌≤◌, ◌≢◌, zero, suc, ℤ, pos, negsuc, List, [], ◌∷◌, length, get_or, Bool, true, false, cond, not, ◌&&◌, ◌||◌, eqb, nat_eq, nat_le, nat_lt, Option, None, Some, option_map, option_and_then, Result, Ok, refl, sym, ap, subst, ◌∙◌, arith, rules, true≢false}
+use Rattle.std.proofs.Common.{◌≡◌, ℕ, ◌+◌, ◌-◌, ◌^◌, ◌<◌, ◌≤◌, ◌≢◌, zero, suc, ℤ, pos, negsuc, List, [], ◌∷◌, length, get_or, Bool, true, false, cond, not, ◌&&◌, ◌||◌, eqb, nat_eq, nat_le, nat_lt, Option, None, Some, option_map, option_and_then, Result, Ok, refl, sym, ap, subst, ◌∙◌, arith}
 use Rattle.std.specs.Fmt.{decimal, signed_decimal}
 use Rattle.std.specs.Int.{w64}
 use Rattle.std.specs.Prelude.{FitsSigned}
@@ -9,21 +9,14 @@ use Rattle.std.specs.Str.Parse.{ParsesUnsigned, digits_value}
 use Rattle.std.proofs.lemmas.Bool.Decides.{nat_tests}
 use Rattle.std.proofs.lemmas.Fmt.{IsAscii-from_digits, decimal-digits_value, digits_decimal, digits_value-decimal, decimal_nonempty, first_decimal, decimal_digit}
 use Rattle.std.proofs.lemmas.Int.{ints}
-use Rattle.std.proofs.lemmas.Option.{cond_some, option_and_then_some}
+use Rattle.std.proofs.lemmas.Option.{cond_some}
 use Rattle.std.proofs.lemmas.Str.{IsUtf8-from_ascii}
 use Rattle.std.proofs.lemmas.Str.Parse.{IsNumeralModel, numerals_by_value, tells_all_ascii_digits, not_in_digits, parse_plain, parse_gives}
+use Rattle.std.proofs.lemmas.Bool.{and_parts, and_from, false_from_ne_true}
 use Rattle.certificate_text.specs.Reading.{number_of, number_up_to, has_zeros_before, below_zero, lease_of}
 
 pub own : IsNumeralModel (λ ds. all_ascii_digits ds ≡ true) (digits_value 10)
 own = numerals_by_value _ tells_all_ascii_digits
-
-pub and_parts : (a b : Bool) → (a && b) ≡ true → (a ≡ true) × (b ≡ true)
-and_parts true b h = (refl, h)
-and_parts false b h = absurd (true≢false (sym h))
-
-pub both_true : (a b : Bool) → a ≡ true → b ≡ true → (a && b) ≡ true
-both_true true b p q = q
-both_true false b p q = p
 
 -- what was read where it passes a test, and where it does not
 some_unless : {A : Type 0} (b : Bool) (o : Option A) (x : A) → cond b None o ≡ Some x → (b ≡ false) × (o ≡ Some x)
@@ -67,14 +60,10 @@ number_again most n small bound =
     let filled : not (nat_eq (length (decimal n)) 0) ≡ true = grind (arith, nat_tests, some) in
     let within : nat_le (digits_value 10 (decimal n)) most ≡ true = grind (arith, nat_tests, value, bound) in
     ap (λ b. cond b None (number_up_to most (decimal n))) (no_zeros n h)
-    ∙ ap (λ b. cond b (Some (digits_value 10 (decimal n))) None) (both_true _ _ (both_true _ _ filled (digits_of n h)) within)
+    ∙ ap (λ b. cond b (Some (digits_value 10 (decimal n))) None) (and_from _ _ (and_from _ _ filled (digits_of n h)) within)
     ∙ ap Some value
 
 -- ---- what `parse` answers
-
-refuted : (b : Bool) → (b ≡ true → ⊥) → b ≡ false
-refuted true h = absurd (h refl)
-refuted false h = refl
 
 -- a number is there where its digits are and it fits
 pub parsed : {E : Type 0} (most n : ℕ) (bs : List ℕ) (r : Result ℕ E) → ParsesUnsigned 64 10 bs r → get_or bs 0 0 ≢ 43 → r ≡ Ok n → n ≤ most
@@ -86,13 +75,13 @@ parsed {E} most n bs r h plus is bound =
     let value = found.1 in
     let filled : not (nat_eq (length bs) 0) ≡ true = grind (arith, nat_tests, some) in
     let within : nat_le (digits_value 10 bs) most ≡ true = grind (arith, nat_tests, value, bound) in
-    ap (λ b. cond b (Some (digits_value 10 bs)) None) (both_true _ _ (both_true _ _ filled found.0.0) within) ∙ ap Some (sym value)
+    ap (λ b. cond b (Some (digits_value 10 bs)) None) (and_from _ _ (and_from _ _ filled found.0.0) within) ∙ ap Some (sym value)
 
 -- and where it is above the limit, or none is there, none is read
 pub parsed_none : {E : Type 0} (most : ℕ) (bs : List ℕ) (r : Result ℕ E) → most < 2 ^ 64 → ParsesUnsigned 64 10 bs r → get_or bs 0 0 ≢ 43
     → ((n : ℕ) → r ≡ Ok n → n ≤ most → ⊥) → number_up_to most bs ≡ None
 parsed_none most bs r small h plus none =
-    ap (λ b. cond b (Some (digits_value 10 bs)) None) (refuted _ (λ t.
+    ap (λ b. cond b (Some (digits_value 10 bs)) None) (false_from_ne_true _ (λ t.
     let filled : Bool = not (nat_eq (length bs) 0) in
     let within : Bool = nat_le (digits_value 10 bs) most in
     let tests = and_parts (filled && all_ascii_digits bs) within t in
@@ -104,7 +93,7 @@ parsed_none most bs r small h plus none =
 -- bytes that are not UTF-8 are not digits
 pub not_digits : (most : ℕ) (bs : List ℕ) → (IsUtf8 bs → ⊥) → number_up_to most bs ≡ None
 not_digits most bs bad =
-    ap (λ b. cond b (Some (digits_value 10 bs)) None) (refuted _ (λ t.
+    ap (λ b. cond b (Some (digits_value 10 bs)) None) (false_from_ne_true _ (λ t.
     let filled : Bool = not (nat_eq (length bs) 0) in
     let tests = and_parts (filled && all_ascii_digits bs) (nat_le (digits_value 10 bs) most) t in
     bad (IsUtf8-from_ascii bs (IsAscii-from_digits bs (own.to bs (and_parts filled (all_ascii_digits bs) tests.0).1)))))

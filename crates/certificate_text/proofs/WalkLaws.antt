@@ -1,19 +1,11 @@
 -- The lines of a text: what each step reads, that it reads it again, and where it stops.
-use Rattle.std.proofs.Common.{◌≡◌, ℕ, ◌<◌, List, [], ◌∷◌, ◌++◌, length, map, Bool, true, false, cond, Option, None, Some, Result, Ok, Err, codes, refl, sym, ap, subst, ◌∙◌, append_assoc, arith}
+use Rattle.std.proofs.Common.{◌≡◌, ℕ, ◌<◌, List, [], ◌∷◌, ◌++◌, map, Bool, true, false, Option, None, Some, Result, Ok, Err, codes, refl, sym, ap, subst, ◌∙◌}
 use Rattle.std.specs.Prelude.{⊤, if◌then◌else◌}
 use Rattle.std.specs.List.{AllByRecursion}
 use Rattle.std.specs.Cmp.Lexicographic.{same_text as told_same}
-use Rattle.std.proofs.lemmas.List.{append-nil}
-use Rattle.kv_model.specs.declared.version.Version.{Version}
-use Rattle.kv_model.specs.declared.version.Body.{Body}
-use Rattle.kv_model.specs.declared.version.Body.TheVariants.{Put, Gone}
-use Rattle.kv_model.specs.declared.version.Rev.{Rev}
-use Rattle.kv_model.specs.Certificates.{Dump, Claim, Need}
-use Rattle.certificate_text.specs.Texts.{body_fields, need_fields, line_of, version_line, claim_line, number_line, ended, dump_lines, needs_lines, text_lines, IsRevision, IsVersion, IsClaim, AreInLimits}
-use Rattle.certificate_text.specs.Reading.{same_text, version_of, claim_of, numbered}
-use Rattle.certificate_text.specs.Walking.{Read, ◌>>=◌, given, line_by, exactly, with_front, up_to_end, if_none_left, dump_of, needs_of, text_read}
-use Rattle.certificate_text.specs.Lines.{Begins, IsWhole, Stops}
-use Rattle.certificate_text.proofs.LineLaws.{version_read, version_again, claim_line_read, claim_line_again, number_line_read, number_line_again}
+use Rattle.certificate_text.specs.Texts.{ended}
+use Rattle.certificate_text.specs.Reading.{same_text}
+use Rattle.certificate_text.specs.Walking.{Read, ◌>>=◌, given, line_by, with_front, up_to_end}
 
 abbrev pub Lines : Type 0
 Lines = List (List ℕ)
@@ -129,10 +121,6 @@ front_ok a (Err ls) items rest e = cc e
 front_err : {A : Type 0} (a : A) (r : Read (List A)) (rest : Lines) → with_front (a ∷ []) r ≡ Err rest → r ≡ Err rest
 front_err a (Ok x) rest e = cc e
 front_err a (Err ls) rest e = e
-
-no_cond : {X : Type 0} (b : Bool) (x y z : X) → b ≡ false → cond b x y ≡ z → y ≡ z
-no_cond true x y z h e = cc h
-no_cond false x y z h e = e
 
 all_by : {A : Type 0} (read : List ℕ → Option A) (form : A → List ℕ) (Limits : A → Type 0) (is : IsLine read form Limits) (line : List ℕ) (ls rest : Lines) (items : List A) (b : Bool)
     → ((bs : List A) → up_to_end read ls ≡ Ok (bs, rest) → (ls ≡ all_form form bs ++ rest) × AllByRecursion Limits bs)

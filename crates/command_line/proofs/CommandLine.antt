@@ -212,13 +212,6 @@ are_command text (x ∷ []) other command two same = absurd (omega (arith, two))
 are_command text (x ∷ y ∷ []) other command two same = (text x, ap (λ t. text x ∷ t ∷ []) same)
 are_command text (x ∷ y ∷ z ∷ more) other command two same = absurd (omega (arith, two))
 
--- and of the words of a command the second is its word
-pub second_word : {A : Type 0} (text : A → Text) (words : List A) (other : A) (command : Filter) → IsCommand (map text words) command
-    → text (get_or words 1 other) ≡ word_of command
-second_word text [] other command is = absurd (let bad : 0 ≡ 2 = ap length is.1 in omega (arith, bad))
-second_word text (x ∷ []) other command is = absurd (let bad : 1 ≡ 2 = ap length is.1 in omega (arith, bad))
-second_word text (x ∷ y ∷ ys) other command is = ap (λ ws. get_or ws 1 (text y)) is.1
-
 -- ---- what clap answers
 
 -- two words that clap takes are a command's, and it names that

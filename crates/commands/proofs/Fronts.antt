@@ -1,13 +1,9 @@
 -- What several writes, one after the other, did to known bytes.
-use Rattle.std.proofs.Common.{◌≡◌, ℕ, ◌+◌, ◌<◌, List, [], ◌++◌, length, map, get_or, Result, Ok, Err, IsErr, Option, None, Some, take, drop, sym, ap, ◌∙◌, append_assoc, append-nil, take-append-drop}
+use Rattle.std.proofs.Common.{◌≡◌, ℕ, ◌+◌, ◌<◌, List, [], ◌++◌, length, map, get_or, Result, Ok, Err, IsErr, Option, None, Some, take, drop, sym, ap, ◌∙◌, append_assoc, take-append-drop}
 use Rattle.std.specs.Io.KnownBytes.{Appends, Keeps}
 use Rattle.std.proofs.lemmas.List.{at_drop_more}
 use Rattle.std.specs.List.{concat}
 use Rattle.commands.specs.Writes.{AppendsFront, Writes}
-
-pub nothing_written : (a : Option (List ℕ)) → Appends a a []
-nothing_written None = tt
-nothing_written (Some x) = sym (append-nil x)
 
 pub both_written : (a b c : Option (List ℕ)) (xs ys : List ℕ) → Appends a b xs → Appends b c ys → Appends a c (xs ++ ys)
 both_written None b c xs ys p q = tt
@@ -24,10 +20,6 @@ written_and_kept (Some x) (Some y) (Some z) xs p q = q ∙ p
 -- a front that a write of n bytes more made longer
 pub longer : (text front rest : List ℕ) (n : ℕ) → text ≡ front ++ rest → text ≡ (front ++ take n rest) ++ drop n rest
 longer text front rest n e = e ∙ ap (λ t. front ++ t) (sym (take-append-drop n rest)) ∙ sym (append_assoc front (take n rest) (drop n rest))
-
--- what was written whole is a front of what was to be written
-pub whole_front : (a b : Option (List ℕ)) (xs : List ℕ) → Appends a b xs → AppendsFront a b xs
-whole_front a b xs p = (xs, [], sym (append-nil xs), p)
 
 -- a front of the next text, behind what was written of the whole
 pub later_front : (a b c : Option (List ℕ)) (text xs ys zs : List ℕ) → text ≡ xs ++ (ys ++ zs) → Appends a b xs → AppendsFront b c ys → AppendsFront a c text

@@ -1,13 +1,12 @@
 -- A script line by line, and a line word by word.
-use Rattle.std.proofs.Common.{◌≡◌, ℕ, ◌<◌, ◌≤◌, List, [], ◌∷◌, length, None, Some, Bool, true, false, nat_eq, cond, refl, sym, ap, ◌∙◌, arith, get_or}
+use Rattle.std.proofs.Common.{◌≡◌, ℕ, ◌<◌, ◌≤◌, List, [], ◌∷◌, length, false, nat_eq, cond, refl, sym, ap, ◌∙◌, arith, get_or}
 use Rattle.std.specs.List.{slice_split, position_or_len, before_first, after_first}
 use Rattle.std.specs.Str.Lines.{lines, lines_of_parts, strip_carriage_return}
-use Rattle.std.proofs.lemmas.Bool.{lt-ltb, le-ltb}
 use Rattle.std.proofs.lemmas.List.{take_all}
 use Rattle.std.proofs.lemmas.Bool.Decides.{nat_tests}
 use Rattle.std.proofs.lemmas.List.Splits.{slice_split_first, slice_split_none, length-slice_split}
 use Rattle.std.proofs.lemmas.List.Sums.{fails_before_first, position_or_len_is}
-use Rattle.commands.specs.Script.{is, rest_after, event_alone, event_by, event_of}
+use Rattle.commands.specs.Script.{is}
 
 pub lines_of_more : (x : List ℕ) (parts : List (List ℕ)) → 0 < length parts → lines_of_parts (x ∷ parts) ≡ strip_carriage_return x ∷ lines_of_parts parts
 lines_of_more x [] h = absurd (omega (arith, h))
@@ -29,24 +28,6 @@ lines_last text some none =
     let filled : nat_eq (length text) 0 ≡ false = grind (arith, nat_tests, some) in
     ap lines_of_parts whole ∙ ap (λ b. cond b [] (text ∷ [])) filled
 
-pub rest_some : (at : ℕ) (text : List ℕ) → position_or_len (is at) text < length text → rest_after at text ≡ Some (after_first (is at) text)
-rest_some at text h = ap (λ b. cond b (Some (after_first (is at) text)) None) (lt-ltb _ _ h)
-
-pub rest_none : (at : ℕ) (text : List ℕ) → length text ≤ position_or_len (is at) text → rest_after at text ≡ None
-rest_none at text h = ap (λ b. cond b (Some (after_first (is at) text)) None) (le-ltb _ _ h)
-
-pub event_of_long : (line : List ℕ) → 1700000 < length line → event_of line ≡ None
-event_of_long line h = ap (λ b. cond b None (event_by (before_first (is 32) line) (rest_after 32 line))) (lt-ltb _ _ h)
-
-pub event_of_word : (line : List ℕ) → length line ≤ 1700000 → position_or_len (is 32) line < length line
-    → event_of line ≡ event_by (before_first (is 32) line) (Some (after_first (is 32) line))
-event_of_word line h s = ap (λ b. cond b None (event_by (before_first (is 32) line) (rest_after 32 line))) (le-ltb _ _ h)
-    ∙ ap (event_by (before_first (is 32) line)) (rest_some 32 line s)
-
-pub event_of_bare : (line : List ℕ) → length line ≤ 1700000 → length line ≤ position_or_len (is 32) line → event_of line ≡ event_alone (before_first (is 32) line)
-event_of_bare line h s = ap (λ b. cond b None (event_by (before_first (is 32) line) (rest_after 32 line))) (le-ltb _ _ h)
-    ∙ ap (event_by (before_first (is 32) line)) (rest_none 32 line s)
-
 pub found_at : (at : ℕ) (text : List ℕ) (i : ℕ) → i < length text → ((k : ℕ) → k < i → is at (get_or text k 0) ≡ false) → get_or text i 0 ≡ at
     → i ≡ position_or_len (is at) text
 found_at at text i h before here =
@@ -58,8 +39,3 @@ found_none at text before = sym (position_or_len_is (is at) text (length text) 0
 -- such a line has no line feed before it
 pub whole_line : (text : List ℕ) → length text ≤ position_or_len (is 10) text → before_first (is 10) text ≡ text
 whole_line text none = take_all _ text none
-
--- a test that is not passed answers so
-pub refuted : (b : Bool) → (b ≡ true → ⊥) → b ≡ false
-refuted true h = absurd (h refl)
-refuted false h = refl

@@ -1,20 +1,7 @@
 -- What a reader gave until its end.
-use Rattle.std.proofs.Common.{◌≡◌, ℕ, List, [], ◌++◌, Option, None, Some, IfSome, refl, sym, ap, ◌∙◌, append_assoc}
+use Rattle.std.proofs.Common.{◌≡◌, ℕ, List, [], ◌++◌, Option, None, Some, IfSome, sym, ap, ◌∙◌}
 use Rattle.std.proofs.lemmas.List.{append-nil}
 use Rattle.std.specs.Io.KnownBytes.{Consumes, Keeps, IsAtEnd}
-
--- before the first read
-pub nothing_read : (known : Option (List ℕ)) → Consumes known known []
-nothing_read None = tt
-nothing_read (Some xs) = refl
-
--- one read more
-pub more_read : (whole known left : Option (List ℕ)) (script bytes : List ℕ) → Consumes whole known script → Consumes known left bytes
-    → Consumes whole left (script ++ bytes)
-more_read None known left script bytes a b = tt
-more_read (Some xs) None left script bytes a b = absurd a
-more_read (Some xs) (Some ys) None script bytes a b = absurd b
-more_read (Some xs) (Some ys) (Some zs) script bytes a b = a ∙ ap (λ t. script ++ t) b ∙ sym (append_assoc script bytes zs)
 
 -- a read that gave nothing
 pub none_read : (whole known left : Option (List ℕ)) (script : List ℕ) → Consumes whole known script → Keeps known left → Consumes whole left script

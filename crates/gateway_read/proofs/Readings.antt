@@ -3,6 +3,7 @@ use Rattle.std.proofs.Common.{◌≡◌, ℕ, ℤ, List, [], ◌∷◌, map, Boo
 use Rattle.std.specs.Prelude.{codes, option_map}
 use Rattle.std.specs.Str.{IsUtf8, is_utf8}
 use Rattle.std.proofs.lemmas.Str.{is_utf8-from_IsUtf8, IsUtf8-from_is_utf8}
+use Rattle.std.proofs.lemmas.Bool.{false_from_ne_true}
 use Rattle.serde_json.specs.Read.{read}
 use Rattle.serde_json.specs.Data.{Members}
 use Rattle.kv_model.specs.declared.call.RangeQuery.{RangeQuery}
@@ -62,15 +63,11 @@ range_query-completed ms {key} {end} {limit} {revision} {order} {target} k e l r
     apart (Ok a) (Ok b) (Ok c) (Ok d) (Ok e) (Ok f) (Err x) = refl
     apart (Ok a) (Ok b) (Ok c) (Ok d) (Ok e) (Ok f) (Ok g) = refl
 
-pub refuted : (b : Bool) → (b ≡ true → ⊥) → b ≡ false
-refuted true h = absurd (h refl)
-refuted false h = refl
-
 pub json_of-read : (text : List ℕ) → IsUtf8 text → requests.json_of text ≡ read text
 json_of-read text h = ap (λ b. cond b (read text) None) (is_utf8-from_IsUtf8 text h)
 
 pub json_of-none : (text : List ℕ) → (IsUtf8 text → ⊥) → requests.json_of text ≡ None
-json_of-none text h = ap (λ b. cond b (read text) None) (refuted (is_utf8 text) (λ e. h (IsUtf8-from_is_utf8 text e)))
+json_of-none text h = ap (λ b. cond b (read text) None) (false_from_ne_true (is_utf8 text) (λ e. h (IsUtf8-from_is_utf8 text e)))
 
 option_map-cond : {A B : Type 0} (f : A → B) (b : Bool) (x : A) (r : Option A)
     → cond b (Some (f x)) (option_map f r) ≡ option_map f (cond b (Some x) r)

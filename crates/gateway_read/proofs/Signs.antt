@@ -1,30 +1,26 @@
 -- The symbols of a base64 text, and those of the same text in the standard alphabet.
 use Rattle.std.proofs.Common.{◌≡◌, ℕ, zero, suc, ◌<◌, List, [], ◌∷◌, length, get_or, map, Option, None, Some}
-use Rattle.std.proofs.Common.{is_some, Bool, true, false, true≢false, cond, eqb, refl, sym, arith, ◌∙◌}
+use Rattle.std.proofs.Common.{is_some, Bool, true, false, cond, eqb, refl, sym, arith, ◌∙◌}
 use Rattle.std.proofs.lemmas.Bool.Decides.{nat_tests}
 use Rattle.std.specs.Prelude.{◌||◌}
 use Rattle.std.specs.List.{list_any}
+use Rattle.std.proofs.lemmas.Bool.{or_parts, or_right, false_from_ne_true}
 use Rattle.memchr.specs.Find.{IsFirstByte, IsLastByte}
 use Rattle.base64.specs.Engines.{standard, standard_no_pad}
 use Rattle.base64.specs.GeneralPurpose.{decoded_of}
 use Rattle.kv_model.specs.Requests.{decoded, standard_symbol}
 use Rattle.gateway_read.specs.Signs.{is_url, is_padding}
-use Rattle.gateway_read.proofs.Readings.{refuted}
 
 -- ---- a byte that a search looks for
-
-either_true : (a b : Bool) → b ≡ true → (a || b) ≡ true
-either_true true b is = refl
-either_true false b is = is
 
 any_at : (p : ℕ → Bool) (xs : List ℕ) (k : ℕ) → k < length xs → p (get_or xs k 0) ≡ true → list_any p xs ≡ true
 any_at p [] k h is = absurd (omega (arith, h))
 any_at p (x ∷ xs) zero h is = rw is refl
-any_at p (x ∷ xs) (suc k) h is = either_true (p x) _ (any_at p xs k (omega (arith, h)) is)
+any_at p (x ∷ xs) (suc k) h is = or_right (p x) _ (any_at p xs k (omega (arith, h)) is)
 
 any_nowhere : (p : ℕ → Bool) (xs : List ℕ) → ((k : ℕ) → k < length xs → p (get_or xs k 0) ≡ true → ⊥) → list_any p xs ≡ false
 any_nowhere p [] h = refl
-any_nowhere p (x ∷ xs) h = rw (refuted (p x) (h 0 (omega arith)), any_nowhere p xs (λ k below is. h (suc k) (omega (arith, below)) is)) refl
+any_nowhere p (x ∷ xs) h = rw (false_from_ne_true (p x) (h 0 (omega arith)), any_nowhere p xs (λ k below is. h (suc k) (omega (arith, below)) is)) refl
 
 pub some-first : (p : ℕ → Bool) (xs : List ℕ) (r : Option ℕ) → IsFirstByte p xs r → is_some r ≡ list_any p xs
 some-first p xs None h = sym (any_nowhere p xs (λ k below is. h k (omega arith) below is))
@@ -55,16 +51,12 @@ pub padding-standard : (s : List ℕ) → list_any is_padding (map standard_symb
 padding-standard [] = refl
 padding-standard (x ∷ s) = rw (padding_of x, padding-standard s) refl
 
-either : (a b : Bool) → (a || b) ≡ false → (a ≡ false) × (b ≡ false)
-either true b is = absurd (true≢false is)
-either false b is = (refl, is)
-
 plain_symbol : (x : ℕ) → is_url x ≡ false → standard_symbol x ≡ x
-plain_symbol x is = let tests = either (eqb x 45) (eqb x 95) is in rw (tests.0, tests.1) refl
+plain_symbol x is = let tests = or_parts (eqb x 45) (eqb x 95) is in rw (tests.0, tests.1) refl
 
 pub plain : (s : List ℕ) → list_any is_url s ≡ false → map standard_symbol s ≡ s
 plain [] is = refl
-plain (x ∷ s) is = let parts = either (is_url x) (list_any is_url s) is in rw (plain_symbol x parts.0, plain s parts.1) refl
+plain (x ∷ s) is = let parts = or_parts (is_url x) (list_any is_url s) is in rw (plain_symbol x parts.0, plain s parts.1) refl
 
 by_engine : (s : List ℕ) → decoded s ≡ decoded_of (cond (list_any is_padding (map standard_symbol s)) standard standard_no_pad)
     (map standard_symbol s)

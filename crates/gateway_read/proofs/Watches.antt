@@ -2,6 +2,7 @@
 use Rattle.std.proofs.Common.{◌≡◌, ℕ, ℤ, List, [], ◌∷◌, ◌++◌, Bool, true, false, not, Ok, Err, refl, sym, ap, ◌∙◌}
 use Rattle.std.specs.Prelude.{codes, ◌||◌}
 use Rattle.std.specs.List.{list_any}
+use Rattle.std.proofs.Math.Bool.{or-false}
 use Rattle.serde_json.specs.Data.{Items, Members}
 use Rattle.kv_model.specs.Requests as requests
 use Rattle.kv_model.specs.Requests.{Read, ◌>>=◌, integer_field, truth_field, list_field, bytes_field, each, filter_request, drops_puts}
@@ -17,12 +18,8 @@ or_assoc : (a b c : Bool) → (a || (b || c)) ≡ (a || b || c)
 or_assoc true b c = refl
 or_assoc false b c = refl
 
-or_false : (a : Bool) → (a || false) ≡ a
-or_false true = refl
-or_false false = refl
-
 any-snoc : {X : Type 0} (p : X → Bool) (xs : List X) (x : X) → list_any p (xs ++ x ∷ []) ≡ (list_any p xs || p x)
-any-snoc p [] x = or_false (p x)
+any-snoc p [] x = or-false (p x)
 any-snoc p (y ∷ xs) x = ap (λ b. p y || b) (any-snoc p xs x) ∙ or_assoc (p y) (list_any p xs) (p x)
 
 pub together-snoc : (fs : List requests.Filter) (f : requests.Filter) → together (fs ++ f ∷ []) ≡ with_filter (together fs) f

@@ -1,5 +1,5 @@
 -- The tokens of objects and lists, part by part.
-use Rattle.std.proofs.Common.{◌≡◌, ℕ, arith, nat_eq, true, false, List, [], ◌∷◌, ◌++◌, length, map, refl, ap, sym, ◌∙◌, append_assoc}
+use Rattle.std.proofs.Common.{◌≡◌, ℕ, nat_eq, false, List, [], ◌∷◌, ◌++◌, length, map, refl, ap, sym, ◌∙◌, append_assoc}
 use Rattle.std.specs.Prelude.{Option, None, Some, option_map, Result, Ok, Err, OnOk}
 use Rattle.std.specs.List.{flat_map}
 use Rattle.json.specs.Token.{Token, key, begin_object, end_object, begin_array, end_array}
@@ -49,12 +49,6 @@ pub list_tokens : {X : Type 0} (v : X → Data) (name : List ℕ) (xs : List X) 
     → field_tokens name (list_field (map v xs)) ≡ key name ∷ begin_array ∷ (flat_map (λ x. data_tokens (v x)) xs ++ end_array ∷ [])
 list_tokens v name [] h = cc
 list_tokens v name (x ∷ xs) h = ap (λ s. key name ∷ begin_array ∷ s) (items v (x ∷ xs))
-
--- an empty list is left out
-pub no_list_tokens : {X : Type 0} (v : X → Data) (name : List ℕ) (xs : List X) → nat_eq (length xs) 0 ≡ true
-    → field_tokens name (list_field (map v xs)) ≡ []
-no_list_tokens v name [] h = refl
-no_list_tokens v name (x ∷ xs) h = grind arith
 
 -- two views, one after the other, of a list's items
 pub map-map : {X Y Z : Type 0} (g : Y → Z) (f : X → Y) (xs : List X) → map g (map f xs) ≡ map (λ x. g (f x)) xs

@@ -8,7 +8,7 @@ use Rattle.kv_model.specs.Answers.{message_text}
 use Rattle.kv_model.specs.Watches.{matches}
 use Rattle.kv_model.specs.Watches.{Delivery, advanced, after_delivery, deliver, delivery, delivery_of, last_revision, message_of, undelivered}
 use Rattle.kv_model.specs.Wire.{client_id, message_to}
-use Rattle.kv_model.specs.Sound.{IsSound}
+use Rattle.store_laws.specs.Sound.{IsSound}
 use Rattle.kv_model.specs.World.{Watch, World, revision, versions, watch_at, without_watch}
 use Rattle.store_laws.proofs.BatchLaws.{dressed-mains}
 use Rattle.watch_hub.proofs.Tallies.{last-from}
@@ -19,17 +19,6 @@ rest_of now (Some x) = cond x.late 1 ((now + 1) - x.next)
 
 abbrev pub rest : World → ℕ → ℕ
 rest w n = rest_of (revision w) (watch_at w.watches n)
-
-pub rest_within : (w : World) (n : ℕ) → rest w n ≤ revision w + 1
-rest_within w n = by (watch_at w.watches n)
-  where
-    late : (b : Bool) (k : ℕ) → cond b 1 ((revision w + 1) - k) ≤ revision w + 1
-    late true k = omega arith
-    late false k = omega arith
-
-    by : (o : Option Watch) → rest_of (revision w) o ≤ revision w + 1
-    by None = omega arith
-    by (Some x) = late x.late x.next
 
 -- ---- what a watch was not told of
 
@@ -126,12 +115,3 @@ module _ (ids : Ids) (w : World) (n : ℕ) (sound : IsSound w) where
                   let there : watch_at (advanced (versions w) n w.watches) n ≡ Some (record x { next = last_revision (undelivered (versions w) x) + 1 })
                   = went (versions w) n w.watches x is in
                   rw (there, l, u) (omega (arith, begins, h.0.0, h.0.1))
-
-pub same_now : (w : World) (n : ℕ) → revision (deliver w n).1 ≡ revision w
-same_now w n = by (delivery w (watch_at w.watches n))
-  where
-    by : (d : Delivery) → revision (after_delivery w n d) ≡ revision w
-    by Delivery.no_watch = refl
-    by Delivery.nothing = refl
-    by (Delivery.events es) = refl
-    by (Delivery.cancelled c) = refl

@@ -2,23 +2,10 @@
 use Rattle.std.proofs.Common.{◌≡◌, ℕ, ◌+◌, ◌<◌, arith, List, [], ◌∷◌, ◌++◌, length, Bool, true, false, nat_lt, Option, None, Some, Ok, refl}
 use Rattle.std.proofs.Common.{sym, ◌∙◌, ap, subst, append_assoc}
 use Rattle.std.specs.Io.KnownBytes.{Consumes, IsAtEnd, Keeps}
-use Rattle.std.proofs.lemmas.List.{append-nil, length-append}
+use Rattle.std.proofs.lemmas.List.{append-nil, length-append, nil_from_length}
 use Rattle.std.proofs.lemmas.Bool.Decides.{nat_tests}
 use Rattle.http_input.specs.Buffers.{Extends, Filled}
 use Rattle.http_input.specs.Inputs.{Took}
-
-pub extends_by : (p bs : List ℕ) → Extends p (p ++ bs)
-extends_by p bs = record { more = bs; is = refl }
-
-pub extends_same : (p : List ℕ) → Extends p p
-extends_same p = record { more = []; is = sym (append-nil p) }
-
-pub extends_trans : (p q r : List ℕ) → Extends p q → Extends q r → Extends p r
-extends_trans p q r a b = record { more = a.more ++ b.more; is = b.is ∙ ap (λ l. l ++ b.more) a.is ∙ append_assoc p a.more b.more }
-
-pub took_same : (a : Option (List ℕ)) (p : List ℕ) → Took a a p p
-took_same None p = tt
-took_same (Some xs) p = refl
 
 pub took_trans : (a b c : Option (List ℕ)) (p q r : List ℕ) → Took a b p q → Took b c q r → Took a c p r
 took_trans None b c p q r t u = tt
@@ -49,10 +36,6 @@ took_failed a b p q e h = subst (λ (t : List ℕ). Took a b p t) (sym e) (took_
 pub extends_failed : (p q : List ℕ) → q ≡ p → Extends p q
 extends_failed p q e = record { more = []; is = e ∙ sym (append-nil p) }
 
-pub nil_of : (l : List ℕ) → length l ≡ 0 → l ≡ []
-nil_of [] z = refl
-nil_of (x ∷ l) z = absurd (omega (arith, z))
-
 pub filled_by : (left : Option (List ℕ)) (p q bs : List ℕ) (n : ℕ) → q ≡ p ++ bs → n ≡ length bs → (n ≡ 0 → IsAtEnd left)
     → Filled left p q (Ok (nat_lt 0 n))
 filled_by left p q bs n e long h = by (nat_lt 0 n) refl
@@ -64,7 +47,7 @@ filled_by left p q bs n e long h = by (nat_lt 0 n) refl
         omega (arith, sum, long, some)
     by false t =
         let none : n ≡ 0 = grind (arith, nat_tests, t) in
-        (e ∙ ap (λ l. p ++ l) (nil_of bs (sym long ∙ none)) ∙ append-nil p, h none)
+        (e ∙ ap (λ l. p ++ l) (nil_from_length bs (sym long ∙ none)) ∙ append-nil p, h none)
 
 -- nothing came
 pub ended : (left : Option (List ℕ)) (p q : List ℕ) (b : Bool) → b ≡ false → Filled left p q (Ok b) → (q ≡ p) × IsAtEnd left

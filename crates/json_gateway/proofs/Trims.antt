@@ -1,10 +1,9 @@
 -- Trimming steps as events of a run, and that they come to an end.
-use Rattle.std.proofs.Common.{◌≡◌, ◌<◌, ℕ, suc, ◌&&◌, ◌||◌, ◌==◌, length, Bool, true, false, Option, None, Some, Ok, refl, sym, ◌∙◌, ap, subst, arith}
+use Rattle.std.proofs.Common.{◌≡◌, ◌<◌, ℕ, ◌&&◌, ◌||◌, ◌==◌, Bool, true, false, Option, None, Some, Ok, refl, sym, ◌∙◌, ap, subst}
 use Rattle.std.specs.Prelude.{is_none, is_some}
+use Rattle.std.proofs.Math.Bool.{or-true, and-false}
 use Rattle.kv_model.specs.declared.refusal.Refusal.{Refusal}
-use Rattle.kv_model.specs.declared.call.Txn.{Txn}
-use Rattle.kv_model.specs.Calls.{Call, Ops, as_call}
-use Rattle.kv_model.specs.Commands.{txn_view}
+use Rattle.kv_model.specs.Calls.{Call}
 use Rattle.kv_model.specs.Step.{perform, refused_or, compact_in, compact_refusal, at_least_zero, answer_of as answer_of_made}
 use Rattle.kv_model.specs.Told.{Answer, Reply, Trimmed}
 use Rattle.kv_model.specs.Headline.{IsDone, IsTrimmed, Keeping, Trims}
@@ -16,7 +15,6 @@ use Rattle.store_laws.specs.Stands.{StandsFor}
 use Rattle.store_laws.specs.TrimmingLaws.{IsVisit}
 use Rattle.trim_core.specs.declared.trimmer.Trim.{Trim}
 use Rattle.trim_core.specs.Told.{told_of}
-use Rattle.txn_core.proofs.Walking.{txn_view-out}
 use Rattle.request_core.specs.declared.answer.Receipt.{Receipt}
 use Rattle.request_core.specs.Answers.{has_changed, is_beside}
 use Rattle.request_core.specs.Commands.{Does, TrimsOnce}
@@ -43,30 +41,7 @@ done_trimmed old new t once e w h = ((once.trims w h).stands, by (told_of t) e o
           visited = v.1;
         }
 
--- a step that is not done leaves fewer versions to visit
-pub fewer_left : (old new : CoreState) (t : Trim) → TrimsOnce old new t → is_done (told_of t) ≡ false
-    → length (keeping_of new).ahead < length (keeping_of old).ahead
-fewer_left old new t once e = by (told_of t) e once.visit
-  where
-    by : (told : Trimmed) → is_done told ≡ false → IsVisit told (keeping_of old).ahead (keeping_of new).ahead
-        → length (keeping_of new).ahead < length (keeping_of old).ahead
-    by (Trimmed.removed q) f v = let l : length (keeping_of old).ahead ≡ suc (length (keeping_of new).ahead) = ap length v.2 in omega arith
-    by (Trimmed.kept q) f v = let l : length (keeping_of old).ahead ≡ suc (length (keeping_of new).ahead) = ap length v.2 in omega arith
-    by (Trimmed.done n) f v = cc
-
 -- ---- whose answer waits
-
--- a transaction is no Compact
-pub txn_physical : (t : Txn) → is_physical (as_call (txn_view t)) ≡ false
-txn_physical t = subst (λ (ops : Ops). is_physical (as_call ops) ≡ false) (sym (txn_view-out t)) refl
-
-or-true : (b : Bool) → (b || true) ≡ true
-or-true true = refl
-or-true false = refl
-
-and-false : (b : Bool) → (b && false) ≡ false
-and-false true = refl
-and-false false = refl
 
 and-true : (b : Bool) → b ≡ (b && true)
 and-true true = refl

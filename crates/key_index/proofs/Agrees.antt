@@ -1,6 +1,6 @@
 -- An index agrees with its versions as both change.
 use Rattle.std.proofs.Common.{◌≡◌, ℕ, ◌≤◌, List, [], ◌∷◌, ◌++◌, map, filter, Bool, true, false, ◌||◌, ◌==◌, cond}
-use Rattle.std.proofs.Common.{refl, sym, ◌∙◌, ap, subst, arith}
+use Rattle.std.proofs.Common.{refl, sym, ◌∙◌, ap, subst}
 use Rattle.std.proofs.lemmas.List.{append-nil}
 use Rattle.std.specs.List.{AllByRecursion}
 use Rattle.kv_model.specs.declared.version.Rev.{Rev}
@@ -8,14 +8,11 @@ use Rattle.kv_model.specs.declared.version.Version.{Version}
 use Rattle.kv_model.specs.Keys.{same_key}
 use Rattle.kv_model.specs.History.{rev_lt}
 use Rattle.store_laws.proofs.Rising.{others-middle}
-use Rattle.key_index.specs.KeyRevisions.{AreUpTo, IsBehind, undone, without}
-use Rattle.key_index.specs.Index.{Index, IsBound, revisions, with_revision, without_revision, is_up_to, retracted}
+use Rattle.key_index.specs.KeyRevisions.{IsBehind, without}
+use Rattle.key_index.specs.Index.{Index, revisions, with_revision, without_revision}
 use Rattle.key_index.specs.Agrees.{revisions_of, Agrees}
-use Rattle.key_index.proofs.KeyRevisions.{undone-append}
-use Rattle.key_index.proofs.Bounds.{bound-up_to}
-use Rattle.key_index.proofs.Walks.{AreTheirs, theirs}
-use Rattle.key_index.proofs.Entries.{index-with_revision, index-with_revisions, index-retracted}
-use Rattle.key_index.proofs.Entries.{revisions-with_revision, revisions-changed, revisions-retracted, changes_key}
+use Rattle.key_index.proofs.Entries.{index-with_revision, index-with_revisions}
+use Rattle.key_index.proofs.Entries.{revisions-with_revision, revisions-changed}
 
 -- ---- the revisions of a list of versions
 
@@ -104,41 +101,3 @@ remove-agrees i xs v ys a h g = record {
         others-middle (λ q. q) (revisions_of k xs) v.rev (revisions_of k ys)
         (each-revision (λ q. rev_lt q v.rev ≡ true) k xs h) (each-revision (λ q. rev_lt v.rev q ≡ true) k ys g)
     by k false = refl
-
--- ---- a main revision is taken back
-
-untouched : (k : List ℕ) (us ts : List Version) → changes_key k (us ++ ts) ≡ false → revisions_of k us ≡ []
-untouched k [] ts h = refl
-untouched k (u ∷ us) ts h = by (same_key u.key k) refl h (λ g. untouched k us ts g)
-  where
-    by : (b : Bool) → same_key u.key k ≡ b → (b || changes_key k (us ++ ts)) ≡ false
-        → (changes_key k (us ++ ts) ≡ false → revisions_of k us ≡ []) → revisions_of k (u ∷ us) ≡ []
-    by true e g rest = cc
-    by false e g rest = revisions_of-cons k u us ∙ ap (λ c. cond c (u.rev ∷ revisions_of k us) (revisions_of k us)) e ∙ rest g
-
--- the changes of the newest main revision, some of which the index may not have yet
-pub retract-agrees : (i : Index) (vs us ts : List Version) (main : ℕ) → Agrees i (vs ++ us)
-    → AllByRecursion (λ v. (v.rev.main == main) ≡ false) vs → AllByRecursion (λ u. (u.rev.main == main) ≡ true) us
-    → Agrees (retracted main (us ++ ts) i) vs
-retract-agrees i vs us ts main a h g = record {
-  sound = index-retracted main (us ++ ts) i a.sound;
-  each = λ k. revisions-retracted main (us ++ ts) i a.sound k
-      ∙ ap (λ qs. cond (changes_key k (us ++ ts)) (undone main qs) qs) (a.each k ∙ revisions_of-append k vs us)
-      ∙ by k (changes_key k (us ++ ts)) refl;
-}
-  where
-    by : (k : List ℕ) (b : Bool) → changes_key k (us ++ ts) ≡ b
-        → cond b (undone main (revisions_of k vs ++ revisions_of k us)) (revisions_of k vs ++ revisions_of k us) ≡ revisions_of k vs
-    by k true e =
-        undone-append main (revisions_of k vs) (revisions_of k us)
-        (each-revision (λ q. (q.main == main) ≡ false) k vs h) (each-revision (λ q. (q.main == main) ≡ true) k us g)
-    by k false e = ap (λ qs. revisions_of k vs ++ qs) (untouched k us ts e) ∙ append-nil (revisions_of k vs)
-
--- where no version is of a later main revision, none of the index is
-pub up_to-agrees : (main : ℕ) (i : Index) (vs : List Version) → Agrees i vs → AllByRecursion (λ v. v.rev.main ≤ main) vs
-    → is_up_to main i ≡ true
-up_to-agrees main i vs a h = bound-up_to main main i (omega arith) (go i (theirs i a.sound))
-  where
-    go : (es : Index) → AreTheirs i es → IsBound main es
-    go [] t = tt
-    go (e ∷ es) t = (subst (AreUpTo main) (sym (a.each e.0) ∙ t.0) (each-revision (λ q. q.main ≤ main) e.0 vs h), go es t.1)

@@ -1,10 +1,10 @@
 -- A main revision that none of an index is above, as the index changes.
-use Rattle.std.proofs.Common.{◌≡◌, ℕ, ◌≤◌, max, nat_le, List, [], ◌∷◌, ◌++◌, drop, Bool, true, false, not, ◌&&◌, cond, Option, None, Some}
+use Rattle.std.proofs.Common.{◌≡◌, ℕ, ◌≤◌, max, List, [], ◌∷◌, ◌++◌, drop, Bool, true, false, not, ◌&&◌, cond, Option, None, Some}
 use Rattle.std.proofs.Common.{unwrap_or, ap, refl, arith}
 use Rattle.std.proofs.Math.Nat.{le-max_left, le-max_right}
-use Rattle.std.proofs.lemmas.Bool.Decides.{nat_tests}
 use Rattle.std.specs.Option.{option_or}
 use Rattle.std.specs.Map.{set_value}
+use Rattle.std.proofs.lemmas.Bool.{le-leb}
 use Rattle.kv_model.specs.declared.version.Rev.{Rev}
 use Rattle.kv_model.specs.declared.version.Version.{Version}
 use Rattle.store_laws.proofs.PlaceLaws.{each-map, each-append, each-filter}
@@ -29,16 +29,12 @@ up_to-undone n = each-undone (λ (q : Rev). q.main ≤ n)
 pub up_to-without : (n : ℕ) (p : Rev) (qs : List Rev) → AreUpTo n qs → AreUpTo n (without p qs)
 up_to-without n p = each-filter (λ (q : Rev). q.main ≤ n) (λ q. not (is_rev p q))
 
--- the last one is one of them
-below : (a n : ℕ) → a ≤ n → nat_le a n ≡ true
-below a n l = grind (arith, nat_tests)
-
 up_to-ends : (n : ℕ) (qs : List Rev) → AreUpTo n qs → ends_up_to n qs ≡ true
 up_to-ends n [] h = refl
 up_to-ends n (q ∷ qs) h = by (newest qs) (up_to-ends n qs h.1)
   where
     by : (o : Option Rev) → is_last_up_to n o ≡ true → is_last_up_to n (option_or o (Some q)) ≡ true
-    by None e = below q.main n h.0
+    by None e = le-leb q.main n h.0
     by (Some l) e = e
 
 -- ---- those of an index

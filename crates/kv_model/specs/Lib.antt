@@ -9,7 +9,6 @@ pub mod Commands
 pub mod Txns
 pub mod Leases
 pub mod World
-pub mod Sound
 pub mod Watches
 pub mod Told
 pub mod Trimming

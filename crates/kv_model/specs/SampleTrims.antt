@@ -50,7 +50,8 @@ kept_at main = Trimmed.kept (rev_at main)
 abbrev pub put_delete_compact : List Event
 put_delete_compact = put_event a one ∷ delete_event a ∷ put_event b one ∷ compact_event (pos 4) ∷ []
 
-pub both_go : trims 5 (absorbed blank [] put_delete_compact) ≡ removed_at 2 ∷ removed_at 3 ∷ kept_at 4 ∷ Trimmed.done 1 ∷ Trimmed.done 1 ∷ []
+pub both_go : trims 5 (absorbed blank [] put_delete_compact) ≡ removed_at 2 ∷ removed_at 3 ∷ kept_at 4 ∷ Trimmed.done 1
+    ∷ Trimmed.done 1 ∷ []
 unfolding model_on_literals trimming_on_literals
 both_go = refl
 
@@ -82,17 +83,20 @@ unfolding model_on_literals trimming_on_literals
 half_way = refl
 
 pub from_the_oldest : trims 9 after_second
-    ≡ removed_at 3 ∷ removed_at 4 ∷ removed_at 5 ∷ removed_at 6 ∷ kept_at 7 ∷ kept_at 8 ∷ kept_at 9 ∷ Trimmed.done 3 ∷ Trimmed.done 3 ∷ []
+    ≡ removed_at 3 ∷ removed_at 4 ∷ removed_at 5 ∷ removed_at 6 ∷ kept_at 7 ∷ kept_at 8 ∷ kept_at 9 ∷ Trimmed.done 3
+    ∷ Trimmed.done 3 ∷ []
 unfolding model_on_literals trimming_on_literals
 from_the_oldest = refl
 
 -- ---- before the first Compact there is nothing to look at, and a done step counts the versions above the compaction too
 
-pub nothing_to_trim : trims 1 blank ++ trims 1 (absorbed blank [] (put_event a one ∷ [])) ≡ Trimmed.done 0 ∷ Trimmed.done 1 ∷ []
+pub nothing_to_trim : trims 1 blank ++ trims 1 (absorbed blank [] (put_event a one ∷ [])) ≡ Trimmed.done 0
+    ∷ Trimmed.done 1 ∷ []
 unfolding model_on_literals trimming_on_literals
 nothing_to_trim = refl
 
-pub one_key_twice : trims 4 (absorbed blank [] (put_event a one ∷ put_event a two ∷ put_event b one ∷ compact_event (pos 4) ∷ [])) ≡ removed_at 2 ∷ kept_at 3 ∷ kept_at 4 ∷ Trimmed.done 2 ∷ []
+pub one_key_twice : trims 4 (absorbed blank [] (put_event a one ∷ put_event a two ∷ put_event b one
+    ∷ compact_event (pos 4) ∷ [])) ≡ removed_at 2 ∷ kept_at 3 ∷ kept_at 4 ∷ Trimmed.done 2 ∷ []
 unfolding model_on_literals trimming_on_literals
 one_key_twice = refl
 
@@ -131,11 +135,13 @@ pub untrimmed_needs : claims_of (dumped (absorbed blank [] put_delete_compact)) 
 unfolding model_on_literals trimming_on_literals
 untrimmed_needs = refl
 
-pub untrimmed_fails : first_fault (dumped (absorbed blank [] put_delete_compact)) (range_need 4 4 ∷ []) ≡ Some (NeedFault.no_need (rev_at 2))
+pub untrimmed_fails : first_fault (dumped (absorbed blank [] put_delete_compact)) (range_need 4 4 ∷ [])
+    ≡ Some (NeedFault.no_need (rev_at 2))
 unfolding model_on_literals trimming_on_literals
 untrimmed_fails = refl
 
-pub trimmed_passes : first_fault (dumped (after_trims 3 (absorbed blank [] put_delete_compact))) (range_need 4 4 ∷ []) ≡ None
+pub trimmed_passes : first_fault (dumped (after_trims 3 (absorbed blank [] put_delete_compact))) (range_need 4 4 ∷ [])
+    ≡ None
 unfolding model_on_literals trimming_on_literals
 trimmed_passes = refl
 
@@ -149,7 +155,8 @@ abbrev pub four_puts : Dump
 four_puts = dumped (absorbed blank [] (put_event a one ∷ put_event b one ∷ put_event a one ∷ put_event a one ∷ []))
 
 -- the version at 4 does not answer a Range at 5: the one at 5 does
-pub need_unmet : first_fault four_puts (range_need 2 2 ∷ range_need 3 3 ∷ range_need 4 5 ∷ range_need 5 5 ∷ []) ≡ Some (NeedFault.need_unmet (rev_at 4))
+pub need_unmet : first_fault four_puts (range_need 2 2 ∷ range_need 3 3 ∷ range_need 4 5 ∷ range_need 5 5 ∷ [])
+    ≡ Some (NeedFault.need_unmet (rev_at 4))
 unfolding model_on_literals trimming_on_literals
 need_unmet = refl
 
@@ -157,7 +164,8 @@ pub needs_met : first_fault four_puts (range_need 2 2 ∷ range_need 3 3 ∷ ran
 unfolding model_on_literals trimming_on_literals
 needs_met = refl
 
-pub need_missing : first_fault four_puts (range_need 2 2 ∷ range_need 3 3 ∷ range_need 5 5 ∷ []) ≡ Some (NeedFault.no_need (rev_at 4))
+pub need_missing : first_fault four_puts (range_need 2 2 ∷ range_need 3 3 ∷ range_need 5 5 ∷ [])
+    ≡ Some (NeedFault.no_need (rev_at 4))
 unfolding model_on_literals trimming_on_literals
 need_missing = refl
 
@@ -171,14 +179,17 @@ put_at p k v = record { rev = p; key = k; body = Put 2 1 (pos 0) v }
 abbrev pub two_of : Version → Version → Dump
 two_of v w = record { floor = 0; revision = 2; versions = v ∷ w ∷ [] }
 
-pub not_rising : first_fault (two_of (put_at (rev_at 2) x one) (put_at (rev_at 2) y two)) (range_need 2 2 ∷ range_need 2 2 ∷ []) ≡ Some (NeedFault.not_rising (rev_at 2))
+pub not_rising : first_fault (two_of (put_at (rev_at 2) x one) (put_at (rev_at 2) y two)) (range_need 2 2
+    ∷ range_need 2 2 ∷ []) ≡ Some (NeedFault.not_rising (rev_at 2))
 unfolding model_on_literals trimming_on_literals
 not_rising = refl
 
-pub double_key : first_fault (two_of (put_at (rev_at 2) x one) (put_at sub_one x two)) (range_need 2 2 ∷ (record { rev = sub_one; need = Need.range 2 }) ∷ []) ≡ Some (NeedFault.double_key (rev_at 2))
+pub double_key : first_fault (two_of (put_at (rev_at 2) x one) (put_at sub_one x two)) (range_need 2 2
+    ∷ (record { rev = sub_one; need = Need.range 2 }) ∷ []) ≡ Some (NeedFault.double_key (rev_at 2))
 unfolding model_on_literals trimming_on_literals
 double_key = refl
 
-pub empty_key : first_fault (two_of (put_at (rev_at 2) [] one) (put_at sub_one y two)) (range_need 2 2 ∷ (record { rev = sub_one; need = Need.range 2 }) ∷ []) ≡ Some (NeedFault.need_unmet (rev_at 2))
+pub empty_key : first_fault (two_of (put_at (rev_at 2) [] one) (put_at sub_one y two)) (range_need 2 2
+    ∷ (record { rev = sub_one; need = Need.range 2 }) ∷ []) ≡ Some (NeedFault.need_unmet (rev_at 2))
 unfolding model_on_literals trimming_on_literals
 empty_key = refl

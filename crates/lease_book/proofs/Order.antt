@@ -9,6 +9,7 @@ use Rattle.std.proofs.lemmas.Int.{ints}
 use Rattle.std.proofs.lemmas.Bool.Decides.{Decides-int_eq}
 use Rattle.std.proofs.lemmas.List.Elements.{filter-append}
 use Rattle.std.proofs.lemmas.List.Folds.{find-append}
+use Rattle.std.proofs.lemmas.List.{map-append}
 use Rattle.kv_model.specs.Leases.{Lease, has_id, is_granted, lease_at, insert_lease, without_lease, renewed}
 use Rattle.lease_book.specs.Entries.{IsAscending}
 
@@ -145,27 +146,23 @@ without_lease-here {l} {x} {r} s =
     ∙ rw (without_lease-others x.id l (others_below x.id l s.below), int_eq-self x.id)
     (ap (λ ms. l ++ ms) (without_lease-others x.id r (others_behind x.id r s.behind)))
 
-map_append : {X Y : Type 0} (f : X → Y) (xs ys : List X) → map f (xs ++ ys) ≡ map f xs ++ map f ys
-map_append f [] ys = refl
-map_append f (x ∷ xs) ys = ap (λ zs. f x ∷ zs) (map_append f xs ys)
-
 pub renewed-left : (clock : ℕ) (id : ℤ) {l : List Lease} {x : Lease} {r : List Lease} → AreSides l x r → id <ℤ x.id
     → map (renewed clock id) (l ++ x ∷ r) ≡ map (renewed clock id) l ++ x ∷ r
 renewed-left clock id {l} {x} {r} s h =
-    map_append (renewed clock id) l (x ∷ r)
+    map-append (renewed clock id) l (x ∷ r)
     ∙ ap (λ ms. map (renewed clock id) l ++ ms)
     (renewed-others clock id (x ∷ r) (others_behind id (x ∷ r) (h, behind_later id x.id h r s.behind)))
 
 pub renewed-right : (clock : ℕ) (id : ℤ) {l : List Lease} {x : Lease} {r : List Lease} → AreSides l x r → x.id <ℤ id
     → map (renewed clock id) (l ++ x ∷ r) ≡ l ++ x ∷ map (renewed clock id) r
 renewed-right clock id {l} {x} {r} s h =
-    map_append (renewed clock id) l (x ∷ r)
+    map-append (renewed clock id) l (x ∷ r)
     ∙ rw (renewed-others clock id l (others_below id l (below_later x.id id h l s.below)), below_differs x.id id h)
 
 pub renewed-here : (clock : ℕ) {l : List Lease} {x : Lease} {r : List Lease} → AreSides l x r
     → map (renewed clock x.id) (l ++ x ∷ r) ≡ l ++ renewed clock x.id x ∷ r
 renewed-here clock {l} {x} {r} s =
-    map_append (renewed clock x.id) l (x ∷ r)
+    map-append (renewed clock x.id) l (x ∷ r)
     ∙ rw (renewed-others clock x.id l (others_below x.id l s.below))
     (ap (λ ms. l ++ renewed clock x.id x ∷ ms) (renewed-others clock x.id r (others_behind x.id r s.behind)))
 

@@ -1,13 +1,12 @@
 -- What an index holds as pairs and versions come, and as a lease goes.
-use Rattle.std.proofs.Common.{◌≡◌, ◌<◌, ℕ, ℤ, suc, List, [], ◌∷◌, ◌++◌, length, take, get_or, Bool, true, false, ◌||◌, ◌&&◌, not, cond}
+use Rattle.std.proofs.Common.{◌≡◌, ◌<◌, ℕ, ℤ, List, [], ◌∷◌, ◌++◌, Bool, true, false, ◌||◌, ◌&&◌, not, cond}
 use Rattle.std.proofs.Common.{Option, None, Some, is_none, option_map, option_and_then, refl, sym, ◌∙◌, ap}
 use Rattle.std.specs.List.{list_any}
 use Rattle.std.specs.Option.{option_or}
 use Rattle.std.specs.Ordering.{int_eq}
 use Rattle.std.specs.BTreeSet.{insert_key}
-use Rattle.std.proofs.Math.Seq.{take-suc}
 use Rattle.std.proofs.lemmas.Bool.Decides.{Decides-int_eq}
-use Rattle.std.proofs.lemmas.List.Folds.{list_any-append}
+use Rattle.std.proofs.Math.Bool.{and-false, and-true, or-false, or-true}
 use Rattle.kv_model.specs.declared.version.Version.{Version}
 use Rattle.kv_model.specs.declared.version.Body.{Body}
 use Rattle.kv_model.specs.declared.version.Body.TheVariants.{Put, Gone}
@@ -22,19 +21,6 @@ use Rattle.lease_keys.specs.Holding.{under, is_unused, IsUnusedDropped}
 use Rattle.store_laws.proofs.HistoryLaws.{same_key-eq}
 use Rattle.store_laws.proofs.KeyLaws.{has_key, has_key-filter}
 use Rattle.lease_keys.proofs.Sets.{inserted-has}
-
-or_false : (b : Bool) → (b || false) ≡ b
-or_false true = refl
-or_false false = refl
-
-or_true : (b : Bool) → (b || true) ≡ true
-or_true true = refl
-or_true false = refl
-
-or_turned : (a b c : Bool) → (b || (a || c)) ≡ ((a || b) || c)
-or_turned true true c = refl
-or_turned true false c = refl
-or_turned false b c = refl
 
 pub same-lease : (l m : ℤ) → int_eq l m ≡ true → l ≡ m
 same-lease l m e = (Decides-int_eq l m).0 e
@@ -57,22 +43,11 @@ put-one v m old new e added l k =
   where
     by : (b : Bool) → int_eq m l ≡ b → has_key k (cond b (insert_key key_cmp (keys_at m old) v.key) (keys_at l old))
         ≡ (((b && same_key v.key k) || false) || has_pair l k old)
-    by true f = inserted-has k v.key (keys_at m old) ∙ λ i. sym (or_false (same_key v.key k)) i || has_pair (same-lease m l f i) k old
+    by true f = inserted-has k v.key (keys_at m old) ∙ λ i. sym (or-false (same_key v.key k)) i || has_pair (same-lease m l f i) k old
     by false f = refl
 
-pub put-none : (v : Version) (old : Pairs) → lease_of v.body ≡ None → ArePut (v ∷ []) old old
-put-none v old e l k = sym (ap (λ o. ((is_of l o && same_key v.key k) || false) || has_pair l k old) e)
-
-pub put-more : (vs : List Version) (i : ℕ) (d : Version) (old mid new : Pairs) → i < length vs → ArePut (take i vs) old mid
-    → ArePut (get_or vs i d ∷ []) mid new → ArePut (take (suc i) vs) old new
-put-more vs i d old mid new h before one l k =
-    let test : Version → Bool = λ v. is_of l (lease_of v.body) && same_key v.key k in
-    one l k ∙ ap (λ b. list_any test (get_or vs i d ∷ []) || b) (before l k)
-    ∙ or_turned (list_any test (take i vs)) (list_any test (get_or vs i d ∷ [])) (has_pair l k old)
-    ∙ ap (λ b. b || has_pair l k old) (sym (ap (list_any test) (take-suc vs i d h) ∙ list_any-append test (take i vs) (get_or vs i d ∷ [])))
-
 pub put-within : (vs : List Version) (old new : Pairs) → ArePut vs old new → IsWithin old new
-put-within vs old new put l k h = put l k ∙ ap (λ b. puts_pair l k vs || b) h ∙ or_true (puts_pair l k vs)
+put-within vs old new put l k h = put l k ∙ ap (λ b. puts_pair l k vs || b) h ∙ or-true (puts_pair l k vs)
 
 pub holds-within : (old new : Pairs) (held : List ℕ → Option KeyValue) → IsWithin old new → Holds old held → Holds new held
 holds-within old new held within h k kv e n = within kv.lease k (h k kv e n)
@@ -96,7 +71,7 @@ found-any {X} p q (y ∷ ys) x e h = by (last_that p ys) refl (p y) e (found-any
   where
     by : (o : Option X) → last_that p ys ≡ o → (b : Bool) → option_or o (cond b (Some y) None) ≡ Some x
         → (last_that p ys ≡ Some x → q x ≡ true → list_any q ys ≡ true) → (q y || list_any q ys) ≡ true
-    by (Some z) is b f rest = ap (λ t. q y || t) (rest (is ∙ f) h) ∙ or_true (q y)
+    by (Some z) is b f rest = ap (λ t. q y || t) (rest (is ∙ f) h) ∙ or-true (q y)
     by None is true f rest = let same : y ≡ x = cc in ap (λ z. q z || list_any q ys) same ∙ ap (λ t. t || list_any q ys) h
     by None is false f rest = cc
 
@@ -127,14 +102,6 @@ holds-forgotten l old new held gone none h k kv e n =
 
 -- ---- a pair that is not used goes
 
-and_true : (b : Bool) → (b && true) ≡ b
-and_true true = refl
-and_true false = refl
-
-and_false : (b : Bool) → (b && false) ≡ false
-and_false true = refl
-and_false false = refl
-
 pub mapped-none : {X Y : Type 0} (f : X → Y) (o : Option X) → is_none (option_map f o) ≡ is_none o
 mapped-none f None = refl
 mapped-none f (Some x) = refl
@@ -142,11 +109,11 @@ mapped-none f (Some x) = refl
 module _ (v : Version) (held : List ℕ → Option KeyValue) (old : Pairs) where
   pub unused-none : lease_of v.body ≡ None → IsUnusedDropped v held old old
   unused-none e l k = sym (ap (λ o. has_pair l k old && not ((is_of l o && same_key v.key k) && is_none (under l (held k)))) e
-      ∙ and_true (has_pair l k old))
+      ∙ and-true (has_pair l k old))
 
   pub unused-kept : (m : ℤ) → lease_of v.body ≡ Some m → is_none (under m (held v.key)) ≡ false → IsUnusedDropped v held old old
   unused-kept m e n l k = sym (ap (λ o. has_pair l k old && not ((is_of l o && same_key v.key k) && is_none (under l (held k)))) e
-      ∙ ap (λ b. has_pair l k old && not b) (by (int_eq m l) refl (same_key v.key k) refl) ∙ and_true (has_pair l k old))
+      ∙ ap (λ b. has_pair l k old && not b) (by (int_eq m l) refl (same_key v.key k) refl) ∙ and-true (has_pair l k old))
     where
       by : (b : Bool) → int_eq m l ≡ b → (s : Bool) → same_key v.key k ≡ s → ((b && s) && is_none (under l (held k))) ≡ false
       by true f true g = sym (λ i. is_none (under (same-lease m l f i) (held (same_key-eq v.key k g i)))) ∙ n
@@ -161,13 +128,13 @@ module _ (v : Version) (held : List ℕ → Option KeyValue) (old : Pairs) where
       of : int_eq m l ≡ true → (s : Bool) → same_key v.key k ≡ s
           → (not s && has_pair m k old) ≡ (has_pair l k old && not (s && is_none (under l (held k))))
       of f true g = sym (ap (λ b. has_pair l k old && not b)
-          (sym (λ i. is_none (under (same-lease m l f i) (held (same_key-eq v.key k g i)))) ∙ n) ∙ and_false (has_pair l k old))
-      of f false g = ap (λ q. has_pair q k old) (same-lease m l f) ∙ sym (and_true (has_pair l k old))
+          (sym (λ i. is_none (under (same-lease m l f i) (held (same_key-eq v.key k g i)))) ∙ n) ∙ and-false (has_pair l k old))
+      of f false g = ap (λ q. has_pair q k old) (same-lease m l f) ∙ sym (and-true (has_pair l k old))
 
       by : (b : Bool) → int_eq m l ≡ b → has_key k (cond b (without_key v.key (keys_at m old)) (keys_at l old))
           ≡ (has_pair l k old && not ((b && same_key v.key k) && is_none (under l (held k))))
       by true f = has_key-filter (λ j. not (same_key v.key j)) k (keys_at m old) ∙ of f (same_key v.key k) refl
-      by false f = sym (and_true (has_pair l k old))
+      by false f = sym (and-true (has_pair l k old))
 
 pub holds-used : (v : Version) (old new : Pairs) (held : List ℕ → Option KeyValue) → IsUnusedDropped v held old new
     → Holds old held → Holds new held
@@ -176,4 +143,4 @@ holds-used v old new held dropped h k kv e n =
     dropped kv.lease k ∙ ap (λ b. b && not (is_unused v held kv.lease k)) (h k kv e n)
     ∙ ap (λ o. not (mine && is_none (under kv.lease o))) e
     ∙ ap (λ b. not (mine && is_none (cond b (Some kv) None))) (lease-itself kv.lease)
-    ∙ ap not (and_false mine)
+    ∙ ap not (and-false mine)

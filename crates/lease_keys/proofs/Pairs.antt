@@ -1,5 +1,5 @@
 -- Pairs as they change.
-use Rattle.std.proofs.Common.{◌≡◌, ◌≢◌, ℕ, ℤ, List, [], ◌∷◌, Bool, true, false, cond, Option, None, Some}
+use Rattle.std.proofs.Common.{◌≡◌, ◌≢◌, ℕ, ℤ, List, [], ◌∷◌, Bool, true, false, cond, Option, Some}
 use Rattle.std.proofs.Common.{unwrap_or, Result, Ok, Err, OnOk, OnErr}
 use Rattle.std.proofs.Common.{refl, sym, ◌∙◌, ap, subst}
 use Rattle.std.specs.Prelude.{IsSome}
@@ -10,10 +10,9 @@ use Rattle.std.specs.Ordering.{int_cmp, int_eq, match_ordering}
 use Rattle.std.specs.BTreeMap.{insert_entry, is_at}
 use Rattle.std.specs.BTreeSet.{insert_key}
 use Rattle.std.proofs.lemmas.Map.Steps.{set_value_same}
-use Rattle.std.proofs.lemmas.Bool.Decides.{Decides-int_eq}
 use Rattle.kv_model.specs.Lists.{is_empty}
 use Rattle.kv_model.specs.Keys.{key_cmp}
-use Rattle.lease_keys.specs.Pairs.{Pairs, HaveKeys, keys_at, without_key, AreSet, AreAdded, AreRemoved}
+use Rattle.lease_keys.specs.Pairs.{Pairs, HaveKeys, keys_at, AreSet, AreAdded}
 
 abbrev pub found : ℤ → Pairs → Option (List (List ℕ))
 found l ps = lookup (is_at (int_cmp l)) ps
@@ -40,33 +39,9 @@ pub added-through : (l : ℤ) (k : List ℕ) (old new : Pairs) (ks more : List (
     → AreAdded l k old new
 added-through l k = changed-through (λ ks. insert_key key_cmp ks k) l
 
--- a lease that has no key to take out
-pub removed-absent : (l : ℤ) (k : List ℕ) (ps : Pairs) → None ≡ found l ps → AreRemoved l k ps ps
-removed-absent l k ps e q = by (int_eq l q) refl
-  where
-    by : (b : Bool) → int_eq l q ≡ b → keys_at q ps ≡ cond b (without_key k (keys_at l ps)) (keys_at q ps)
-    by true f = sym (ap (λ m. keys_at m ps) ((Decides-int_eq l q).0 f)) ∙ sym (ap (λ o. unwrap_or o []) e)
-        ∙ ap (λ o. without_key k (unwrap_or o [])) e
-    by false f = refl
-
 empty-nil : (ks : List (List ℕ)) → is_empty ks ≡ true → ks ≡ []
 empty-nil [] e = refl
 empty-nil (k ∷ ks) e = cc
-
--- the last key that a lease has goes, and its entry
-pub removed-last : (l : ℤ) (k : List ℕ) (old mid new : Pairs) (ks more : List (List ℕ)) → Some ks ≡ found l old
-    → (IsSome (found l old) → (q : ℤ) → found q mid ≡ cond (int_eq l q) (Some more) (found q old)) → more ≡ without_key k ks
-    → is_empty more ≡ true → ((q : ℤ) → found q new ≡ cond (int_eq l q) None (found q mid)) → AreRemoved l k old new
-removed-last l k old mid new ks more here writes e bare gone q =
-    ap (λ o. unwrap_or o []) (gone q) ∙ by (int_eq l q) (writes (subst IsSome here refl) q)
-  where
-    none : [] ≡ without_key k (keys_at l old)
-    none = sym (empty-nil more bare) ∙ e ∙ ap (λ o. without_key k (unwrap_or o [])) here
-
-    by : (b : Bool) → found q mid ≡ cond b (Some more) (found q old)
-        → unwrap_or (cond b None (found q mid)) [] ≡ cond b (without_key k (keys_at l old)) (keys_at q old)
-    by true g = none
-    by false g = ap (λ o. unwrap_or o []) g
 
 -- ---- no lease is without keys
 

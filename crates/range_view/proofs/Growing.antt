@@ -1,9 +1,10 @@
 -- How the versions that are kept grow by those of a revision, and lose them again.
-use Rattle.std.proofs.Common.{◌≡◌, ◌≤◌, ◌<◌, ◌+◌, ◌-◌, ◌==◌, ℕ, List, [], ◌∷◌, ◌++◌, Bool, true, false, ◌&&◌, cond, nat_lt}
-use Rattle.std.proofs.Common.{length, refl, sym, ◌∙◌, ap, subst, arith, append_assoc, eq-eqb, None, Some}
+use Rattle.std.proofs.Common.{◌≡◌, ◌≤◌, ◌<◌, ◌+◌, ◌-◌, ◌==◌, ℕ, List, [], ◌∷◌, ◌++◌, true, false, ◌&&◌, cond, nat_lt}
+use Rattle.std.proofs.Common.{length, sym, ◌∙◌, ap, subst, arith, append_assoc, eq-eqb, None, Some}
 use Rattle.std.proofs.lemmas.Bool.Decides.{nat_tests}
 use Rattle.std.specs.List.{AllByRecursion}
-use Rattle.std.proofs.lemmas.List.{append-nil}
+use Rattle.std.proofs.lemmas.List.{append-nil, nil_from_length}
+use Rattle.std.proofs.lemmas.Bool.{and_parts, eqb-true, ltb-true}
 use Rattle.kv_model.specs.declared.version.Rev.{Rev}
 use Rattle.kv_model.specs.declared.version.Version.{Version}
 use Rattle.kv_model.specs.History.{rev_lt}
@@ -21,17 +22,9 @@ use Rattle.key_index.specs.Index.{Index}
 use Rattle.key_index.specs.Agrees.{Agrees}
 use Rattle.key_index.proofs.Agrees.{agrees-nothing}
 use Rattle.range_view.specs.Stored.{AreTables, Stored, IsUpTo, IsBelow, AreOf, AreNotOf, IsStored, goes_on, is_next, appended, retracted_to}
+use Rattle.store_laws.proofs.StepLaws.{differs}
 
 -- ---- numbers
-
-equal-number : (a b : ℕ) → (a == b) ≡ true → a ≡ b
-equal-number a b h = grind (arith, nat_tests)
-
-less-number : (a b : ℕ) → nat_lt a b ≡ true → a < b
-less-number a b h = grind (arith, nat_tests)
-
-other-number : (a b : ℕ) → a < b → (a == b) ≡ false
-other-number a b h = grind (arith, nat_tests)
 
 never-present : (r : ℕ) → (r + 1 == r && nat_lt 1 (r + 1)) ≡ false
 never-present r = let other : (r + 1 == r) ≡ false = grind (arith, nat_tests) in ap (λ b. b && nat_lt 1 (r + 1)) other
@@ -46,14 +39,14 @@ always-present r h =
 
 pub below-not_of : (main : ℕ) (vs : List Version) → IsBelow main vs → AreNotOf main vs
 below-not_of main vs h =
-    each-map (λ (v : Version). v.rev.main < main) (λ v. (v.rev.main == main) ≡ false) (λ v less. other-number v.rev.main main less) vs h
+    each-map (λ (v : Version). v.rev.main < main) (λ v. (v.rev.main == main) ≡ false) (λ v less. differs v.rev.main main less) vs h
 
 pub upto-below : (main : ℕ) (vs us : List Version) → IsBelow main vs → AreOf main us → IsUpTo main (vs ++ us)
 upto-below main vs us h g =
     each-append (λ (v : Version). v.rev.main ≤ main) vs us
     (each-map (λ (v : Version). v.rev.main < main) (λ v. v.rev.main ≤ main) (λ v less. omega arith) vs h)
     (each-map (λ (v : Version). (v.rev.main == main) ≡ true) (λ v. v.rev.main ≤ main)
-    (λ v same. let e = equal-number v.rev.main main same in omega arith) us g)
+    (λ v same. let e = eqb-true v.rev.main main same in omega arith) us g)
 
 pub below-upto : (main : ℕ) (vs : List Version) → IsBelow main vs → IsUpTo (main - 1) vs
 below-upto main vs h = each-map (λ (v : Version). v.rev.main < main) (λ v. v.rev.main ≤ main - 1) (λ v less. omega arith) vs h
@@ -63,48 +56,44 @@ below-next now vs h = each-map (λ (v : Version). v.rev.main ≤ now) (λ v. v.r
 
 -- ---- growth at the end
 
-both : (a b : Bool) → (a && b) ≡ true → (a ≡ true) × (b ≡ true)
-both true b h = (refl, h)
-both false b h = cc
-
 step : (p q : Rev) → (q.main == p.main && nat_lt p.sub q.sub) ≡ true → (rev_lt p q ≡ true) × (p.main ≡ q.main)
 step p q h =
-    let parts = both (q.main == p.main) (nat_lt p.sub q.sub) h in
-    let same : p.main ≡ q.main = sym (equal-number q.main p.main parts.0) in
-    let less : p.sub < q.sub = less-number p.sub q.sub parts.1 in
+    let parts = and_parts (q.main == p.main) (nat_lt p.sub q.sub) h in
+    let same : p.main ≡ q.main = sym (eqb-true q.main p.main parts.0) in
+    let less : p.sub < q.sub = ltb-true p.sub q.sub parts.1 in
     (rev_lt-subs p q same less, same)
 
 goes_on-above : (p : Rev) (vs : List Version) → goes_on p vs ≡ true → AllByRecursion (λ w. rev_lt p w.rev ≡ true) vs
 goes_on-above p [] h = tt
 goes_on-above p (v ∷ vs) h =
-    let parts = both (v.rev.main == p.main && nat_lt p.sub v.rev.sub) (goes_on v.rev vs) h in
+    let parts = and_parts (v.rev.main == p.main && nat_lt p.sub v.rev.sub) (goes_on v.rev vs) h in
     let first = step p v.rev parts.0 in
     let behind = goes_on-above v.rev vs parts.1 in
     (first.0, each-map (λ w. rev_lt v.rev w.rev ≡ true) (λ w. rev_lt p w.rev ≡ true) (λ w. rev_lt-trans p v.rev w.rev first.0) vs behind)
 
 goes_on-rising : (p : Rev) (vs : List Version) → goes_on p vs ≡ true → IsRising vs
 goes_on-rising p [] h = tt
-goes_on-rising p (v ∷ vs) h = let parts = both (v.rev.main == p.main && nat_lt p.sub v.rev.sub) (goes_on v.rev vs) h in (goes_on-above v.rev vs parts.1, goes_on-rising v.rev vs parts.1)
+goes_on-rising p (v ∷ vs) h = let parts = and_parts (v.rev.main == p.main && nat_lt p.sub v.rev.sub) (goes_on v.rev vs) h in (goes_on-above v.rev vs parts.1, goes_on-rising v.rev vs parts.1)
 
 goes_on-of : (main : ℕ) (p : Rev) (vs : List Version) → p.main ≡ main → goes_on p vs ≡ true → AreOf main vs
 goes_on-of main p [] e h = tt
 goes_on-of main p (v ∷ vs) e h =
-    let parts = both (v.rev.main == p.main && nat_lt p.sub v.rev.sub) (goes_on v.rev vs) h in
+    let parts = and_parts (v.rev.main == p.main && nat_lt p.sub v.rev.sub) (goes_on v.rev vs) h in
     let same : v.rev.main ≡ main = sym (step p v.rev parts.0).1 ∙ e in
     (eq-eqb v.rev.main main same, goes_on-of main v.rev vs same parts.1)
 
 -- the versions of the next revision are all of it
 pub next-of : (now : ℕ) (vs : List Version) → is_next now vs ≡ true → AreOf (now + 1) vs
 next-of now [] h = tt
-next-of now (v ∷ vs) h = let parts = both (v.rev.main == now + 1) (goes_on v.rev vs) h in (parts.0, goes_on-of (now + 1) v.rev vs (equal-number v.rev.main (now + 1) parts.0) parts.1)
+next-of now (v ∷ vs) h = let parts = and_parts (v.rev.main == now + 1) (goes_on v.rev vs) h in (parts.0, goes_on-of (now + 1) v.rev vs (eqb-true v.rev.main (now + 1) parts.0) parts.1)
 
 next-rising : (now : ℕ) (vs : List Version) → is_next now vs ≡ true → IsRising vs
 next-rising now [] h = tt
-next-rising now (v ∷ vs) h = let parts = both (v.rev.main == now + 1) (goes_on v.rev vs) h in (goes_on-above v.rev vs parts.1, goes_on-rising v.rev vs parts.1)
+next-rising now (v ∷ vs) h = let parts = and_parts (v.rev.main == now + 1) (goes_on v.rev vs) h in (goes_on-above v.rev vs parts.1, goes_on-rising v.rev vs parts.1)
 
 older-before : (now : ℕ) (v w : Version) → v.rev.main ≤ now → (w.rev.main == now + 1) ≡ true → rev_lt v.rev w.rev ≡ true
 older-before now v w h g =
-    let e = equal-number w.rev.main (now + 1) g in
+    let e = eqb-true w.rev.main (now + 1) g in
     let less : v.rev.main < w.rev.main = omega arith in
     rev_lt-mains v.rev w.rev less
 
@@ -120,7 +109,7 @@ rising-next now (v ∷ vs) us r u h = (
 
 -- the main revision that comes last is the next one
 of-last : (main r : ℕ) (v : Version) (vs : List Version) → AreOf main (v ∷ vs) → last_main_or r (v ∷ vs) ≡ main
-of-last main r v [] h = equal-number v.rev.main main h.0
+of-last main r v [] h = eqb-true v.rev.main main h.0
 of-last main r v (w ∷ ws) h = of-last main v.rev.main w ws h.1
 
 pub next-revision : (now : ℕ) (v : Version) (vs : List Version) → is_next now (v ∷ vs) ≡ true → last_main_or now (v ∷ vs) ≡ now + 1
@@ -129,9 +118,9 @@ next-revision now v vs h = of-last (now + 1) now v vs (next-of now (v ∷ vs) h)
 pub next-main : (now : ℕ) (vs : List Version) (m : ℕ) → first_main_of vs ≡ Some m → is_next now vs ≡ true → (m ≡ now + 1) × (last_main_or now vs ≡ m)
 next-main now [] m e h = cc
 next-main now (v ∷ vs) m e h =
-    let parts = both (v.rev.main == now + 1) (goes_on v.rev vs) h in
+    let parts = and_parts (v.rev.main == now + 1) (goes_on v.rev vs) h in
     let same : v.rev.main ≡ m = cc in
-    let next : v.rev.main ≡ now + 1 = equal-number v.rev.main (now + 1) parts.0 in
+    let next : v.rev.main ≡ now + 1 = eqb-true v.rev.main (now + 1) parts.0 in
     (sym same ∙ next, next-revision now v vs h ∙ sym next ∙ same)
 
 -- ---- what was appended last is taken back
@@ -163,12 +152,8 @@ retracted_to-appended s (v ∷ vs) st h = ap (λ b. cond b (record s { versions 
 
 -- ---- one version after another
 
-nothing_left : {X : Type 0} (xs : List X) → length xs ≡ 0 → xs ≡ []
-nothing_left [] h = refl
-nothing_left (x ∷ xs) h = absurd (omega arith)
-
 pub all-yielded : {X : Type 0} (done rest all : List X) (n : ℕ) → done ++ rest ≡ all → n ≡ length rest → n ≡ 0 → done ≡ all
-all-yielded done rest all n e len none = sym (append-nil done) ∙ ap (λ xs. done ++ xs) (sym (nothing_left rest (sym len ∙ none))) ∙ e
+all-yielded done rest all n e len none = sym (append-nil done) ∙ ap (λ xs. done ++ xs) (sym (nil_from_length rest (sym len ∙ none))) ∙ e
 
 -- the next one stands behind what was kept and what was added before it
 pub ready : (vs us done rest : List Version) (v : Version) → IsRising (vs ++ us) → done ++ (v ∷ rest) ≡ us → IsBehind v.rev (vs ++ done)
@@ -217,14 +202,14 @@ blank_tables i vs revision none empty opened = record {
 
 pub present-more : (main : ℕ) (s : Stored) → (main == s.revision && nat_lt 1 main) ≡ true → 1 < s.revision
 present-more main s h =
-    let parts = both (main == s.revision) (nat_lt 1 main) h in
-    let same = equal-number main s.revision parts.0 in
-    let more = less-number 1 main parts.1 in
+    let parts = and_parts (main == s.revision) (nat_lt 1 main) h in
+    let same = eqb-true main s.revision parts.0 in
+    let more = ltb-true 1 main parts.1 in
     omega arith
 
 pub present-retracted : (main : ℕ) (s : Stored) → (main == s.revision && nat_lt 1 main) ≡ true → ◌≡◌ {A = Stored} (record s { versions = retracted s.revision s.versions; revision = s.revision - 1 }) (retracted_to main s)
 present-retracted main s h =
-    let same : s.revision ≡ main = sym (equal-number main s.revision (both (main == s.revision) (nat_lt 1 main) h).0) in
+    let same : s.revision ≡ main = sym (eqb-true main s.revision (and_parts (main == s.revision) (nat_lt 1 main) h).0) in
     let gone : ◌≡◌ {A = Stored} (record s { versions = retracted s.revision s.versions; revision = s.revision - 1 }) (record s { versions = retracted main s.versions; revision = main - 1 }) =
     λ i. record s { versions = retracted (same i) s.versions; revision = same i - 1 } in
     gone ∙ sym (ap (λ b. cond b (record s { versions = retracted main s.versions; revision = main - 1 }) s) h)

@@ -1,9 +1,9 @@
 -- The newest main revision goes, one version after another.
-use Rattle.std.proofs.Common.{◌≡◌, ◌≤◌, ◌<◌, ◌+◌, ◌==◌, ℕ, List, [], ◌∷◌, ◌++◌, Bool, true, false, not, cond, filter, length, Option, None, Some}
+use Rattle.std.proofs.Common.{◌≡◌, ◌≤◌, ◌<◌, ◌+◌, ◌==◌, ℕ, List, [], ◌∷◌, ◌++◌, Bool, true, false, not, cond, filter, Option, None, Some}
 use Rattle.std.proofs.Common.{refl, sym, ◌∙◌, ap, subst, arith, ◌⊎◌, inl, inr}
 use Rattle.std.specs.Prelude.{nat_le}
 use Rattle.std.proofs.lemmas.Bool.Decides.{nat_tests}
-use Rattle.std.proofs.lemmas.List.{append-nil, length_push}
+use Rattle.std.proofs.lemmas.List.{append-nil}
 use Rattle.std.proofs.lemmas.List.Elements.{filter-append}
 use Rattle.std.specs.List.{AllByRecursion}
 use Rattle.kv_model.specs.declared.version.Rev.{Rev}
@@ -101,12 +101,6 @@ last-others main old new l = sym (
     ∙ filter-append (λ (v : Version). not (v.rev.main == main)) new (l.version ∷ [])
     ∙ ap (λ b. others main new ++ cond (not b) (l.version ∷ []) []) l.of
     ∙ append-nil (others main new))
-
-pub last-shorter : (main : ℕ) (old new : List Version) → IsLast main old new → length new < length old
-last-shorter main old new l =
-    let e : length old ≡ length (new ++ l.version ∷ []) = ap length l.split in
-    let p : length (new ++ l.version ∷ []) ≡ length new + 1 = length_push new l.version in
-    omega arith
 
 -- what is left once the last version is of another main revision
 pub left-others : (main : ℕ) (old new : List Version) → IsRising old → IsUpTo main old → IsBelow main new

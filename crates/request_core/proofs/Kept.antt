@@ -6,13 +6,12 @@ use Rattle.kv_model.specs.declared.version.Rev.{Rev}
 use Rattle.kv_model.specs.declared.version.Version.{Version}
 use Rattle.kv_model.specs.declared.version.Body.{Body}
 use Rattle.kv_model.specs.declared.version.Body.TheVariants.{Put, Gone}
-use Rattle.kv_model.specs.declared.call.PutRequest.{PutRequest}
 use Rattle.kv_model.specs.Lists.{last_that}
 use Rattle.kv_model.specs.Keys.{same_key}
 use Rattle.kv_model.specs.History.{Action, KeyValue, key_value, shown, value_at, rev_le}
 use Rattle.kv_model.specs.Step.{last_main}
 use Rattle.kv_model.specs.Feed.{last_main_or}
-use Rattle.kv_model.specs.Txns.{next_body, put_action}
+use Rattle.kv_model.specs.Txns.{next_body}
 use Rattle.store_laws.proofs.PlaceLaws.{each-map, each-append}
 use Rattle.range_view.specs.declared.reply.KvRef.{KvRef}
 use Rattle.lease_book.specs.Book.{Book}
@@ -20,9 +19,9 @@ use Rattle.range_view.specs.Replies.{kv_view}
 use Rattle.range_view.specs.Stored.{AreOf, IsUpTo, Stored, goes_on, appended}
 use Rattle.range_view.proofs.Growing.{next-of, next-revision}
 use Rattle.store_laws.proofs.BetweenSteps as between
-use Rattle.txn_core.specs.KeyWrites.{CanCount, IsCountedTo, put_version, tombstone}
+use Rattle.txn_core.specs.KeyWrites.{IsCountedTo, tombstone}
 use Rattle.txn_core.proofs.PutCounts.{last_that-holds}
-use Rattle.request_core.specs.Writing.{IsHeldTo, AreNext, next_rev, tombstones}
+use Rattle.request_core.specs.Writing.{IsHeldTo, AreNext, tombstones}
 use Rattle.std.proofs.lemmas.List.Elements.{filter-append}
 use Rattle.std.proofs.lemmas.Bool.Decides.{nat_tests}
 use Rattle.std.specs.Prelude.{Bool, nat_le, filter, cond, false}
@@ -50,11 +49,6 @@ unfolding value_at
 held-counted t p k h = found-held t.revision (last_that (λ (v : Version). same_key v.key k && rev_le v.rev p) t.versions)
     (last_that-holds (λ (v : Version). IsCountedTo t.revision v.body) (λ (v : Version). same_key v.key k && rev_le v.rev p) t.versions h.counted)
 
--- so one put more can be counted
-pub can_count : (r : ℕ) (o : Option KeyValue) → r ≤ last_main → IsHeldTo r o → CanCount o
-can_count r None l h = tt
-can_count r (Some kv) l h = omega arith
-
 -- what a change makes of a key is counted one higher
 pub action-counted : (r main : ℕ) (a : Action) (o : Option KeyValue) → IsHeldTo r o → IsCountedTo (r + 1) (next_body main a o)
 action-counted r main (Action.put value lease) None h = omega arith
@@ -62,15 +56,6 @@ action-counted r main (Action.put value lease) (Some kv) h = omega arith
 action-counted r main Action.delete o h = tt
 
 -- ---- the versions of the next revision
-
--- the version that a put makes
-pub put-next : (r : ℕ) (p : PutRequest) (o : Option KeyValue) → IsHeldTo r o → AreNext r (put_version (next_rev r) p o ∷ [])
-put-next r p o h = record {
-  some = λ e. cc;
-  next = ap (λ b. b && true) (eq-eqb (r + 1) (r + 1) refl);
-  places = (omega arith, tt);
-  counted = (action-counted r (r + 1) (put_action p o) o h, tt);
-}
 
 dead-go_on : (main sub : ℕ) (kvs : List KeyValue) → goes_on (record { main = main; sub = sub }) (tombstones main (suc sub) kvs) ≡ true
 dead-go_on main sub [] = refl

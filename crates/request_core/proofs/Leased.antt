@@ -63,7 +63,7 @@ dead-found main sub (kv ∷ kvs) k h = by (last_that (λ v. same_key v.key k) (t
     by None true h rest = refl
     by None false h rest = rest h
 
-any-versions : (s : CoreState) (vs : List Version) → (with_any s vs).store.versions ≡ s.store.versions ++ vs
+pub any-versions : (s : CoreState) (vs : List Version) → (with_any s vs).store.versions ≡ s.store.versions ++ vs
 any-versions s [] = sym (append-nil s.store.versions)
 any-versions s (v ∷ vs) = refl
 

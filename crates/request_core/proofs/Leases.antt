@@ -3,18 +3,16 @@ use Rattle.std.proofs.Common.{◌≡◌, ℕ, ℤ, List, [], ◌∷◌, Bool, tr
 use Rattle.std.specs.Prelude.{is_some, nat_lt, option_map, ◌&&◌, ◌||◌}
 use Rattle.kv_model.specs.declared.refusal.Refusal.{Refusal}
 use Rattle.kv_model.specs.Calls.{Call}
-use Rattle.kv_model.specs.Leases.{Lease, has_id, is_granted, lease_at, insert_lease, keys_of_lease, seconds_left}
+use Rattle.kv_model.specs.Leases.{Lease, has_id, is_granted, lease_at, insert_lease}
 use Rattle.kv_model.specs.Told.{Reply}
-use Rattle.kv_model.specs.Txns.{if_asked}
 use Rattle.kv_model.specs.World.{World}
 use Rattle.kv_model.specs.Step.{made_in, refused_or}
-use Rattle.store_laws.specs.Stands.{Store, StandsFor}
-use Rattle.store_laws.specs.Stores.{refusal_of_grant, granted_lease, renewed_leases, reply_of_time_to_live}
+use Rattle.store_laws.specs.Stands.{StandsFor}
+use Rattle.store_laws.specs.Stores.{refusal_of_grant, granted_lease, renewed_leases}
 use Rattle.store_laws.proofs.StandsLeases.{leases_stand, grant_told, keep_alive_none, keep_alive_made, time_to_live_told, leases_told}
-use Rattle.lease_book.specs.declared.book.TimeLeft.{TimeLeft}
 use Rattle.request_core.specs.declared.answer.Todo.TheVariants as todo
 use Rattle.request_core.specs.State.{CoreState, after_grant, after_keep_alive, leased}
-use Rattle.request_core.specs.Answers.{IsRefusal, time_left_view}
+use Rattle.request_core.specs.Answers.{IsRefusal}
 use Rattle.request_core.specs.Commands.{CarriesOut, Makes, Moves, Refuses}
 use Rattle.request_core.proofs.Worlds.{changed-beside, none-raised, read_moves, rests, is_refused}
 
@@ -135,17 +133,6 @@ leases_done s = record {
   beside = λ w h. refl;
   moves = read_moves s false;
 }
-
-abbrev pub time-left : ℕ → Lease → TimeLeft
-time-left clock l = record { seconds = seconds_left clock l; granted = l.ttl }
-
--- the answer to a time to live is the reply
-pub time_left_is : (s : Store) (id : ℤ) (asked : Bool) (o : Option Lease)
-    → time_left_view id (option_map (time-left s.clock) o) (if_asked (asked && is_some (option_map (time-left s.clock) o)) (keys_of_lease s.versions s.revision id)) ≡ reply_of_time_to_live s id asked o
-time_left_is s id true None = refl
-time_left_is s id false None = refl
-time_left_is s id true (Some l) = refl
-time_left_is s id false (Some l) = refl
 
 -- ---- a lease that is not granted
 

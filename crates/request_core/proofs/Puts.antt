@@ -24,7 +24,8 @@ use Rattle.request_core.specs.Writing.{next_rev}
 use Rattle.request_core.specs.State.{CoreState, is_spent, fault_of_put, added_by_put, after_put}
 use Rattle.request_core.specs.Answers.{IsRefusal}
 use Rattle.request_core.specs.Commands.{CarriesOut, Makes, Refuses}
-use Rattle.request_core.proofs.Worlds.{or-none-first, any_moves, made_first, refused_first, commit_made, commit_spent, is_refused}
+use Rattle.request_core.proofs.Worlds.{any_moves, made_first, refused_first, commit_made, commit_spent, is_refused}
+use Rattle.store_laws.proofs.GoodLaws.{or-none-first}
 
 -- what the key holds last is what it holds at the store's revision
 fault-held : (s : Store) (w : World) → StandsFor s w → (p : PutRequest)

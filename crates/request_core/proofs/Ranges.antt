@@ -1,8 +1,7 @@
 -- What a Range does, in each world that the core stands for.
 use Rattle.std.proofs.Common.{◌≡◌, ◌≢◌, ℕ, zero, suc, ℤ, pos, negsuc, List, [], ◌∷◌, Bool, true, false, cond, Option, None, Some}
-use Rattle.std.proofs.Common.{length, nat_eq, nat_lt, refl, sym, ◌∙◌, ap, arith, Bor}
+use Rattle.std.proofs.Common.{nat_lt, refl, sym, ◌∙◌, ap, Bor}
 use Rattle.std.specs.Option.{option_or}
-use Rattle.std.proofs.lemmas.Bool.Decides.{nat_tests}
 use Rattle.kv_model.specs.declared.refusal.Refusal.{Refusal}
 use Rattle.kv_model.specs.declared.refusal.Refusal.TheVariants.{NoKey, Compacted, Future}
 use Rattle.kv_model.specs.declared.call.RangeQuery.{RangeQuery}
@@ -17,13 +16,14 @@ use Rattle.request_core.specs.declared.answer.Todo.TheVariants as todo
 use Rattle.request_core.specs.State.{CoreState}
 use Rattle.request_core.specs.Answers.{is_memory}
 use Rattle.request_core.specs.Commands.{CarriesOut, Refuses}
-use Rattle.request_core.proofs.Worlds.{or-none-second, read_moves, is_refused, own_refusal}
+use Rattle.request_core.proofs.Worlds.{read_moves, is_refused, own_refusal}
+use Rattle.store_laws.proofs.GoodLaws.{or-none}
 
 pub range_done : (s : CoreState) (q : Bor RangeQuery) → refusal_of_range s.store q.now ≡ None
     → CarriesOut s s (Call.range q.now) (todo.Range q)
 range_done s q none = record {
   makes = λ w h. record { after = w; made = range_made s.store w h q.now none; stands = h };
-  allowed = or-none-second _ (revision_refusal s.store.compacted s.store.revision q.now.revision) none;
+  allowed = or-none _ (revision_refusal s.store.compacted s.store.revision q.now.revision) none;
   beside = λ w h. refl;
   moves = read_moves s false;
 }
@@ -54,10 +54,6 @@ range_refuses s q e one = record {
 }
 
 -- ---- its answer
-
-pub empty-length : {X : Type 0} (xs : List X) → nat_eq (length xs) 0 ≡ is_empty xs
-empty-length [] = refl
-empty-length (x ∷ xs) = let ne : length (x ∷ xs) ≢ 0 = omega arith in grind (arith, nat_tests)
 
 either-revision : (n : ℕ) (b : Bool) (r s : RangeReply) → r.revision ≡ n → s.revision ≡ n → (let x : RangeReply = cond b r s in x.revision) ≡ n
 either-revision n true r s h k = h

@@ -14,7 +14,6 @@ use Rattle.kv_model.specs.World.{World, revision}
 use Rattle.kv_model.specs.Step.{made_in, expiry_of, expire, expire_at, revoke_in}
 use Rattle.store_laws.specs.Stands.{Store, StandsFor}
 use Rattle.store_laws.specs.Stores.{refusal_of_revoke, changes_of_revoke}
-use Rattle.store_laws.proofs.KeepingLaws.{rests_kept}
 use Rattle.store_laws.proofs.MoveLaws.{expiry_moves}
 use Rattle.store_laws.proofs.StandsLeases.{leases_stand, revoke_told, revoke_stands, due_stands}
 use Rattle.request_core.specs.declared.answer.Expiry.{Expiry as CoreExpiry}
@@ -144,30 +143,12 @@ revoke_refuses s new id e r same = record {
 
 -- ---- expiry
 
-nothing-due : (w : World) (o : Option Lease) → option_map (λ (l : Lease). l.id) o ≡ None → expire_at w o ≡ (Expiry.nothing, w)
-nothing-due w None e = refl
-nothing-due w (Some l) e = cc
-
 some-due : (w : World) (o : Option Lease) (id : ℤ) → option_map (λ (l : Lease). l.id) o ≡ Some id → expire_at w o ≡ expiry_of id w (revoke_in w id)
 some-due w None id e = cc
 some-due w (Some l) id e = let same : l.id ≡ id = cc in ap (λ j. expiry_of j w (revoke_in w j)) same
 
 due-id : (s : Store) (w : World) → StandsFor s w → option_map (λ (l : Lease). l.id) (due w.clock w.leases) ≡ due_in s
 due-id s w h = ap (λ o. option_map (λ (l : Lease). l.id) o) (sym (due_stands s w h))
-
--- no lease is due
-pub nothing_expires : (s : CoreState) → due_in s.store ≡ None → Expires s s expiry.Nothing
-nothing_expires s none = record {
-  expired = λ w h.
-      let all : expire w ≡ (Expiry.nothing, w) = nothing-due w (due w.clock w.leases) (due-id s.store w h ∙ none) in
-      record {
-        tells = ap (λ x. x.0) (sym all);
-        stands = subst (λ u. StandsFor s.store u) (ap (λ x. x.1) (sym all)) h;
-        keeps = rests_kept w (expire w).1 (keeping_of s) (ap (λ x. x.1.mutations) all) (ap (λ x. x.1.compacted) all);
-      };
-  unchanged = λ none. refl;
-  stamp = refl;
-}
 
 -- the lease that is due expires, and the step is counted
 lease-expires : (s new : CoreState) (id : ℤ) (n : ℕ) → WasRevoked s new id n → due_in s.store ≡ Some id → (w : World) → StandsFor s.store w

@@ -1,11 +1,11 @@
 -- What a transaction does, in each world that the core stands for.
-use Rattle.std.proofs.Common.{◌≡◌, ◌≢◌, ◌⊎◌, inl, inr, ℕ, ◌+◌, ◌<◌, ◌≤◌, ◌^◌, ◌&&◌, List, [], ◌∷◌, ◌++◌, length, map, Vec, Global}
-use Rattle.std.proofs.Common.{Bool, true, false, not, Option, None, Some, Err, refl, sym, ◌∙◌, ap, subst, arith, append-nil}
+use Rattle.std.proofs.Common.{◌≡◌, ◌≢◌, ◌⊎◌, ℕ, ◌+◌, ◌<◌, ◌≤◌, ◌^◌, ◌&&◌, List, [], ◌∷◌, ◌++◌, length, map, Vec, Global}
+use Rattle.std.proofs.Common.{Bool, true, false, not, Option, None, Some, Err, refl, sym, ◌∙◌, ap, subst, arith}
 use Rattle.std.specs.Option.{option_or}
 use Rattle.std.specs.List.{AllByRecursion}
 use Rattle.kv_model.specs.declared.call.Txn.{Txn}
 use Rattle.kv_model.specs.declared.refusal.Refusal.{Refusal}
-use Rattle.kv_model.specs.declared.refusal.Refusal.TheVariants.{Memory, RevisionsSpent}
+use Rattle.kv_model.specs.declared.refusal.Refusal.TheVariants.{RevisionsSpent}
 use Rattle.kv_model.specs.declared.version.Version.{Version}
 use Rattle.kv_model.specs.Calls.{Ops, as_call}
 use Rattle.kv_model.specs.Commands.{txn_view}
@@ -15,7 +15,7 @@ use Rattle.kv_model.specs.Lists.{is_empty}
 use Rattle.store_laws.specs.Plans.{ReadsKept}
 use Rattle.kv_model.specs.Ranges.{refuse_if}
 use Rattle.kv_model.specs.Told.{Reply}
-use Rattle.kv_model.specs.Txns.{Path, next_version, extend_all, static_fault, walk_fault, changes_of, replies_of}
+use Rattle.kv_model.specs.Txns.{Path, next_version, extend_all, static_fault, changes_of, replies_of}
 use Rattle.kv_model.specs.World.{World}
 use Rattle.kv_model.specs.Wire.{changes_beside}
 use Rattle.kv_model.specs.Step.{last_main, made_in, refused_or, commit_at, succeeded, inner_path}
@@ -32,17 +32,16 @@ use Rattle.txn_core.specs.declared.step.Step.{Step}
 use Rattle.txn_core.specs.Steps.{steps_view}
 use Rattle.txn_core.proofs.Walking.{txn_view-out}
 use Rattle.request_core.specs.declared.answer.Todo.TheVariants as todo
-use Rattle.request_core.specs.State.{CoreState, is_spent, with_any, with_versions, fault_of_txn, added_by, added_by_txn, after_txn}
+use Rattle.request_core.specs.State.{CoreState, is_spent, with_any, with_versions, fault_of_txn, added_by_txn, after_txn}
 use Rattle.request_core.specs.Answers.{CanReply, IsRefusal}
 use Rattle.request_core.specs.Commands.{CarriesOut, Makes, Moves, Refuses, takes_memory}
 use Rattle.request_core.proofs.Planned.{planned_at, planned-from, from-now, planned-extends}
-use Rattle.request_core.proofs.Worlds.{grows_by, or-none-first, or-none-second, not-spent, any_moves, changed_by, committed, made_first, refused_first}
-use Rattle.request_core.proofs.Worlds.{commit_made, commit_spent, is_refused, own_refusal}
+use Rattle.request_core.proofs.Worlds.{grows_by, any_moves, changed_by, committed, made_first, refused_first}
+use Rattle.request_core.proofs.Worlds.{commit_made, commit_spent, is_refused}
+use Rattle.store_laws.proofs.GoodLaws.{or-none-first, or-none}
+use Rattle.request_core.proofs.Leased.{any-versions}
 
 -- ---- a transaction is a row of one
-
-pub txn-added : (s : Store) (t : Txn) → added_by s (as_call (txn_view t)) ≡ added_by_txn s (txn_view t)
-txn-added s t = subst (λ (ops : Ops). added_by s (as_call ops) ≡ added_by_txn s ops) (sym (txn_view-out t)) refl
 
 pub txn-beside : (w : World) (t : Txn) → changes_beside w (as_call (txn_view t)) ≡ false
 txn-beside w t = subst (λ (ops : Ops). changes_beside w (as_call ops) ≡ false) (sym (txn_view-out t)) refl
@@ -53,51 +52,10 @@ txn-beside w t = subst (λ (ops : Ops). changes_beside w (as_call ops) ≡ false
 faultless : (s : Store) (ops : Ops) → fault_of_txn s ops ≡ None
     → (static_fault ops ≡ None) × (refusal_of_path s (path_in s ops) ≡ None) × (refuse_if (not (is_empty (changes_of_path s (path_in s ops))) && is_spent s.revision) RevisionsSpent ≡ None)
 faultless s ops none =
-    let rest : option_or (refusal_of_path s (path_in s ops)) (refuse_if (not (is_empty (changes_of_path s (path_in s ops))) && is_spent s.revision) RevisionsSpent) ≡ None = or-none-second (static_fault ops) _ none in
-    (or-none-first (static_fault ops) _ none, or-none-first (refusal_of_path s (path_in s ops)) _ rest, or-none-second (refusal_of_path s (path_in s ops)) _ rest)
-
-is-some : (e : Refusal) (o : Option Refusal) → o ≡ Some e → IsRefusal e o
-is-some e o h = subst (IsRefusal e) (sym h) (own_refusal e)
-
-is-memory : (e : Refusal) (o : Option Refusal) → e ≡ Memory → IsRefusal e o
-is-memory e o h = subst (λ (f : Refusal). IsRefusal f o) (sym h) tt
-
-pub check_refused : (s : Store) (ops : Ops) (e : Refusal) → (static_fault ops ≡ Some e) ⊎ ((walk_fault 0 ops ≡ None) × (e ≡ Memory)) → IsRefusal e (fault_of_txn s ops)
-check_refused s ops e (inl h) = is-some e (fault_of_txn s ops)
-    (ap (λ o. option_or o (option_or (refusal_of_path s (path_in s ops)) (refuse_if (not (is_empty (changes_of_path s (path_in s ops))) && is_spent s.revision) RevisionsSpent))) h)
-check_refused s ops e (inr h) = is-memory e (fault_of_txn s ops) h.1
-
--- the fault of a checked transaction
-checked-fault : (s : Store) (ops : Ops) (o : Option Refusal) → static_fault ops ≡ None → refusal_of_path s (path_in s ops) ≡ o
-    → fault_of_txn s ops ≡ option_or o (refuse_if (not (is_empty (changes_of_path s (path_in s ops))) && is_spent s.revision) RevisionsSpent)
-checked-fault s ops o h g = λ i. option_or (h i) (option_or (g i) (refuse_if (not (is_empty (changes_of_path s (path_in s ops))) && is_spent s.revision) RevisionsSpent))
-
-pub plan_refused : (s : Store) (ops : Ops) (e : Refusal) → static_fault ops ≡ None → (e ≡ Memory) ⊎ (refusal_of_path s (path_in s ops) ≡ Some e) → IsRefusal e (fault_of_txn s ops)
-plan_refused s ops e h (inl g) = is-memory e (fault_of_txn s ops) g
-plan_refused s ops e h (inr g) = is-some e (fault_of_txn s ops) (checked-fault s ops (Some e) h g)
-
--- by the versions that it adds and whether the revisions are spent
-pub planned_fault : (s : Store) (ops : Ops) (vs : List Version) → static_fault ops ≡ None → refusal_of_path s (path_in s ops) ≡ None → vs ≡ added_by_txn s ops
-    → fault_of_txn s ops ≡ refuse_if (not (is_empty vs) && is_spent s.revision) RevisionsSpent
-planned_fault s ops vs h g e = checked-fault s ops None h g ∙ ap (λ b. refuse_if (not b && is_spent s.revision) RevisionsSpent) (mapped (changes_of_path s (path_in s ops)) ∙ ap is_empty (sym e))
-  where
-    mapped : (us : List Mutation) → is_empty us ≡ is_empty (map (next_version s.versions) us)
-    mapped [] = refl
-    mapped (u ∷ us) = refl
-
--- there is a revision for the versions
-pub txn_room : (s : Store) (ops : Ops) (vs : List Version) → fault_of_txn s ops ≡ None → vs ≡ added_by_txn s ops → vs ≢ [] → s.revision < last_main
-txn_room s ops vs none e some = by (changes_of_path s (path_in s ops)) refl
-  where
-    by : (us : List Mutation) → changes_of_path s (path_in s ops) ≡ us → s.revision < last_main
-    by [] is = absurd (some (e ∙ ap (map (next_version s.versions)) is))
-    by (u ∷ us) is = not-spent s.revision (ap (λ us. refuse_if (not (is_empty us) && is_spent s.revision) RevisionsSpent) (sym is) ∙ (faultless s ops none).2)
+    let rest : option_or (refusal_of_path s (path_in s ops)) (refuse_if (not (is_empty (changes_of_path s (path_in s ops))) && is_spent s.revision) RevisionsSpent) ≡ None = or-none (static_fault ops) _ none in
+    (or-none-first (static_fault ops) _ none, or-none-first (refusal_of_path s (path_in s ops)) _ rest, or-none (refusal_of_path s (path_in s ops)) _ rest)
 
 -- ---- what it leaves
-
-some-versions : (s : CoreState) (vs : List Version) → (with_any s vs).store.versions ≡ s.store.versions ++ vs
-some-versions s [] = sym (append-nil s.store.versions)
-some-versions s (v ∷ vs) = refl
 
 some-compacted : (s : CoreState) (vs : List Version) → (with_any s vs).store.compacted ≡ s.store.compacted
 some-compacted s [] = refl
@@ -109,7 +67,7 @@ checked-clear s ops none = (path-checked s.versions s.revision ops (faultless s 
 -- the versions are those that the changes make one after another
 left-versions : (s new : CoreState) (ops : Ops) → fault_of_txn s.store ops ≡ None → new ≡ after_txn s ops
     → new.store.versions ≡ extend_all s.store.versions (changes_of_path s.store (path_in s.store ops))
-left-versions s new ops none e = ap (λ (t : CoreState). t.store.versions) e ∙ some-versions s (added_by_txn s.store ops)
+left-versions s new ops none e = ap (λ (t : CoreState). t.store.versions) e ∙ any-versions s (added_by_txn s.store ops)
     ∙ sym (planned-extends s.store.versions (s.store.revision + 1) (path_in s.store ops) (checked-clear s.store ops none))
 
 left-compacted : (s new : CoreState) (ops : Ops) → new ≡ after_txn s ops → new.store.compacted ≡ s.store.compacted
@@ -201,7 +159,7 @@ txn-makes s new t b inner was w h =
       after = changed_by w us;
       made = txn-told s.store w h t static
           ∙ made_first (refusal_of_path s.store q) _ _ _ (commit_made s.store.revision (reply_of_path s.store q) w us)
-          (or-none-second (static_fault ops) _ was.clear);
+          (or-none (static_fault ops) _ was.clear);
       stands = committed s.store (after_txn s ops).store us w (record {
         stood = h;
         stands = txn_stands s.store w h ops static (omega arith);

@@ -35,14 +35,6 @@ use Rattle.request_core.specs.Commands.{AddsVersions, CarriesOut, Does, IsIssued
 
 -- ---- the first of two refusals
 
-pub or-none-first : {X : Type 0} (a b : Option X) → option_or a b ≡ None → a ≡ None
-or-none-first None b e = refl
-or-none-first (Some x) b e = cc
-
-pub or-none-second : {X : Type 0} (a b : Option X) → option_or a b ≡ None → b ≡ None
-or-none-second None b e = e
-or-none-second (Some x) b e = cc
-
 pub not-spent : (r : ℕ) → refuse_if (is_spent r) RevisionsSpent ≡ None → r < last_main
 not-spent r e = by (nat_lt r last_main) refl e
   where

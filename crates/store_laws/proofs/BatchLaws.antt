@@ -13,7 +13,7 @@ use Rattle.kv_model.specs.declared.version.KeyRange.{KeyRange}
 use Rattle.kv_model.specs.declared.call.Watched.{Watched}
 use Rattle.kv_model.specs.Lists.{IsPart, nothing, keep, leave}
 use Rattle.kv_model.specs.History.{Mutation, now, now_after, dress, value_at, value_now, end_of, rev_le}
-use Rattle.kv_model.specs.Sound.{IsBefore, IsHistory, IsBatch}
+use Rattle.store_laws.specs.Sound.{IsBefore, IsHistory, IsBatch}
 use Rattle.kv_model.specs.History.{KeyValue}
 use Rattle.kv_model.specs.Ranges.{live}
 use Rattle.kv_model.specs.Watches.{WatchEvent, matches, event_of, events_of, before_is_kept}
@@ -65,18 +65,6 @@ part-append zs (keep p) = keep (part-append zs p)
 part-append zs (leave p) = leave (part-append zs p)
 
 -- ---- histories that grow
-
-pub history-front : (ms us : List Mutation) → IsHistory (ms ++ us) → IsHistory ms
-history-front [] us h = tt
-history-front (m ∷ ms) us h = (h.0, front ms us h.1, history-front ms us h.2)
-  where
-    front : (ms us : List Mutation) → AllByRecursion (IsBefore m) (ms ++ us) → AllByRecursion (IsBefore m) ms
-    front [] us h = tt
-    front (n ∷ ms) us h = (h.0, front ms us h.1)
-
-pub history-back : (ms us : List Mutation) → IsHistory (ms ++ us) → IsHistory us
-history-back [] us h = h
-history-back (m ∷ ms) us h = history-back ms us h.2
 
 -- the changes of a later revision go on a history
 pub history-grows : (ms us : List Mutation) (r : ℕ) → IsHistory ms → AllByRecursion (λ m. m.rev.main ≤ r) ms → IsBatch (r + 1) us

@@ -7,12 +7,13 @@ use Rattle.std.proofs.lemmas.List.{append-nil}
 use Rattle.std.proofs.lemmas.List.Elements.{filter-append}
 use Rattle.std.proofs.lemmas.List.Folds.{list_any-append}
 use Rattle.std.specs.List.{AllByRecursion, list_any}
+use Rattle.std.proofs.Math.Bool.{or-false, and-false}
 use Rattle.kv_model.specs.declared.version.Rev.{Rev}
 use Rattle.kv_model.specs.declared.version.Version.{Version}
 use Rattle.kv_model.specs.declared.call.Watched.{Watched}
 use Rattle.kv_model.specs.Keys.{same_key}
 use Rattle.kv_model.specs.History.{Mutation, now, dress, value_at, key_value, rev_le, rev_lt, end_of}
-use Rattle.kv_model.specs.Sound.{IsHistory}
+use Rattle.store_laws.specs.Sound.{IsHistory}
 use Rattle.kv_model.specs.Watches.{event_of, before_is_kept, matches}
 use Rattle.kv_model.specs.Questions.{Question, IsQuestion, IsKept, Answered, answered, IsGood}
 use Rattle.kv_model.specs.History.{is_superseded, is_tombstone}
@@ -57,14 +58,6 @@ none-replace : (c : ℕ) (v : Version) (us : List Version) → AllByRecursion (�
 none-replace c v [] h = refl
 none-replace c v (u ∷ us) h = λ i. replaces-not c v u (λ p. let a : c < u.rev.main = h.0 in let b : u.rev.main ≤ c = p.by in omega arith) i
     || none-replace c v us h.1 i
-
-or-false : (b : Bool) → (b || false) ≡ b
-or-false true = refl
-or-false false = refl
-
-and-false : (b : Bool) → (b && false) ≡ false
-and-false true = refl
-and-false false = refl
 
 superseded-more : (vs us : List Version) (c : ℕ) (v : Version) → AllByRecursion (λ u. c < u.rev.main) us → is_superseded (vs ++ us) c v
     ≡ is_superseded vs c v

@@ -15,7 +15,7 @@ use Rattle.kv_model.specs.History.{value_at, end_of, is_tombstone, is_superseded
 use Rattle.kv_model.specs.Ranges.{plain_range}
 use Rattle.kv_model.specs.Watches.{before_is_kept}
 use Rattle.kv_model.specs.World.{World, revision, versions}
-use Rattle.kv_model.specs.Sound.{IsSound}
+use Rattle.store_laws.specs.Sound.{IsSound}
 use Rattle.kv_model.specs.Questions.{Question, IsKept, answered, IsGood}
 use Rattle.kv_model.specs.Certificates.{HasNeed, Claim, Need}
 use Rattle.kv_model.specs.Certificates.{need_of, claim_of, claims_of, is_met, is_asked, NeedFault, fall_after, first_fall, is_double}

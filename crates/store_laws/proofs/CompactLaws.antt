@@ -9,7 +9,7 @@ use Rattle.kv_model.specs.declared.version.Version.{Version}
 use Rattle.kv_model.specs.declared.call.Watched.{Watched}
 use Rattle.kv_model.specs.declared.refusal.Refusal.TheVariants.{Compacted, Future}
 use Rattle.kv_model.specs.History.{Mutation, KeyValue, now, dress, value_at, end_of}
-use Rattle.kv_model.specs.Sound.{IsHistory}
+use Rattle.store_laws.specs.Sound.{IsHistory}
 use Rattle.kv_model.specs.Ranges.{refuse_if}
 use Rattle.kv_model.specs.Watches.{WatchEvent, event_of, events_of, before_is_kept}
 use Rattle.kv_model.specs.Calls.{Call}

@@ -1,7 +1,7 @@
 -- Which versions answer what is asked from a compaction on.
 use Rattle.std.proofs.Common.{◌≡◌, ℕ, zero, suc, ◌≤◌, pos, List, [], ◌∷◌, ◌++◌, length, Bool, true, false, ◌&&◌, cond, Option, None, Some}
 use Rattle.std.proofs.Common.{option_and_then, is_some, Ok, Err, refl, sym, ◌∙◌, ap, subst, arith}
-use Rattle.std.specs.Prelude.{codes, map, option_to_list, nat_lt}
+use Rattle.std.specs.Prelude.{codes, map, option_to_list}
 use Rattle.std.proofs.lemmas.Bool.{le-ltb}
 use Rattle.kv_model.specs.Keys.{one_key}
 use Rattle.kv_model.specs.Ranges.{live, refuse_if, range_reply}
@@ -19,7 +19,7 @@ use Rattle.kv_model.specs.Watches.{event_of, matches}
 use Rattle.kv_model.specs.Questions.{Question, IsQuestion, IsRangeAt, IsKept, Answered, answered, IsGood}
 use Rattle.store_laws.specs.Laws.{put_delete_put, last_put, LastPutIsLeast}
 use Rattle.store_laws.proofs.KeyLaws.{live-same, live-one}
-use Rattle.store_laws.proofs.HistoryLaws.{last_that-append}
+use Rattle.store_laws.proofs.HistoryLaws.{last_that-append, option_or-none}
 
 place-asked : (r : ℕ) (p : Rev) → 1 ≤ r → read_place (pos r) p ≡ end_of r
 place-asked zero p h = absurd (omega arith)
@@ -108,10 +108,6 @@ latest-out xs v ys p k b e = last_that-append (λ u. same_key u.key k && rev_le 
 latest-rest : (xs ys : List Version) (p : Rev) (k : List ℕ) → latest (xs ++ ys) p k ≡ option_or (latest ys p k) (latest xs p k)
 latest-rest xs ys p k = last_that-append (λ u. same_key u.key k && rev_le u.rev p) xs ys
 
-or_none : {X : Type 0} (o : Option X) → option_or o None ≡ o
-or_none None = refl
-or_none (Some x) = refl
-
 or_some : {X : Type 0} (o p : Option X) → is_some o ≡ true → option_or o p ≡ o
 or_some None p h = cc
 or_some (Some x) p h = refl
@@ -126,7 +122,7 @@ superseded-out xs v ys p k h = by (same_key v.key k && rev_le v.rev p) refl
     by true e = ap (option_and_then key_value) (latest-out xs v ys p k true e
         ∙ ap (λ o. option_or o (latest xs p k)) (or_some (latest ys p k) (Some v) (h e)) ∙ sym (latest-rest xs ys p k))
     by false e = ap (option_and_then key_value) (latest-out xs v ys p k false e
-        ∙ ap (λ o. option_or o (latest xs p k)) (or_none (latest ys p k)) ∙ sym (latest-rest xs ys p k))
+        ∙ ap (λ o. option_or o (latest xs p k)) (option_or-none (latest ys p k)) ∙ sym (latest-rest xs ys p k))
 
 tombstone-shows : (v : Version) → v.body ≡ Gone → key_value v ≡ None
 tombstone-shows v e = ap (shown v.rev.main v.key) e
@@ -147,17 +143,14 @@ tombstone-out xs v ys p k gone h = by (same_key v.key k && rev_le v.rev p) refl
         ∙ later (latest ys p k)
         ∙ sym (ap (option_and_then key_value) (latest-rest xs ys p k ∙ ap (option_or (latest ys p k)) (h e)))
     by false e = ap (option_and_then key_value) (latest-out xs v ys p k false e
-        ∙ ap (λ o. option_or o (latest xs p k)) (or_none (latest ys p k)) ∙ sym (latest-rest xs ys p k))
+        ∙ ap (λ o. option_or o (latest xs p k)) (option_or-none (latest ys p k)) ∙ sym (latest-rest xs ys p k))
 
 -- ---- what answers alike holds alike
 
-not_below : (a b : ℕ) → b ≤ a → nat_lt a b ≡ false
-not_below = le-ltb
-
 not_refused : (c n r : ℕ) (x : ℕ) (k : List ℕ) → IsKept c n r → range_refusal c n (plain_range (x ∷ k) r) ≡ None
 not_refused c n zero x k h = absurd (omega arith)
-not_refused c n (suc r) x k h = λ i. option_or (refuse_if (not_below (suc r) c h.kept i) (Compacted c))
-    (refuse_if (not_below n (suc r) h.past i) (Future n))
+not_refused c n (suc r) x k h = λ i. option_or (refuse_if (le-ltb (suc r) c h.kept i) (Compacted c))
+    (refuse_if (le-ltb n (suc r) h.past i) (Future n))
 
 unfoldable pub kvs_of : Answered → List KeyValue
 kvs_of (Answered.range (Ok r)) = r.kvs

@@ -14,7 +14,7 @@ use Rattle.kv_model.specs.declared.version.KeyRange.{KeyRange}
 use Rattle.kv_model.specs.Lists.{last_that}
 use Rattle.kv_model.specs.Keys.{key_cmp, same_key, in_range}
 use Rattle.kv_model.specs.History.{Mutation, Action, KeyValue, shown, key_value, latest, value_at, rev_le}
-use Rattle.kv_model.specs.Sound.{IsBefore, IsHistory, IsBatch}
+use Rattle.store_laws.specs.Sound.{IsBefore, IsHistory, IsBatch}
 use Rattle.kv_model.specs.Ranges.{insert_key, keys, live, value_within, keys_of}
 use Rattle.kv_model.specs.Txns.{deletes_of}
 use Rattle.store_laws.proofs.HistoryLaws.{same_key-eq}

@@ -14,7 +14,7 @@ use Rattle.kv_model.specs.declared.refusal.Refusal.TheVariants.{NoKey, Compacted
 use Rattle.kv_model.specs.Lists.{is_empty, IsPart}
 use Rattle.kv_model.specs.Keys.{same_key, in_range}
 use Rattle.kv_model.specs.History.{Mutation, now, dress, value_at, value_now, end_of, rev_le}
-use Rattle.kv_model.specs.Sound.{IsChange, IsHistory}
+use Rattle.store_laws.specs.Sound.{IsChange, IsHistory}
 use Rattle.kv_model.specs.Ranges.{keys, live, live_now, value_within, value_now_within, range_reply, reply_from, range_answer}
 use Rattle.kv_model.specs.Ranges.{range_refusal, revision_refusal, refuse_if, unless_refused, read_place}
 use Rattle.kv_model.specs.Questions.{IsKept, IsGood}

@@ -5,6 +5,7 @@ use Rattle.std.specs.Prelude.{nat_lt, nat_le, ◌==◌}
 use Rattle.std.proofs.lemmas.Bool.{le-leb, lt-ltb, eq-eqb}
 use Rattle.std.specs.Option.{option_or}
 use Rattle.std.specs.List.{AllByRecursion}
+use Rattle.std.proofs.Math.Bool.{or-true}
 use Rattle.kv_model.specs.declared.version.Version.{Version}
 use Rattle.kv_model.specs.declared.version.Body.{Body}
 use Rattle.kv_model.specs.declared.version.Body.TheVariants.{Put, Gone}
@@ -12,7 +13,7 @@ use Rattle.kv_model.specs.declared.call.Watched.{Watched}
 use Rattle.kv_model.specs.Lists.{IsPart, IsIn, last_that}
 use Rattle.kv_model.specs.Keys.{same_key}
 use Rattle.kv_model.specs.History.{Mutation, KeyValue, now, dress, latest, value_at, key_value, shown, rev_le, end_of}
-use Rattle.kv_model.specs.Sound.{IsHistory}
+use Rattle.store_laws.specs.Sound.{IsHistory}
 use Rattle.kv_model.specs.Watches.{event_of_by, before_is_kept, matches, wants, plain_watch}
 use Rattle.kv_model.specs.Questions.{Question, IsKept, Answered, answered_by, IsGood, IsLeast}
 use Rattle.kv_model.specs.History.{is_superseded, is_tombstone}
@@ -225,10 +226,6 @@ not-replaced c xs v ys h left = by (ranked v.rev.main c)
 pub tombstone-left : (vs : List Version) (c : ℕ) (v : Version) → is_tombstone v.body ≡ true → IsLeft vs c v → c ≤ v.rev.main
 tombstone-left vs c v gone left = by (ranked c v.rev.main)
   where
-    or-true : (b : Bool) → (b || true) ≡ true
-    or-true true = refl
-    or-true false = refl
-
     by : (c ≤ v.rev.main) ⊎ (v.rev.main < c) → c ≤ v.rev.main
     by (inl a) = a
     by (inr a) = let e : true ≡ false = sym (or-true (is_superseded vs c v)) ∙ (λ i. sym (le-leb v.rev.main c (omega arith)) i

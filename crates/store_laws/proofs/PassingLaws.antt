@@ -2,7 +2,7 @@
 use Rattle.std.proofs.Common.{◌≡◌, ◌≤◌, ◌<◌, ◌≢◌, ℕ, ◌^◌, suc, List, [], ◌∷◌, length, filter, find, Bool, true, false, not, ◌&&◌, cond}
 use Rattle.std.proofs.Common.{Option, None, Some, refl, sym, ◌∙◌, ap, subst, inl, inr, arith}
 use Rattle.std.specs.Prelude.{⊤, option_map, nat_le, ◌==◌}
-use Rattle.std.proofs.lemmas.Bool.{leb-true, eq-eqb, eqb-true, ltb-false}
+use Rattle.std.proofs.lemmas.Bool.{leb-true, eq-eqb, eqb-true, ltb-false, and_parts, not-true}
 use Rattle.std.specs.Option.{option_or}
 use Rattle.std.specs.List.{AllByRecursion}
 use Rattle.std.proofs.lemmas.List.Sums.{length-filter}
@@ -112,15 +112,6 @@ four-true true true false d e = cc
 four-true true false c d e = cc
 four-true false b c d e = cc
 
-two-true : (a b : Bool) → (a && b) ≡ true → (a ≡ true) × (b ≡ true)
-two-true true true e = (refl, refl)
-two-true true false e = cc
-two-true false b e = cc
-
-not-true : (b : Bool) → not b ≡ true → b ≡ false
-not-true true e = cc
-not-true false e = refl
-
 filled-key : (k : List ℕ) → is_empty k ≡ false → k ≢ []
 filled-key [] e f = cc
 filled-key (x ∷ k) e f = cc
@@ -162,7 +153,7 @@ module _ (has_before : ℕ → ℕ → Bool) (d : Dump) (up : AreRising d.versio
             (same-value us d.versions d.floor d.revision r v.key a.has_key a.kept f ∙ shown);
       }
   shows (Need.watch r) e =
-      let t = two-true (is_asked d v r) (v.rev.main == r) e in
+      let t = and_parts (is_asked d v r) (v.rev.main == r) e in
       subst (λ n. Shows has_before d v (Need.watch n)) (eqb-true v.rev.main r t.1)
       (record {
         asked = (asked-of v.rev.main (ap (is_asked d v) (eqb-true v.rev.main r t.1) ∙ t.0)).kept;

@@ -1,9 +1,10 @@
 -- What the walk over a transaction's operations finds of the path that runs.
-use Rattle.std.proofs.Common.{◌≡◌, ◌≢◌, ℕ, suc, List, [], ◌++◌, length, Bool, true, false, ◌||◌, cond, Option, None, Some, refl, sym, ◌∙◌}
+use Rattle.std.proofs.Common.{◌≡◌, ◌≢◌, ℕ, suc, List, [], ◌++◌, length, Bool, true, false, ◌||◌, cond, Option, None, Some, sym, ◌∙◌}
 use Rattle.std.proofs.Common.{ap}
 use Rattle.std.specs.Prelude.{nat_le}
 use Rattle.std.specs.Option.{option_or}
 use Rattle.std.specs.List.{AllByRecursion, list_any, list_all}
+use Rattle.std.proofs.lemmas.Bool.{or_parts}
 use Rattle.kv_model.specs.declared.version.Version.{Version}
 use Rattle.kv_model.specs.declared.call.PutRequest.{PutRequest}
 use Rattle.kv_model.specs.declared.refusal.Refusal.{Refusal}
@@ -42,10 +43,6 @@ path-each P vs now (Ops.txn cs s f rest) h =
     by true a b c = each-append P (path_touches (path_of vs now s)) (path_touches (path_of vs now rest)) a c
     by false a b c = each-append P (path_touches (path_of vs now f)) (path_touches (path_of vs now rest)) b c
 
-or-parts : (a b : Bool) → (a || b) ≡ false → (a ≡ false) × (b ≡ false)
-or-parts true b e = cc
-or-parts false b e = (refl, e)
-
 no-collide : (ts us : List Touch) → any_collide ts us ≡ false → AllByRecursion (λ t. IsClear t us) ts
 no-collide ts us e = each-map (λ t. list_any (collides t) us ≡ false) (λ t. IsClear t us) (λ t f. none-any (collides t) us f) ts
     (none-any (λ t. list_any (collides t) us) ts e)
@@ -56,21 +53,21 @@ unfolding path_of clashes
 path-noclash vs now Ops.no_ops h = tt
 path-noclash vs now (Ops.range q rest) h = path-noclash vs now rest h
 path-noclash vs now (Ops.put p rest) h =
-    let parts : (list_any (collides (Touch.one p.key)) (touches rest) ≡ false) × (clashes rest ≡ false) = or-parts _ _ h in (
+    let parts : (list_any (collides (Touch.one p.key)) (touches rest) ≡ false) × (clashes rest ≡ false) = or_parts _ _ h in (
       path-each (λ u. collides (Touch.one p.key) u ≡ false) vs now rest (none-any (collides (Touch.one p.key)) (touches rest) parts.0),
       path-noclash vs now rest parts.1,
     )
 path-noclash vs now (Ops.delete d rest) h =
-    let parts : (list_any (collides (Touch.each d.range)) (touches rest) ≡ false) × (clashes rest ≡ false) = or-parts _ _ h in (
+    let parts : (list_any (collides (Touch.each d.range)) (touches rest) ≡ false) × (clashes rest ≡ false) = or_parts _ _ h in (
       path-each (λ u. collides (Touch.each d.range) u ≡ false) vs now rest (none-any (collides (Touch.each d.range)) (touches rest) parts.0),
       path-noclash vs now rest parts.1,
     )
 path-noclash vs now (Ops.txn cs s f rest) h =
     let third : (((any_collide (touches s ++ touches f) (touches rest) || clashes s) || clashes f) ≡ false)
-    × (clashes rest ≡ false) = or-parts _ _ h in
-    let second : ((any_collide (touches s ++ touches f) (touches rest) || clashes s) ≡ false) × (clashes f ≡ false) = or-parts _ _ third.0
+    × (clashes rest ≡ false) = or_parts _ _ h in
+    let second : ((any_collide (touches s ++ touches f) (touches rest) || clashes s) ≡ false) × (clashes f ≡ false) = or_parts _ _ third.0
     in
-    let first : (any_collide (touches s ++ touches f) (touches rest) ≡ false) × (clashes s ≡ false) = or-parts _ _ second.0 in
+    let first : (any_collide (touches s ++ touches f) (touches rest) ≡ false) × (clashes s ≡ false) = or_parts _ _ second.0 in
     let clear : AllByRecursion (λ t. IsClear t (path_touches (path_of vs now rest))) (touches s ++ touches f)
     = each-map (λ t. IsClear t (touches rest)) (λ t. IsClear t (path_touches (path_of vs now rest))) (λ t c. path-each (λ u. collides t u
     ≡ false) vs now rest c) (touches s ++ touches f) (no-collide (touches s ++ touches f) (touches rest) first.0) in

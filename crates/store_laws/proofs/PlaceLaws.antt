@@ -7,12 +7,13 @@ use Rattle.std.specs.declared.cmp.Ordering.{Ordering}
 use Rattle.std.specs.declared.cmp.Ordering.TheVariants.{Less, Equal, Greater}
 use Rattle.std.specs.Ordering.{nat_cmp, ordering_then, is_le, MatchOrdering}
 use Rattle.std.specs.Cmp.{ranks}
+use Rattle.std.proofs.Math.Bool.{and-false, and-true}
 use Rattle.kv_model.specs.declared.version.Rev.{Rev}
 use Rattle.kv_model.specs.declared.version.Version.{Version}
 use Rattle.kv_model.specs.Lists.{IsPart, nothing, keep, leave, last_that}
 use Rattle.kv_model.specs.Keys.{same_key}
 use Rattle.kv_model.specs.History.{Mutation, now, now_after, dress, dress_after, latest, value_at, value_now}
-use Rattle.kv_model.specs.Sound.{IsChange, IsBefore, IsHistory}
+use Rattle.store_laws.specs.Sound.{IsChange, IsBefore, IsHistory}
 use Rattle.kv_model.specs.History.{key_value, rev_le, end_of}
 use Rattle.store_laws.proofs.HistoryLaws.{last_that-append}
 use Rattle.store_laws.proofs.RevOrder.{rev_lt-main}
@@ -59,14 +60,6 @@ AreBy p vs = AllByRecursion (λ v. rev_le v.rev p ≡ true) vs
 -- each version stands behind the place
 abbrev pub AreBehind : Rev → List Version → Type 0
 AreBehind p vs = AllByRecursion (λ v. rev_le v.rev p ≡ false) vs
-
-and-false : (b : Bool) → (b && false) ≡ false
-and-false true = refl
-and-false false = refl
-
-and-true : (b : Bool) → (b && true) ≡ b
-and-true true = refl
-and-true false = refl
 
 -- what stands behind the place is not seen
 pub latest-behind : (vs us : List Version) (p : Rev) (k : List ℕ) → AreBehind p us → latest (vs ++ us) p k ≡ latest vs p k

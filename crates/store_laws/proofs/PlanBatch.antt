@@ -9,7 +9,7 @@ use Rattle.kv_model.specs.declared.call.PutRequest.{PutRequest}
 use Rattle.kv_model.specs.declared.call.DeleteRequest.{DeleteRequest}
 use Rattle.kv_model.specs.Keys.{same_key, in_range, one_key}
 use Rattle.kv_model.specs.History.{Mutation, is_put, deletes_key}
-use Rattle.kv_model.specs.Sound.{IsBefore, IsHistory, IsBatch}
+use Rattle.store_laws.specs.Sound.{IsBefore, IsHistory, IsBatch}
 use Rattle.kv_model.specs.Ranges.{keys, keys_of, live_now, value_now_within}
 use Rattle.kv_model.specs.Txns.{Path, Touch, collides, put_change, deletes_of}
 use Rattle.store_laws.specs.Plans.{path_touches, is_deleted, still_live, planned}

@@ -5,7 +5,7 @@ use Rattle.kv_model.specs.declared.version.Version.{Version}
 use Rattle.kv_model.specs.declared.version.KeyRange.{KeyRange}
 use Rattle.kv_model.specs.declared.call.RangeQuery.{RangeQuery}
 use Rattle.kv_model.specs.History.{Mutation, now, dress, value_at, end_of, rev_le}
-use Rattle.kv_model.specs.Sound.{IsHistory}
+use Rattle.store_laws.specs.Sound.{IsHistory}
 use Rattle.kv_model.specs.Ranges.{live, range_reply, reply_from, read_place, revision_refusal}
 use Rattle.kv_model.specs.Txns.{Path, Replies, place_before, previous_value, if_asked, changes_of, replies_of, put_refusal}
 use Rattle.store_laws.specs.Plans.{planned_refusal, ReadsKept}

@@ -4,12 +4,13 @@ use Rattle.std.proofs.Common.{Option, None, Some, refl, sym, ◌∙◌, ap, subs
 use Rattle.std.specs.Prelude.{⊤, nat_le, MatchOption}
 use Rattle.std.proofs.lemmas.Bool.{leb-true, leb-false}
 use Rattle.std.specs.List.{AllByRecursion}
+use Rattle.std.proofs.Math.Bool.{and-false}
 use Rattle.kv_model.specs.declared.version.Rev.{Rev}
 use Rattle.kv_model.specs.declared.version.Version.{Version}
 use Rattle.kv_model.specs.Lists.{IsIn}
 use Rattle.kv_model.specs.History.{now, rev_lt, without_rev}
 use Rattle.kv_model.specs.World.{World}
-use Rattle.kv_model.specs.Sound.{IsSound}
+use Rattle.store_laws.specs.Sound.{IsSound}
 use Rattle.kv_model.specs.Told.{Trimmed}
 use Rattle.kv_model.specs.Questions.{IsGood}
 use Rattle.kv_model.specs.Trimming.{TrimStep, trimmed, trimmed_next, visited, finished, place_after, is_trimmed, IsSettled}
@@ -158,10 +159,6 @@ module _ (w : World) (xs : List Version) (v : Version) (ys : List Version) (p : 
   unfolding next
   stays e = record { good = g; up_to = up_to; trims = trims }
     where
-      and-false : (b : Bool) → (b && false) ≡ false
-      and-false true = refl
-      and-false false = refl
-
       here : IsLeft (xs ++ v ∷ ys) w.compacted v
       here = ap (λ b. nat_le v.rev.main w.compacted && b) e ∙ and-false (nat_le v.rev.main w.compacted)
 

@@ -11,7 +11,7 @@ use Rattle.kv_model.specs.declared.version.Version.{Version}
 use Rattle.kv_model.specs.declared.ids.Ids.{Ids}
 use Rattle.kv_model.specs.Lists.{nothing}
 use Rattle.kv_model.specs.History.{Mutation, now, dress}
-use Rattle.kv_model.specs.Sound.{IsHistory, IsBatch, IsSound}
+use Rattle.store_laws.specs.Sound.{IsHistory, IsBatch, IsSound}
 use Rattle.kv_model.specs.Txns.{added_by}
 use Rattle.kv_model.specs.World.{World, opening}
 use Rattle.kv_model.specs.Questions.{IsGood}

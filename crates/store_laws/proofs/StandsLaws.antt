@@ -11,7 +11,7 @@ use Rattle.kv_model.specs.declared.call.PutRequest.{PutRequest}
 use Rattle.kv_model.specs.declared.call.DeleteRequest.{DeleteRequest}
 use Rattle.kv_model.specs.declared.refusal.Refusal.TheVariants.{KeyMissing, LeaseMissing}
 use Rattle.kv_model.specs.History.{Mutation, now_after, value_at, value_now, end_of, KeyValue}
-use Rattle.kv_model.specs.Sound.{IsChange}
+use Rattle.store_laws.specs.Sound.{IsChange}
 use Rattle.kv_model.specs.Ranges.{live, live_now, range_answer, range_refusal, refuse_if}
 use Rattle.kv_model.specs.Txns.{put_change, put_action, put_refusal, delete_changes, deletes_of}
 use Rattle.kv_model.specs.Leases.{is_granted}

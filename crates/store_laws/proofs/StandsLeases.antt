@@ -1,12 +1,12 @@
 -- What the calls of leases are answered and change, told over a store that stands for the world.
-use Rattle.std.proofs.Common.{◌≡◌, ◌≤◌, ℕ, ◌+◌, ◌^◌, ℤ, List, length, map, Bool, not, Option, None, Some, Ok, filter, refl, sym, ◌∙◌, ap}
+use Rattle.std.proofs.Common.{◌≡◌, ◌≤◌, ◌+◌, ◌^◌, ℤ, List, length, map, Bool, not, Option, None, Some, Ok, filter, refl, sym, ◌∙◌, ap}
 use Rattle.std.proofs.Common.{arith}
-use Rattle.std.specs.Prelude.{nat_lt, nat_le, pos, min, max}
+use Rattle.std.specs.Prelude.{nat_lt, nat_le, pos}
 use Rattle.std.specs.Option.{option_or}
 use Rattle.std.specs.Ordering.{int_eq}
 use Rattle.kv_model.specs.declared.refusal.Refusal.TheVariants.{TtlTooLarge, LeaseExists, TooManyLeases, LeaseMissing}
 use Rattle.kv_model.specs.Keys.{all_keys}
-use Rattle.kv_model.specs.Sound.{IsBatch}
+use Rattle.store_laws.specs.Sound.{IsBatch}
 use Rattle.kv_model.specs.History.{end_of, KeyValue}
 use Rattle.kv_model.specs.Ranges.{live, refuse_if}
 use Rattle.kv_model.specs.Txns.{deletes_of, if_asked}
@@ -14,11 +14,11 @@ use Rattle.kv_model.specs.Calls.{Call}
 use Rattle.kv_model.specs.Told.{Reply}
 use Rattle.kv_model.specs.Leases.{Lease, is_granted, lease_at, id_asked, ttl_asked, deadline_of, longest_ttl, most_leases, insert_lease}
 use Rattle.kv_model.specs.Leases.{without_lease, keys_of_lease, renewed, seconds_left, due}
-use Rattle.kv_model.specs.World.{World, revision, versions, changed, at_moment}
+use Rattle.kv_model.specs.World.{World, revision, versions, changed}
 use Rattle.kv_model.specs.Step.{refused_or, commit_at, grant_in, revoke_in, keep_alive_in, time_to_live_in, made_in}
 use Rattle.store_laws.specs.Stands.{Store, StandsFor, grown_noted}
 use Rattle.store_laws.specs.Stores.{with_leases, refusal_of_grant, granted_lease, refusal_of_revoke, changes_of_revoke, renewed_leases}
-use Rattle.store_laws.specs.Stores.{reply_of_time_to_live, reply_of_leases, at_store_moment}
+use Rattle.store_laws.specs.Stores.{reply_of_time_to_live, reply_of_leases}
 use Rattle.store_laws.proofs.DeleteLaws.{live-ascends, live-given, ascending-some, given-some, deletes-batch}
 use Rattle.store_laws.proofs.StandsLaws.{store-given, live_stands}
 use Rattle.store_laws.proofs.StandsCommands.{store-one}
@@ -34,18 +34,6 @@ leases_stand s w ls h = record {
   compacted = h.compacted;
   leases = refl;
   clock = h.clock;
-  made = h.made;
-  watches = h.watches;
-}
-
-pub moment_stands : (s : Store) (w : World) (m : ℕ) → StandsFor s w → StandsFor (at_store_moment s m) (at_moment w m)
-moment_stands s w m h = record {
-  sound = record { history = h.sound.history; floor = h.sound.floor };
-  good = h.good;
-  revision_is = h.revision_is;
-  compacted = h.compacted;
-  leases = h.leases;
-  clock = ap (λ c. max c (min m (2 ^ 62))) h.clock;
   made = h.made;
   watches = h.watches;
 }

@@ -4,7 +4,7 @@ use Rattle.kv_model.specs.declared.version.Version.{Version}
 use Rattle.kv_model.specs.declared.call.Compare.{Compare}
 use Rattle.kv_model.specs.declared.refusal.Refusal.{Refusal}
 use Rattle.kv_model.specs.History.{Mutation, value_at, end_of}
-use Rattle.kv_model.specs.Sound.{IsBatch}
+use Rattle.store_laws.specs.Sound.{IsBatch}
 use Rattle.kv_model.specs.Calls.{Call, Ops}
 use Rattle.kv_model.specs.Txns.{Path, path_of, effect, run_refusal, replies_of, static_fault, extend_all, added_by}
 use Rattle.store_laws.specs.Plans.{ReadsKept}

@@ -3,7 +3,7 @@ use Rattle.std.proofs.Common.{◌≡◌, ◌≤◌, ℕ, suc, ◌+◌, ℤ, List
 use Rattle.std.proofs.Common.{◌∙◌, ap, arith}
 use Rattle.std.specs.Prelude.{nat_lt, nat_le, ◌||◌, MatchBool, ⊤, Ok}
 use Rattle.std.specs.List.{AllByRecursion}
-use Rattle.std.proofs.lemmas.Bool.{eq-eqb, ltb-false}
+use Rattle.std.proofs.lemmas.Bool.{eq-eqb, ltb-false, and_parts}
 use Rattle.std.proofs.lemmas.Bool.Decides.{nat_tests}
 use Rattle.kv_model.specs.declared.version.Version.{Version}
 use Rattle.kv_model.specs.declared.call.Watched.{Watched}
@@ -13,7 +13,7 @@ use Rattle.kv_model.specs.Ranges.{refuse_if}
 use Rattle.kv_model.specs.Calls.{Call}
 use Rattle.kv_model.specs.Told.{Reply}
 use Rattle.kv_model.specs.History.{Mutation, now, dress}
-use Rattle.kv_model.specs.Sound.{IsChange, IsHistory}
+use Rattle.store_laws.specs.Sound.{IsChange, IsHistory}
 use Rattle.kv_model.specs.Watches.{WatchEvent, matches}
 use Rattle.kv_model.specs.Questions.{IsGood}
 use Rattle.kv_model.specs.World.{World, Watch, revision, versions}
@@ -96,10 +96,6 @@ part-keeps test (leave {y = y} {xs = xs} {ys = ys} k) h =
 
 -- ---- what a watch has still to be told of
 
-and-both : (a b : Bool) → (a && b) ≡ true → (a ≡ true) × (b ≡ true)
-and-both true b e = (refl, e)
-and-both false b e = cc
-
 dressed-above : (ms : List Mutation) → IsHistory ms → AllByRecursion (λ v. 1 ≤ v.rev.main) (dress ms)
 dressed-above ms h = each-dressed (λ p k. 1 ≤ p.main) ms (each-map IsChange (λ m. 1 ≤ m.rev.main) above-one ms (each-change ms h))
 
@@ -113,7 +109,7 @@ good-undelivered vs ms c w g h l = part-keeps test g.part (go (dress ms) (dresse
 
     counted : (v : Version) → v.rev.main ≤ now ms → 1 ≤ v.rev.main → test v ≡ true → IsCounted vs (dress ms) v
     counted v most one t =
-        let parts : (nat_le w.next v.rev.main ≡ true) × (matches w.watched v ≡ true) = and-both _ _ t in
+        let parts : (nat_le w.next v.rev.main ≡ true) × (matches w.watched v ≡ true) = and_parts _ _ t in
         let from : w.next ≤ v.rev.main = grind (arith, nat_tests) in
         let r : ℕ = v.rev.main in
         let same : filter (is_told r w.watched) vs ≡ filter (is_told r w.watched) (dress ms)

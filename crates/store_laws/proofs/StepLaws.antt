@@ -11,7 +11,7 @@ use Rattle.kv_model.specs.declared.version.Version.{Version}
 use Rattle.kv_model.specs.declared.call.Watched.{Watched}
 use Rattle.kv_model.specs.Lists.{IsPart, nothing, keep, leave}
 use Rattle.kv_model.specs.History.{Mutation, now, dress, value_at, end_of, is_superseded, is_tombstone}
-use Rattle.kv_model.specs.Sound.{IsHistory}
+use Rattle.store_laws.specs.Sound.{IsHistory}
 use Rattle.kv_model.specs.Watches.{WatchEvent, event_of, events_of, matches}
 use Rattle.kv_model.specs.Questions.{Question, IsQuestion, Answered, answered, IsGood}
 use Rattle.kv_model.specs.Trimming.{is_trimmed, IsSettled}

@@ -3,6 +3,7 @@ use Rattle.std.proofs.Common.{◌≡◌, ℕ, suc, List, [], ◌∷◌, ◌++◌
 use Rattle.std.proofs.Common.{option_and_then, is_some, filter, refl, sym, ◌∙◌, ap, subst}
 use Rattle.std.specs.Option.{option_or}
 use Rattle.std.specs.List.{AllByRecursion}
+use Rattle.std.proofs.lemmas.Bool.{not-true}
 use Rattle.kv_model.specs.declared.version.Version.{Version}
 use Rattle.kv_model.specs.declared.version.KeyRange.{KeyRange}
 use Rattle.kv_model.specs.Lists.{last_that}
@@ -188,10 +189,6 @@ live_now-in vs r = subst (AllByRecursion (λ k. in_range r k ≡ true)) (sym (li
     (each-map (λ k. is_some (value_now_within vs r k) ≡ true) (λ k. in_range r k
     ≡ true) (shown-in_range vs r) (filter (λ k. is_some (value_now_within vs r k)) (keys vs))
     (all-pass (λ k. is_some (value_now_within vs r k)) (keys vs)))
-
-not-true : (b : Bool) → not b ≡ true → b ≡ false
-not-true true e = cc
-not-true false e = refl
 
 pub still_live-in : (vs : List Version) (us : List Mutation) (r : KeyRange) → AllByRecursion (λ k. in_range r k ≡ true) (still_live vs us r)
 still_live-in vs us r = each-filter (λ k. in_range r k ≡ true) (λ k. not (is_deleted us k)) (keys_of (live_now vs r)) (live_now-in vs r)

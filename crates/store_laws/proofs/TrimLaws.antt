@@ -2,7 +2,7 @@
 use Rattle.std.proofs.Common.{◌≡◌, ◌≤◌, ◌<◌, ◌≢◌, ◌⊎◌, ℕ, ◌^◌, List, [], ◌∷◌, ◌++◌, Bool, true, false, ◌&&◌, ◌||◌, cond, Option, None, Some}
 use Rattle.std.proofs.Common.{is_some, refl, sym, ◌∙◌, ap, inl, inr, arith}
 use Rattle.std.specs.Prelude.{⊤, nat_lt, nat_le}
-use Rattle.std.proofs.lemmas.Bool.{leb-true, le-leb, ltb-true}
+use Rattle.std.proofs.lemmas.Bool.{leb-true, le-leb, ltb-true, and_parts}
 use Rattle.std.proofs.lemmas.List.Folds.{list_any-append}
 use Rattle.std.specs.Option.{option_or}
 use Rattle.std.specs.List.{AllByRecursion, list_any}
@@ -10,6 +10,7 @@ use Rattle.std.specs.declared.cmp.Ordering.{Ordering}
 use Rattle.std.specs.declared.cmp.Ordering.TheVariants.{Less, Equal, Greater}
 use Rattle.std.specs.Ordering.{nat_cmp, MatchOrdering}
 use Rattle.std.specs.Cmp.{ranks}
+use Rattle.std.proofs.Math.Bool.{or-true}
 use Rattle.kv_model.specs.declared.version.Rev.{Rev}
 use Rattle.kv_model.specs.declared.version.Version.{Version}
 use Rattle.kv_model.specs.declared.version.Body.{Body}
@@ -17,7 +18,7 @@ use Rattle.kv_model.specs.declared.version.Body.TheVariants.{Put, Gone}
 use Rattle.kv_model.specs.Lists.{IsPart, nothing, keep, leave}
 use Rattle.kv_model.specs.Keys.{same_key}
 use Rattle.kv_model.specs.History.{Mutation, now, dress, dress_after, latest, value_at, rev_le, rev_lt, end_of}
-use Rattle.kv_model.specs.Sound.{IsChange, IsHistory}
+use Rattle.store_laws.specs.Sound.{IsChange, IsHistory}
 use Rattle.kv_model.specs.History.{is_superseded, is_tombstone}
 use Rattle.kv_model.specs.Trimming.{is_trimmed}
 use Rattle.store_laws.proofs.HistoryLaws.{same_key-eq, AllByRecursion-split}
@@ -25,13 +26,6 @@ use Rattle.store_laws.proofs.Compacting.{superseded-out, tombstone-out}
 use Rattle.store_laws.proofs.PlaceLaws.{each-map, each-part, each-dressed, each-change, mains-by, last_that-none, rev_le-end, rev_le-after}
 use Rattle.store_laws.proofs.KeyLaws.{same-refl}
 use Rattle.store_laws.proofs.RevOrder.{ranked, rev_lt-main, rev_lt-turn, rev_lt-self}
-
--- ---- small steps
-
-pub both-true : (a b : Bool) → (a && b) ≡ true → (a ≡ true) × (b ≡ true)
-both-true true true e = (refl, refl)
-both-true true false e = cc
-both-true false b e = cc
 
 -- ---- versions of a history: they rise, and no key stands twice at one main revision
 
@@ -231,7 +225,7 @@ why-goes vs c v e = by (is_superseded vs c v) refl e
     by : (b : Bool) → is_superseded vs c v ≡ b → (b || (is_tombstone v.body && nat_lt v.rev.main c)) ≡ true
         → (is_superseded vs c v ≡ true) ⊎ (v.body ≡ Gone)
     by true f e = inl f
-    by false f e = inr (gone-body v.body (both-true (is_tombstone v.body) (nat_lt v.rev.main c) e).0)
+    by false f e = inr (gone-body v.body (and_parts (is_tombstone v.body) (nat_lt v.rev.main c) e).0)
 
 -- and where no key stands twice at a revision, it is below the compaction
 pub goes-below : (xs : List Version) (v : Version) (ys : List Version) (c : ℕ) → AreRising (xs ++ v ∷ ys)
@@ -240,7 +234,7 @@ goes-below xs v ys c h e = by (is_superseded (xs ++ v ∷ ys) c v) refl e
   where
     by : (b : Bool) → is_superseded (xs ++ v ∷ ys) c v ≡ b → (b || (is_tombstone v.body && nat_lt v.rev.main c)) ≡ true → v.rev.main < c
     by true f e = low c v ys (rising-mid xs v ys h).1 (sym (superseded-mid xs v ys c (before-mid xs v ys h)) ∙ f)
-    by false f e = ltb-true v.rev.main c (both-true (is_tombstone v.body) (nat_lt v.rev.main c) e).1
+    by false f e = ltb-true v.rev.main c (and_parts (is_tombstone v.body) (nat_lt v.rev.main c) e).1
 
 -- a version at or below the compaction goes, and nothing that stands before it does
 pub record GoesNext (c : ℕ) (xs : List Version) (v : Version) (ys : List Version) : Type 0 where
@@ -278,10 +272,6 @@ out-values c r xs v ys k l h = by (why-goes (xs ++ v ∷ ys) c v h.goes)
     has : (u : Version) → replaces c u v ≡ true → list_any (replaces c u) (xs ++ v ∷ ys) ≡ true
     has u e = list_any-append (replaces c u) xs (v ∷ ys) ∙ ap (λ b. list_any (replaces c u) xs || (b || list_any (replaces c u) ys)) e
         ∙ or-true (list_any (replaces c u) xs)
-      where
-        or-true : (b : Bool) → (b || true) ≡ true
-        or-true true = refl
-        or-true false = refl
 
     earlier : AllByRecursion (λ u. same_key u.key v.key ≡ false) xs
     earlier = no-earlier (xs ++ v ∷ ys) c v xs h.by has h.left h.before

@@ -13,7 +13,7 @@ use Rattle.base64.specs.Decode.{groups_error, groups_bytes, scan_steps}
 use Rattle.serde_json.proofs.OnLiterals.{serde_json_on_literals}
 use Rattle.kv_model.specs.declared.version.Rev.{Rev}
 use Rattle.kv_model.specs.History.{Mutation, Action, put, delete}
-use Rattle.kv_model.specs.Sound.{IsBefore, IsChange, IsHistory}
+use Rattle.store_laws.specs.Sound.{IsBefore, IsChange, IsHistory}
 use Rattle.kv_model.specs.World.{World, opening, revision, versions}
 use Rattle.kv_model.specs.PlainRuns.{Event, step, world_after}
 use Rattle.kv_model.specs.Trimming.{oldest_place}

@@ -5,6 +5,7 @@ use Rattle.std.specs.Prelude.{nat_le}
 use Rattle.std.proofs.lemmas.Bool.{leb-true, le-leb, leb-false}
 use Rattle.std.proofs.lemmas.List.Elements.{filter-append}
 use Rattle.std.specs.List.{AllByRecursion}
+use Rattle.std.proofs.Math.Bool.{and-false}
 use Rattle.kv_model.specs.declared.version.Rev.{Rev}
 use Rattle.kv_model.specs.declared.version.Version.{Version}
 use Rattle.kv_model.specs.Lists.{IsPart}
@@ -59,10 +60,6 @@ settled-from vs p c (u ∷ us) e h = by (rev_lt u.rev p) refl (nat_le u.rev.main
     by false d false f e l rest = (ap (λ t. t && is_trimmed vs c u) f, rest e)
 
 -- ---- a version is looked at
-
-and-false : (b : Bool) → (b && false) ≡ false
-and-false true = refl
-and-false false = refl
 
 module _ (c : ℕ) (xs : List Version) (v : Version) (ys : List Version) (p : Rev) (o : IsOrderly c (xs ++ v ∷ ys))
     (to : IsTrimmedTo (xs ++ v ∷ ys) p c) (all_before : AllByRecursion (λ u. rev_lt u.rev p ≡ true) xs) (from : rev_lt v.rev p ≡ false)

@@ -8,13 +8,13 @@ use Rattle.std.proofs.lemmas.List.Elements.{filter-append}
 use Rattle.std.proofs.lemmas.Bool.Decides.{nat_tests}
 use Rattle.kv_model.specs.declared.version.Version.{Version}
 use Rattle.kv_model.specs.History.{Mutation, now, now_after}
-use Rattle.kv_model.specs.Sound.{IsBatch}
+use Rattle.store_laws.specs.Sound.{IsBatch}
 use Rattle.kv_model.specs.Watches.{matches}
 use Rattle.kv_model.specs.Txns.{added_by}
 use Rattle.kv_model.specs.World.{World, Watch, revision, versions, changed}
 use Rattle.kv_model.specs.Watches.{undelivered}
 use Rattle.store_laws.specs.Stands.{Store, Tracked, TracksNext, Tracks, TracksAll, StandsFor, first_main_of, ahead_of, is_reached}
-use Rattle.store_laws.specs.Stands.{still_ahead, noted, grown, grown_noted}
+use Rattle.store_laws.specs.Stands.{still_ahead, noted, grown_noted}
 use Rattle.store_laws.proofs.PlaceLaws.{each-map}
 use Rattle.store_laws.proofs.BatchLaws.{history-more, now-least, good-grows, dress-added, added_by-same, each-added}
 use Rattle.store_laws.proofs.StandsLaws.{value_now_stands, grown_revision}
@@ -123,8 +123,3 @@ noted_stands s w h us b = record {
 
     floor : w.compacted ≤ now (w.mutations ++ us)
     floor = let l : now w.mutations ≤ now (w.mutations ++ us) = now-least w.mutations us batch.at in omega (arith, h.sound.floor)
-
--- a store without watches just grows
-pub noted_quiet : (s : Store) → s.watches ≡ [] → (us : List Mutation) → grown_noted s us ≡ grown s us
-noted_quiet s none us = ap (λ ts. record (grown s us) { watches = map (noted (added_by s.versions us) (now_after s.revision us)) ts }) none
-    ∙ sym (ap (λ ts. record (grown s us) { watches = ts }) none)

@@ -5,7 +5,7 @@ use Rattle.kv_model.specs.declared.version.Rev.{Rev}
 use Rattle.kv_model.specs.declared.version.Version.{Version}
 use Rattle.kv_model.specs.declared.ids.Ids.{Ids}
 use Rattle.kv_model.specs.History.{Mutation}
-use Rattle.kv_model.specs.Sound.{IsBatch}
+use Rattle.store_laws.specs.Sound.{IsBatch}
 use Rattle.kv_model.specs.World.{World, opening, revision, added}
 use Rattle.kv_model.specs.Trimming.{trimmed, oldest_place}
 use Rattle.kv_model.specs.Certificates.{claims_of}
@@ -68,7 +68,8 @@ pub record Compacts (w u : World) : Type 0 where
 -- each event makes one of the two, and none is a Compact that waits for trimming
 abbrev pub AreMoves : Ids → World → List WireEvent → Type 0
 AreMoves ids w [] = ⊤
-AreMoves ids w (e ∷ es) = (is_physical w e ≡ false) × (AddsBatch w (wire_step ids w e).1 ⊎ Compacts w (wire_step ids w e).1) × AreMoves ids (wire_step ids w e).1 es
+AreMoves ids w (e ∷ es) = (is_physical w e ≡ false)
+    × (AddsBatch w (wire_step ids w e).1 ⊎ Compacts w (wire_step ids w e).1) × AreMoves ids (wire_step ids w e).1 es
 
 -- the outcomes by the rule make a run
 abbrev pub RuleMakesRun : Type 0

@@ -9,7 +9,8 @@ use Rattle.kv_model.specs.Changes.{untrimmed, change_of, change_of_expiry}
 
 -- what a command publishes leads from its world to the world after it
 abbrev pub CommandIsPublished : Type 0
-CommandIsPublished = (w : World) (call : Call) → fold grow (untrimmed w) (change_of w call) ≡ untrimmed (perform w call).1
+CommandIsPublished = (w : World) (call : Call)
+    → fold grow (untrimmed w) (change_of w call) ≡ untrimmed (perform w call).1
 
 -- and so does what an expiry step publishes
 abbrev pub ExpiryIsPublished : Type 0

@@ -9,7 +9,7 @@ use Rattle.kv_model.specs.declared.call.PutRequest.{PutRequest}
 use Rattle.kv_model.specs.declared.call.DeleteRequest.{DeleteRequest}
 use Rattle.kv_model.specs.declared.refusal.Refusal.{Refusal}
 use Rattle.kv_model.specs.History.{Mutation, now, dress, value_at, value_now, rev_le, end_of}
-use Rattle.kv_model.specs.Sound.{IsHistory, IsBatch}
+use Rattle.store_laws.specs.Sound.{IsHistory, IsBatch}
 use Rattle.kv_model.specs.Ranges.{live, range_answer}
 use Rattle.kv_model.specs.Txns.{extend_all, added_by}
 use Rattle.kv_model.specs.Calls.{Call}
@@ -30,11 +30,13 @@ HistoryGoesOn = (ms us : List Mutation) → IsHistory ms → IsBatch (now ms + 1
 
 -- what stands behind a place is not seen from it
 abbrev pub LaterIsNotSeen : Type 0
-LaterIsNotSeen = (vs us : List Version) (p : Rev) (k : List ℕ) → AllByRecursion (λ v. rev_le v.rev p ≡ false) us → value_at (vs ++ us) p k ≡ value_at vs p k
+LaterIsNotSeen = (vs us : List Version) (p : Rev) (k : List ℕ) → AllByRecursion (λ v. rev_le v.rev p ≡ false) us
+    → value_at (vs ++ us) p k ≡ value_at vs p k
 
 -- at the end of its last revision a key holds what it holds at last
 abbrev pub LastIsPresent : Type 0
-LastIsPresent = (ms : List Mutation) → IsHistory ms → (k : List ℕ) → value_at (dress ms) (end_of (now ms)) k ≡ value_now (dress ms) k
+LastIsPresent = (ms : List Mutation) → IsHistory ms → (k : List ℕ)
+    → value_at (dress ms) (end_of (now ms)) k ≡ value_now (dress ms) k
 
 -- ---- revisions
 
@@ -64,12 +66,14 @@ ExpiryTellsRaise = (w : World) → says_raised (expire w).0 ≡ is_some (raised 
 
 -- a good part holds at each kept revision what the whole history holds
 abbrev pub GoodHoldsTheSame : Type 0
-GoodHoldsTheSame = (vs : List Version) (ms : List Mutation) (c r : ℕ) (k : List ℕ) → IsGood vs ms c → IsHistory ms → IsKept c (now ms) r
+GoodHoldsTheSame = (vs : List Version) (ms : List Mutation) (c r : ℕ) (k : List ℕ) → IsGood vs ms c → IsHistory ms
+    → IsKept c (now ms) r
     → value_at vs (end_of r) k ≡ value_at (dress ms) (end_of r) k
 
 -- and answers every Range as it does, whatever is asked
 abbrev pub GoodAnswersTheSame : Type 0
-GoodAnswersTheSame = (vs : List Version) (ms : List Mutation) (c : ℕ) (q : RangeQuery) → IsGood vs ms c → IsHistory ms → c ≤ now ms
+GoodAnswersTheSame = (vs : List Version) (ms : List Mutation)
+    (c : ℕ) (q : RangeQuery) → IsGood vs ms c → IsHistory ms → c ≤ now ms
     → range_answer vs c (now ms) (end_of (now ms)) q ≡ range_answer (dress ms) c (now ms) (end_of (now ms)) q
 
 -- a good part stays good as it and the history grow by one command
@@ -92,24 +96,30 @@ StoreGoesOn = (s : Store) (w : World) → StandsFor s w → (us : List Mutation)
 
 -- a Range that is not refused is answered from the store
 abbrev pub StoreAnswersRange : Type 0
-StoreAnswersRange = (s : Store) (w : World) → StandsFor s w → (q : RangeQuery) → refusal_of_range s q ≡ None → made_in w (Call.range q) ≡ Ok (reply_of_range s q, w)
+StoreAnswersRange = (s : Store) (w : World) → StandsFor s w → (q : RangeQuery) → refusal_of_range s q ≡ None
+    → made_in w (Call.range q) ≡ Ok (reply_of_range s q, w)
 
 abbrev pub StoreRefusesRange : Type 0
-StoreRefusesRange = (s : Store) (w : World) → StandsFor s w → (q : RangeQuery) (e : Refusal) → refusal_of_range s q ≡ Some e → made_in w (Call.range q) ≡ Err e
+StoreRefusesRange = (s : Store) (w : World) → StandsFor s w → (q : RangeQuery) (e : Refusal)
+    → refusal_of_range s q ≡ Some e → made_in w (Call.range q) ≡ Err e
 
 -- a Put is refused, answered and made as the store tells
 abbrev pub StoreTellsPut : Type 0
 StoreTellsPut = (s : Store) (w : World) → StandsFor s w → (p : PutRequest)
-    → made_in w (Call.put p) ≡ refused_or (refusal_of_put s p) (commit_at s.revision (reply_of_put s p) w (changes_of_put s p))
+    → made_in w (Call.put p)
+    ≡ refused_or (refusal_of_put s p) (commit_at s.revision (reply_of_put s p) w (changes_of_put s p))
 
 -- and is a change of the next revision
 abbrev pub PutIsBatch : Type 0
-PutIsBatch = (s : Store) (w : World) → StandsFor s w → (p : PutRequest) → p.key ≢ [] → IsBatch (s.revision + 1) (changes_of_put s p)
+PutIsBatch = (s : Store) (w : World) → StandsFor s w → (p : PutRequest) → p.key ≢ []
+    → IsBatch (s.revision + 1) (changes_of_put s p)
 
 abbrev pub StoreTellsDelete : Type 0
 StoreTellsDelete = (s : Store) (w : World) → StandsFor s w → (d : DeleteRequest)
-    → made_in w (Call.delete d) ≡ refused_or (refusal_of_delete d) (commit_at s.revision (reply_of_delete s d) w (changes_of_delete s d))
+    → made_in w (Call.delete d)
+    ≡ refused_or (refusal_of_delete d) (commit_at s.revision (reply_of_delete s d) w (changes_of_delete s d))
 
 abbrev pub DeletesAreBatch : Type 0
-DeletesAreBatch = (s : Store) (w : World) → StandsFor s w → (d : DeleteRequest) → length (live s.versions (end_of s.revision) d.range) ≤ 2 ^ 64
+DeletesAreBatch = (s : Store) (w : World) → StandsFor s w → (d : DeleteRequest)
+    → length (live s.versions (end_of s.revision) d.range) ≤ 2 ^ 64
     → IsBatch (s.revision + 1) (changes_of_delete s d)

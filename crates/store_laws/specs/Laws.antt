@@ -12,7 +12,7 @@ use Rattle.kv_model.specs.Txns.{extend, Touch, collides}
 use Rattle.kv_model.specs.Questions.{IsLeast}
 use Rattle.kv_model.specs.Feed.{Published, store_of, absorb}
 use Rattle.kv_model.specs.World.{opening}
-use Rattle.kv_model.specs.Sound.{IsSound}
+use Rattle.store_laws.specs.Sound.{IsSound}
 use Rattle.store_laws.specs.Stands.{Store, StandsFor}
 use Rattle.kv_model.specs.declared.ids.Ids.{Ids}
 use Rattle.kv_model.specs.Headline.{IsRun}
@@ -26,7 +26,8 @@ abbrev pub DressGoesOn : Type 0
 DressGoesOn = (ms : List Mutation) (m : Mutation) → dress (ms ++ m ∷ []) ≡ extend (dress ms) m
 
 abbrev pub LiveKeysAreByValue : Type 0
-LiveKeysAreByValue = (us vs : List Version) (p : Rev) (r : KeyRange) → ((k : List ℕ) → value_at us p k ≡ value_at vs p k) → live us p r ≡ live vs p r
+LiveKeysAreByValue = (us vs : List Version) (p : Rev) (r : KeyRange)
+    → ((k : List ℕ) → value_at us p k ≡ value_at vs p k) → live us p r ≡ live vs p r
 
 -- each key is below those after it
 abbrev pub IsStrictlyAscending : List (List ℕ) → Type 0
@@ -41,7 +42,8 @@ CollidesIsSymmetric = (t u : Touch) → collides t u ≡ collides u t
 
 -- a key that was deleted last holds nothing
 abbrev pub NothingAfterDelete : Type 0
-NothingAfterDelete = (ms : List Mutation) (p q : Rev) (k : List ℕ) → IsBy p (ms ++ (record { rev = q; key = k; action = Action.delete }) ∷ [])
+NothingAfterDelete = (ms : List Mutation) (p q : Rev) (k : List ℕ)
+    → IsBy p (ms ++ (record { rev = q; key = k; action = Action.delete }) ∷ [])
     → value_at (dress (ms ++ (record { rev = q; key = k; action = Action.delete }) ∷ [])) p k ≡ None
 
 -- the put after a tombstone starts again at version 1
@@ -57,7 +59,8 @@ FirstAfterDelete = (ms : List Mutation) (p q : Rev) (k value : List ℕ) (lease 
 
 -- a range that has no key shows none
 abbrev pub EmptyRangeIsEmpty : Type 0
-EmptyRangeIsEmpty = (vs : List Version) (p : Rev) (r : KeyRange) → ((k : List ℕ) → in_range r k ≡ false) → live vs p r ≡ []
+EmptyRangeIsEmpty = (vs : List Version) (p : Rev) (r : KeyRange) → ((k : List ℕ) → in_range r k ≡ false)
+    → live vs p r ≡ []
 
 -- ---- a worked compaction: a is put and deleted, b is put, and all is compacted at 4
 

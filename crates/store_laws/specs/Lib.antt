@@ -1,3 +1,4 @@
+pub mod Sound
 pub mod Plans
 pub mod FeedLaws
 pub mod Stands

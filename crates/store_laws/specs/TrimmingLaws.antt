@@ -5,7 +5,7 @@ use Rattle.std.specs.List.{AllByRecursion}
 use Rattle.kv_model.specs.declared.version.Rev.{Rev}
 use Rattle.kv_model.specs.declared.version.Version.{Version}
 use Rattle.kv_model.specs.History.{Mutation, now, rev_lt}
-use Rattle.kv_model.specs.Sound.{IsHistory, IsSound}
+use Rattle.store_laws.specs.Sound.{IsHistory, IsSound}
 use Rattle.kv_model.specs.World.{World}
 use Rattle.kv_model.specs.Told.{Trimmed}
 use Rattle.kv_model.specs.Questions.{IsGood, IsLeast, IsLeastBy}
@@ -18,15 +18,18 @@ use Rattle.kv_model.specs.Headline.{Keeping, Trims, IsTrimmed, IsCertificate, du
 
 -- what answers, and has nothing left to take out, is a least list
 abbrev pub SettledIsLeast : Type 0
-SettledIsLeast = (ms : List Mutation) (c : ℕ) (vs : List Version) → IsHistory ms → c ≤ now ms → IsGood vs ms c → IsSettled vs c → IsLeast vs ms c
+SettledIsLeast = (ms : List Mutation) (c : ℕ) (vs : List Version) → IsHistory ms → c ≤ now ms
+    → IsGood vs ms c → IsSettled vs c → IsLeast vs ms c
 
 -- there is one least list
 abbrev pub LeastIsOne : Type 0
-LeastIsOne = (ms : List Mutation) (c : ℕ) (us vs : List Version) → IsHistory ms → c ≤ now ms → IsLeast us ms c → IsLeast vs ms c → us ≡ vs
+LeastIsOne = (ms : List Mutation) (c : ℕ) (us vs : List Version) → IsHistory ms
+    → c ≤ now ms → IsLeast us ms c → IsLeast vs ms c → us ≡ vs
 
 -- where nothing is left to take out, the certificate passes its check and each of its needs is one
 abbrev pub SettledIsCertified : Type 0
-SettledIsCertified = (w : World) (vs : List Version) → IsSound w → IsGood vs w.mutations w.compacted → IsSettled vs w.compacted → IsCertificate w vs (claims_of (dump_of w vs))
+SettledIsCertified = (w : World) (vs : List Version) → IsSound w → IsGood vs w.mutations w.compacted
+    → IsSettled vs w.compacted → IsCertificate w vs (claims_of (dump_of w vs))
 
 -- each listed version has its claimed need in the list, and no shorter part of the list answers as it does
 pub record IsLeastOfItself (has_before : ℕ → ℕ → Bool) (d : Dump) (claims : List Claim) : Type 0 where
@@ -37,7 +40,8 @@ pub record IsLeastOfItself (has_before : ℕ → ℕ → Bool) (d : Dump) (claim
 -- bits
 abbrev pub PassingIsLeast : Type 0
 PassingIsLeast = (has_before : ℕ → ℕ → Bool) (d : Dump) (claims : List Claim)
-    → AllByRecursion (λ v. v.rev.sub < 2 ^ 64) d.versions → first_fault d claims ≡ None → IsLeastOfItself has_before d claims
+    → AllByRecursion (λ v. v.rev.sub < 2 ^ 64) d.versions → first_fault d claims ≡ None
+    → IsLeastOfItself has_before d claims
 
 -- ---- a step by the rule
 
@@ -68,7 +72,8 @@ pub record StepsWell (w : World) (vs : List Version) (p : Rev) (certificate : Op
 abbrev pub TrimmedStepsWell : Type 0
 TrimmedStepsWell = (w : World) (vs : List Version) (p : Rev) (certificate : Option (List Claim)) → IsSound w
     → w.compacted < 2 ^ 63
-    → IsGood vs w.mutations w.compacted → IsTrimmedTo vs p w.compacted → IsOwn w vs certificate → StepsWell w vs p certificate (trimmed vs p w.compacted)
+    → IsGood vs w.mutations w.compacted → IsTrimmedTo vs p w.compacted
+    → IsOwn w vs certificate → StepsWell w vs p certificate (trimmed vs p w.compacted)
 
 -- where a step by the rule says that it is done, a least list is kept and nothing is left to visit
 abbrev pub DoneIsTrimmed : Type 0
@@ -93,8 +98,10 @@ pub record GoesOn (vs us : List Version) (p : Rev) (c : ℕ) : Type 0 where
   pub ahead : (keeping (vs ++ us) p c).ahead ≡ (keeping vs p c).ahead
 
 abbrev pub TrimmingGoesOn : Type 0
-TrimmingGoesOn = (vs us : List Version) (p : Rev) (c : ℕ) → AllByRecursion (λ u. c < u.rev.main) us → IsTrimmedTo vs p c → GoesOn vs us p c
+TrimmingGoesOn = (vs us : List Version) (p : Rev) (c : ℕ) → AllByRecursion (λ u. c < u.rev.main) us → IsTrimmedTo vs p c
+    → GoesOn vs us p c
 
 -- what answers from a compaction on answers from a later one on
 abbrev pub GoodStaysGood : Type 0
-GoodStaysGood = (ms : List Mutation) (c d : ℕ) (vs : List Version) → IsHistory ms → c ≤ d → d ≤ now ms → IsGood vs ms c → IsGood vs ms d
+GoodStaysGood = (ms : List Mutation) (c d : ℕ) (vs : List Version) → IsHistory ms → c ≤ d → d ≤ now ms → IsGood vs ms c
+    → IsGood vs ms d

@@ -1,6 +1,14 @@
 //! Laws of the definitions, each the contract of a function that does nothing.
-ghost use Rattle.store_laws.specs.Laws.{DressGoesOn, LiveKeysAreByValue, KeysAscend, CollidesIsSymmetric, NothingAfterDelete, FirstAfterDelete, EmptyRangeIsEmpty, LastPutIsLeast, EmptyRunIsRun, OpeningIsSound, BlankStands, FeedGoesOn};
-ghost use Rattle.store_laws.specs.Growth.{HistoryGoesOn, LaterIsNotSeen, LastIsPresent, GoodHoldsTheSame, GoodAnswersTheSame, GoodGoesOn, GoodAddsTheSame, CommandRaisesByOne, ExpiryRaisesByOne, ExpiryTellsRaise, StoreGoesOn, StoreAnswersRange, StoreRefusesRange, StoreTellsPut, PutIsBatch, StoreTellsDelete, DeletesAreBatch};
+ghost use Rattle.store_laws.specs.Laws.{DressGoesOn, LiveKeysAreByValue, KeysAscend};
+ghost use Rattle.store_laws.specs.Laws.{CollidesIsSymmetric, NothingAfterDelete, FirstAfterDelete};
+ghost use Rattle.store_laws.specs.Laws.{EmptyRangeIsEmpty, LastPutIsLeast};
+ghost use Rattle.store_laws.specs.Laws.{EmptyRunIsRun, OpeningIsSound, BlankStands, FeedGoesOn};
+ghost use Rattle.store_laws.specs.Growth.{HistoryGoesOn, LaterIsNotSeen, LastIsPresent};
+ghost use Rattle.store_laws.specs.Growth.{GoodHoldsTheSame, GoodAnswersTheSame, GoodGoesOn};
+ghost use Rattle.store_laws.specs.Growth.{GoodAddsTheSame, CommandRaisesByOne, ExpiryRaisesByOne};
+ghost use Rattle.store_laws.specs.Growth.{ExpiryTellsRaise, StoreGoesOn, StoreAnswersRange};
+ghost use Rattle.store_laws.specs.Growth.{StoreRefusesRange, StoreTellsPut, PutIsBatch};
+ghost use Rattle.store_laws.specs.Growth.{StoreTellsDelete, DeletesAreBatch};
 
 /// A version follows from the last one of its key.
 pub fn dress_goes_on()

@@ -2,6 +2,7 @@
 use Rattle.std.proofs.Common.{◌≡◌, ℕ, List, [], ◌∷◌, Bool, true, false, ◌&&◌, ◌||◌, cond, filter, refl, ◌∙◌, ap}
 use Rattle.std.specs.Prelude.{nat_le, nat_lt}
 use Rattle.std.specs.List.{AllByRecursion, list_any}
+use Rattle.std.proofs.lemmas.Bool.{or_parts}
 use Rattle.kv_model.specs.declared.version.Rev.{Rev}
 use Rattle.kv_model.specs.declared.version.Version.{Version}
 use Rattle.kv_model.specs.Keys.{same_key}
@@ -9,13 +10,9 @@ use Rattle.kv_model.specs.History.{rev_lt, is_superseded, is_tombstone}
 use Rattle.kv_model.specs.Trimming.{is_trimmed}
 use Rattle.trim_core.specs.Steps.{FewerStayTrimmed}
 
-neither : (a b : Bool) → (a || b) ≡ false → (a ≡ false) × (b ≡ false)
-neither true b e = cc
-neither false b e = (refl, e)
-
 any-filter : (s t : Version → Bool) (vs : List Version) → list_any s vs ≡ false → list_any s (filter t vs) ≡ false
 any-filter s t [] e = refl
-any-filter s t (v ∷ vs) e = let n = neither (s v) (list_any s vs) e in by (t v) n.0 (any-filter s t vs n.1)
+any-filter s t (v ∷ vs) e = let n = or_parts (s v) (list_any s vs) e in by (t v) n.0 (any-filter s t vs n.1)
   where
     by : (b : Bool) → s v ≡ false → list_any s (filter t vs) ≡ false → list_any s (cond b (v ∷ filter t vs) (filter t vs)) ≡ false
     by true h rest = ap (λ b. b || list_any s (filter t vs)) h ∙ rest
@@ -29,7 +26,7 @@ fewer-superseded vs t c v e = any-filter (λ u. same_key u.key v.key && rev_lt v
 fewer-goes : (vs : List Version) (t : Version → Bool) (c : ℕ) (v : Version) → is_trimmed vs c v ≡ false
     → is_trimmed (filter t vs) c v ≡ false
 fewer-goes vs t c v e =
-    let n = neither (is_superseded vs c v) (is_tombstone v.body && nat_lt v.rev.main c) e in
+    let n = or_parts (is_superseded vs c v) (is_tombstone v.body && nat_lt v.rev.main c) e in
     ap (λ b. b || (is_tombstone v.body && nat_lt v.rev.main c)) (fewer-superseded vs t c v n.0) ∙ n.1
 
 module _ (vs : List Version) (t : Version → Bool) (p : Rev) (c : ℕ) where

@@ -4,6 +4,7 @@ use Rattle.std.proofs.Common.{cond, find, Option, None, Some, refl, sym, ◌∙�
 use Rattle.std.specs.Prelude.{nat_le, nat_lt}
 use Rattle.std.proofs.lemmas.Bool.Decides.{nat_tests}
 use Rattle.std.specs.List.{AllByRecursion, list_any}
+use Rattle.std.proofs.Math.Bool.{or-true}
 use Rattle.kv_model.specs.declared.version.Rev.{Rev}
 use Rattle.kv_model.specs.declared.version.Version.{Version}
 use Rattle.kv_model.specs.Keys.{same_key}
@@ -34,10 +35,6 @@ low vs p c v e = by (find (λ u. not (rev_lt u.rev p)) vs) e
 
 lower-number : (a b c : ℕ) → a ≤ b → nat_le b c ≡ true → nat_le a c ≡ true
 lower-number a b c h g = grind (arith, nat_tests)
-
-or-true : (b : Bool) → (b || true) ≡ true
-or-true true = refl
-or-true false = refl
 
 any-middle : (t : Version → Bool) (xs : List Version) (v : Version) (ys : List Version) → t v ≡ true → list_any t (xs ++ v ∷ ys) ≡ true
 any-middle t [] v ys h = ap (λ b. b || list_any t ys) h

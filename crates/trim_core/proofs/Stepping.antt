@@ -135,10 +135,10 @@ abbrev is_by : ℕ → Option Rev → Bool
 is_by c None = false
 is_by c (Some q) = nat_le q.main c
 
-above-number : (a b c : ℕ) → a ≤ b → nat_le a c ≡ false → nat_le b c ≡ false
+pub above-number : (a b c : ℕ) → a ≤ b → nat_le a c ≡ false → nat_le b c ≡ false
 above-number a b c h g = grind (arith, nat_tests)
 
-none-of : (a b : Bool) → (a && b && false) ≡ false
+pub none-of : (a b : Bool) → (a && b && false) ≡ false
 none-of true true = refl
 none-of true false = refl
 none-of false b = refl

@@ -5,7 +5,7 @@ use Rattle.std.specs.Prelude.{⊤}
 use Rattle.std.specs.List.{AllByRecursion, list_any}
 use Rattle.std.proofs.lemmas.Bool.Decides.{nat_tests}
 use Rattle.std.proofs.lemmas.List.Folds.{list_any-append}
-use Rattle.std.proofs.lemmas.List.{append-nil}
+use Rattle.std.proofs.Math.Bool.{or-false, or-true}
 use Rattle.kv_model.specs.declared.call.RangeQuery.{RangeQuery}
 use Rattle.kv_model.specs.declared.call.PutRequest.{PutRequest}
 use Rattle.kv_model.specs.declared.call.DeleteRequest.{DeleteRequest}
@@ -30,14 +30,6 @@ use Rattle.txn_core.proofs.Walking.{txn_view-out, op_view-Range, op_view-Put, op
 use Rattle.txn_core.proofs.Elements.{At, from-here}
 
 -- ---- laws of or
-
-or-true : (a : Bool) → true ≡ (a || true)
-or-true true = refl
-or-true false = refl
-
-or-false : (a : Bool) → (a || false) ≡ a
-or-false true = refl
-or-false false = refl
 
 exchange : (a b c d : Bool) → ((a || b) || (c || d)) ≡ ((a || c) || (b || d))
 exchange true b c d = refl
@@ -65,11 +57,11 @@ later-txn false true g h c d e = refl
 later-txn false false g h c d e = past (g || h) c d e
 
 order : (p q w u v : Bool) → ((p || q) || (w || (u || v))) ≡ (((q || v) || w) || (p || u))
-order true q w u v = or-true ((q || v) || w)
+order true q w u v = sym (or-true ((q || v) || w))
 order false true w u v = refl
 order false false true u true = refl
 order false false true u false = refl
-order false false false true v = or-true (v || false)
+order false false false true v = sym (or-true (v || false))
 order false false false false true = refl
 order false false false false false = refl
 
@@ -120,7 +112,7 @@ meets-put true s y a h = refl
 meets-put false s y a h = ap (λ b. s || (b || a)) (sym h)
 
 meets-each : (x s a : Bool) → (x || (s || a)) ≡ (s || ((x || false) || a))
-meets-each true s a = or-true s
+meets-each true s a = sym (or-true s)
 meets-each false s a = refl
 
 or-same : (b c : Bool) → c ≡ b → (b || (c || false)) ≡ b
@@ -272,10 +264,6 @@ clashes-txn t =
     let f = ops_view (out-Txn t).failure.items in
     ap clashes (txn_view-out t) ∙ first-of (any_collide (touches s ++ touches f) []) (clashes s) (clashes f)
     (any_collide-none (touches s ++ touches f))
-
-pub touches-txn : (t : Txn) → touches (txn_view t)
-    ≡ touches (ops_view (out-Txn t).success.items) ++ touches (ops_view (out-Txn t).failure.items)
-touches-txn t = ap touches (txn_view-out t) ∙ append-nil _
 
 pub clashes-range : (q : RangeQuery) → clashes (op_view (Range q)) ≡ false
 unfolding clashes

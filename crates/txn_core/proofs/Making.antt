@@ -9,10 +9,11 @@ use Rattle.std.specs.Ordering.{is_eq}
 use Rattle.std.specs.Cmp.Lexicographic.{bytes_decides}
 use Rattle.std.proofs.lemmas.Map.Lookups.{exact_bytes}
 use Rattle.std.proofs.lemmas.List.{map-append, length-map}
+use Rattle.std.proofs.Math.Bool.{or-false}
 use Rattle.kv_model.specs.declared.version.Rev.{Rev}
 use Rattle.kv_model.specs.declared.version.Version.{Version}
 use Rattle.kv_model.specs.Keys.{key_cmp, same_key}
-use Rattle.kv_model.specs.History.{Mutation, Action, KeyValue, deletes_key, is_put, key_value, shown, value_at, value_now, rev_le}
+use Rattle.kv_model.specs.History.{Mutation, Action, KeyValue, deletes_key, is_put, value_at, value_now}
 use Rattle.kv_model.specs.Ranges.{keys_of, live_now, revision_refusal}
 use Rattle.kv_model.specs.Txns.{Path, next_body, next_version, put_change, deletes_of}
 use Rattle.store_laws.specs.Plans.{is_deleted, still_live, planned, planned_refusal}
@@ -27,10 +28,6 @@ use Rattle.txn_core.specs.KeyWrites.{held_refusal, put_version, tombstone}
 use Rattle.txn_core.specs.Planning.{buries, is_gone, with_grave, with_graves, made, refusal_of}
 
 -- ---- tombstones
-
-or-false : (b : Bool) → (b || false) ≡ b
-or-false true = refl
-or-false false = refl
 
 or-assoc : (a b c : Bool) → (a || (b || c)) ≡ ((a || b) || c)
 or-assoc true b c = refl

@@ -162,9 +162,6 @@ room-last ps d h =
 pub pushed-last : (v : Version) (ps : List Places) → has_room ps ≡ true → change_at (with_version v) (length ps - 1) ps ≡ pushed v ps
 pushed-last v ps h = sym (ap (λ b. cond b (change_at (with_version v) (length ps - 1) ps) (ps ++ fresh v ∷ [])) h)
 
-pub pushed-fresh : (v : Version) (ps : List Places) → has_room ps ≡ false → ps ++ fresh v ∷ [] ≡ pushed v ps
-pushed-fresh v ps h = sym (ap (λ b. cond b (change_at (with_version v) (length ps - 1) ps) (ps ++ fresh v ∷ [])) h)
-
 held-grown : (v : Version) (i : ℕ) (ps : List Places) → HaveVersions ps → HaveVersions (change_at (with_version v) i ps)
 held-grown v i [] h = tt
 held-grown v zero (p ∷ ps) h = (omega (arith, length_push p.versions v), h.1)

@@ -17,6 +17,7 @@ use Rattle.store_laws.proofs.Rising.{newest-cons, newest-none, newest-behind, be
 use Rattle.version_table.specs.Rising.{IsBehind, IsRising, count_before, newest, rev_of}
 use Rattle.version_table.specs.Paged.{Places, HaveVersions, ends_before, flat, is_past, pages_before, versions_in}
 use Rattle.version_table.proofs.Rising.{IsAbove, above-not, none-above}
+use Rattle.store_laws.proofs.HistoryLaws.{option_or-none, option_or-assoc}
 
 -- ---- what stands on a page, and what stands behind it
 
@@ -96,10 +97,6 @@ past-partitioned p (q ∷ ps) r h (suc i) (suc j) d l m e =
 
 -- ---- look-ups
 
-or-none : {X : Type 0} (o : Option X) → option_or o None ≡ o
-or-none None = refl
-or-none (Some x) = refl
-
 none-behind : (p : Rev) (vs : List Version) → IsBehind p vs → find (is_at p) vs ≡ None
 none-behind p [] b = refl
 none-behind p (v ∷ vs) b = ap (λ c. cond c (Some v) (find (is_at p) vs)) (is_rev-before p v.rev b.0) ∙ none-behind p vs b.1
@@ -125,7 +122,7 @@ find-page p (q ∷ ps) r = by (is_past p q) refl (find-page p ps (parted q.versi
     by false e rest = find-append (is_at p) q.versions (flat ps)
         ∙ ap (option_or (find (is_at p) q.versions))
         (none-above p (flat ps) (unpast-above p q.versions (flat ps) (parted q.versions (flat ps) r).apart e))
-        ∙ or-none (find (is_at p) q.versions)
+        ∙ option_or-none (find (is_at p) q.versions)
 
 next-behind : (p : Rev) (vs : List Version) → IsBehind p vs → find (λ v. not (rev_lt v.rev p)) vs ≡ None
 next-behind p [] b = refl
@@ -273,13 +270,9 @@ rising-at (q ∷ ps) (suc i) d r l = rising-at ps i d (parted q.versions (flat p
 
 -- ---- the last and the first version
 
-or-assoc : {X : Type 0} (a b c : Option X) → option_or (option_or a b) c ≡ option_or a (option_or b c)
-or-assoc None b c = refl
-or-assoc (Some x) b c = refl
-
 newest-append : (xs ys : List Version) → newest (xs ++ ys) ≡ option_or (newest ys) (newest xs)
-newest-append [] ys = sym (or-none (newest ys))
-newest-append (x ∷ xs) ys = ap (λ o. option_or o (Some x)) (newest-append xs ys) ∙ or-assoc (newest ys) (newest xs) (Some x)
+newest-append [] ys = sym (option_or-none (newest ys))
+newest-append (x ∷ xs) ys = ap (λ o. option_or o (Some x)) (newest-append xs ys) ∙ option_or-assoc (newest ys) (newest xs) (Some x)
 
 or-held : (xs : List Version) (o : Option Version) → 0 < length xs → option_or (newest xs) o ≡ newest xs
 or-held [] o h = absurd (omega arith)

@@ -1,10 +1,10 @@
 -- The guards where a watch of the slab is added, changed or taken out, and whether one waits.
 use Rattle.std.proofs.Common.{◌≡◌, ◌≢◌, ℕ, ◌+◌, List, filter, Bool, true, false, not, ◌||◌, ◌==◌, cond, Option, None, Some, option_map}
-use Rattle.std.proofs.Common.{option_and_then, nat_lt, refl, sym, ◌∙◌, ap, subst, arith}
+use Rattle.std.proofs.Common.{option_and_then, refl, sym, ◌∙◌, ap, subst, arith}
 use Rattle.std.specs.Prelude.{is_some}
 use Rattle.std.proofs.lemmas.Bool.Decides.{nat_tests}
 use Rattle.kv_model.specs.declared.version.KeyRange.{KeyRange}
-use Rattle.store_laws.specs.Stands.{Tracked, ahead_of}
+use Rattle.store_laws.specs.Stands.{Tracked}
 use Rattle.watch_hub.specs.declared.guards.Guard.{Guard}
 use Rattle.watch_hub.specs.Guards.{range_at}
 use Rattle.watch_hub.specs.Entries.{AreGuarded, AreReached}
@@ -30,12 +30,6 @@ or-right false b h = h
 pub none-from : (o : Option ℕ) → is_some o ≡ false → o ≡ None
 none-from None h = refl
 none-from (Some m) h = absurd (cc)
-
--- what is next behind the present revision, or one before it, is not ahead
-pub not-ahead : (now last : ℕ) → nat_lt now last ≡ false → ahead_of now (last + 1) ≡ None
-not-ahead now last h =
-    let below : nat_lt (now + 1) (last + 1) ≡ false = grind (arith, nat_tests) in
-    ap (λ b. cond b (Some (last + 1)) None) below
 
 -- ---- one place of the slab changes
 

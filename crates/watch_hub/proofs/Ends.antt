@@ -5,6 +5,7 @@ use Rattle.std.specs.declared.cmp.Ordering.TheVariants.{Less, Equal, Greater}
 use Rattle.std.specs.Ordering.{ordering_reverse, is_lt, is_le}
 use Rattle.std.specs.Cmp.Lexicographic.{nat_list_cmp_total}
 use Rattle.std.proofs.lemmas.Map.Lookups.{exact_bytes}
+use Rattle.std.proofs.lemmas.Bool.{and_right}
 use Rattle.kv_model.specs.declared.version.KeyRange.{KeyRange}
 use Rattle.kv_model.specs.Keys.{key_cmp, key_lt, key_le, same_key, in_range, zero_byte}
 use Rattle.kv_model.specs.Lists.{is_empty}
@@ -79,10 +80,6 @@ other-key k l h = by (same_key k l) refl
     by true e = sym (h e)
     by false e = refl
 
-and-false : (a b : Bool) → b ≡ false → (a && b) ≡ false
-and-false true b h = h
-and-false false b h = refl
-
 -- ---- before a range, and behind it
 
 pub empty_first : (k : List ℕ) → key_le [] k ≡ true
@@ -119,7 +116,7 @@ past-outside r k h = by (is_empty r.end) (same_key r.end zero_byte) h
         ≡ false
     by true a g = one g
     by false true g = cc
-    by false false g = and-false (key_le r.key k) (key_lt k r.end) (le-not_lt r.end k g)
+    by false false g = and_right (key_le r.key k) (key_lt k r.end) (le-not_lt r.end k g)
 
 past-later : (r : KeyRange) (b k : List ℕ) → is_past r b ≡ true → key_le b k ≡ true → is_past r k ≡ true
 past-later r b k h g = by (is_empty r.end) (same_key r.end zero_byte) h

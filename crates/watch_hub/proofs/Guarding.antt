@@ -8,8 +8,8 @@ use Rattle.std.proofs.lemmas.Bool.Decides.{nat_tests}
 use Rattle.std.proofs.lemmas.List.{get_or-set_same, get_or-set_other, get_or_default}
 use Rattle.kv_model.specs.declared.version.KeyRange.{KeyRange}
 use Rattle.watch_hub.specs.declared.guards.Guard.{Guard}
-use Rattle.watch_hub.specs.Guards.{first_key, has_begun, is_past, ends_by, EndsBy, begins_before, AreInOrder, IsBack, AreBacks, AreBegun}
-use Rattle.watch_hub.specs.Guards.{AreToCome, ArePast, range_at}
+use Rattle.watch_hub.specs.Guards.{first_key, has_begun, ends_by, EndsBy, begins_before, AreInOrder, IsBack, AreBacks, AreBegun}
+use Rattle.watch_hub.specs.Guards.{AreToCome, range_at}
 use Rattle.watch_hub.proofs.Halving.{AreOrdered, partitioned as halves}
 use Rattle.watch_hub.proofs.Ends.{le-trans, not_le-le, ends-before}
 
@@ -92,20 +92,7 @@ backs-more gs bs i b h g l j e m = by (j == i) refl
         let below : j < i = grind (arith, nat_tests) in
         subst (λ x. IsBack gs j x) (sym (get_or-set_other bs i j b e other)) (h j e below)
 
--- where a key is behind a guard it is behind those that its way back passes
-pub past-back : (gs : List Guard) (k : List ℕ) (m b n : ℕ) → ArePast gs k (m + 1) n → IsBack gs m b
-    → ((d : Guard) → is_past (get_or gs m d).range k ≡ true) → ArePast gs k b n
-past-back gs k m b n h g t j d l o = by (nat_lt j m) refl (j == m) refl
-  where
-    by : (x : Bool) → nat_lt j m ≡ x → (y : Bool) → (j == m) ≡ y → is_past (get_or gs j d).range k ≡ true
-    by true f y q = g.1 j d l (grind (arith, nat_tests)) k (t d)
-    by false f true q = subst (λ x. is_past (get_or gs x d).range k ≡ true) (let same : m ≡ j = grind (arith, nat_tests) in same) (t d)
-    by false f false q = h j d (grind (arith, nat_tests)) o
-
 -- ---- what stands under a place
-
-abbrev pub range_if : ℕ → Guard → Option KeyRange → Option KeyRange
-range_if place g o = cond (g.place == place) (Some g.range) o
 
 -- the range at a place of which no other guard is
 pub range-insert : (gs : List Guard) (i : ℕ) (g : Guard) → range_at g.place gs ≡ None → (p : ℕ)

@@ -1,18 +1,14 @@
 -- Halving finds its way in a list whose elements stand in some order to those after them.
-use Rattle.std.proofs.Common.{◌≡◌, ℕ, zero, suc, ◌<◌, List, [], ◌∷◌, length, get_or, Bool, true, arith}
+use Rattle.std.proofs.Common.{◌≡◌, zero, suc, ◌<◌, List, [], ◌∷◌, get_or, Bool, true, arith}
 use Rattle.std.specs.Prelude.{⊤}
 use Rattle.std.specs.List.{AllByRecursion}
 use Rattle.std.specs.List.Sorted.{IsPartitionedBy}
+use Rattle.store_laws.proofs.Rising.{each-at}
 
 -- each element stands so to those after it
 abbrev pub AreOrdered : {X : Type 0} → (X → X → Type 0) → List X → Type 0
 AreOrdered R [] = ⊤
 AreOrdered R (x ∷ xs) = AllByRecursion (R x) xs × AreOrdered R xs
-
-each-at : {X : Type 0} (P : X → Type 0) (xs : List X) (j : ℕ) (d : X) → AllByRecursion P xs → j < length xs → P (get_or xs j d)
-each-at P [] j d a h = absurd (omega arith)
-each-at P (x ∷ xs) zero d a h = a.0
-each-at P (x ∷ xs) (suc j) d a h = each-at P xs j d a.1 (omega arith)
 
 module _ {X : Type 0} (R : X → X → Type 0) (p : X → Bool) (before : (x y : X) → R x y → p y ≡ true → p x ≡ true) where
   -- where what stands before an element that passes passes too

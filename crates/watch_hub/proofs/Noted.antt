@@ -86,16 +86,6 @@ pub later : (v : Version) (vs : List Version) (now : ℕ) (t : Tracked) → t.ah
     → noted vs now (noted (v ∷ []) now t) ≡ noted (v ∷ vs) now t
 later v vs now t e = later-held v vs now t.number t.id t.watched t.late t.first t.ahead e
 
-nothing-held : (now n : ℕ) (id : ℤ) (w : Watched) (late : Bool) (first ahead : Option ℕ) → ahead ≡ None
-    → noted [] now (held n id w late first ahead) ≡ held n id w late first ahead
-nothing-held now n id w true first ahead e = refl
-nothing-held now n id w false first None e = ap (λ o. held n id w false o None) (or-none first)
-nothing-held now n id w false first (Some m) e = absurd (cc)
-
--- no version
-pub nothing-noted : (now : ℕ) (t : Tracked) → t.ahead ≡ None → noted [] now t ≡ t
-nothing-noted now t e = nothing-held now t.number t.id t.watched t.late t.first t.ahead e
-
 noted-watched : (vs : List Version) (now : ℕ) (t : Tracked) → (noted vs now t).watched ≡ t.watched
 noted-watched vs now t = by t.late
   where
@@ -138,10 +128,6 @@ pub each-later : (v : Version) (vs : List Version) (now : ℕ) (o : Option Track
     → option_map (noted vs now) (option_map (noted (v ∷ []) now) o) ≡ option_map (noted (v ∷ vs) now) o
 each-later v vs now None e = refl
 each-later v vs now (Some t) e = ap Some (later v vs now t e)
-
-pub each-nothing : (now : ℕ) (o : Option Tracked) → option_and_then (λ t. t.ahead) o ≡ None → option_map (noted [] now) o ≡ o
-each-nothing now None e = refl
-each-nothing now (Some t) e = ap Some (nothing-noted now t e)
 
 each-again : (v : Version) (now : ℕ) (o : Option Tracked) → option_and_then (λ t. t.ahead) o ≡ None
     → option_map (noted (v ∷ []) now) (option_map (noted (v ∷ []) now) o) ≡ option_map (noted (v ∷ []) now) o

@@ -4,11 +4,12 @@ use Rattle.std.proofs.Common.{None, Some, option_map, refl, sym, ◌∙◌, ap, 
 use Rattle.std.specs.Prelude.{nat_le, nat_lt, ◌==◌}
 use Rattle.std.specs.List.{AllByRecursion, list_any}
 use Rattle.std.proofs.lemmas.Bool.Decides.{nat_tests}
-use Rattle.std.proofs.lemmas.Bool.{eq-eqb}
+use Rattle.std.proofs.lemmas.Bool.{eq-eqb, or_parts}
 use Rattle.std.proofs.lemmas.List.{append_assoc}
 use Rattle.std.proofs.lemmas.List.Elements.{filter-append}
 use Rattle.std.proofs.lemmas.List.Folds.{list_any-append}
 use Rattle.std.proofs.lemmas.List.Sums.{length-filter}
+use Rattle.std.proofs.Math.Bool.{and-false}
 use Rattle.kv_model.specs.declared.version.Rev.{Rev}
 use Rattle.kv_model.specs.declared.version.Version.{Version}
 use Rattle.kv_model.specs.Keys.{same_key}
@@ -22,6 +23,7 @@ use Rattle.store_laws.proofs.PlaceLaws.{each-map}
 use Rattle.store_laws.proofs.RevOrder.{rev_lt-main, rev_lt-turn, rev_lt-self, rev_lt-trans}
 use Rattle.store_laws.proofs.Rising.{rising-parts}
 use Rattle.witness_core.specs.Walks.{next_main, next_mains, is_next_in, is_next_by, first_twin}
+use Rattle.trim_core.proofs.Stepping.{above-number, none-of}
 
 -- ---- a list that does not fall rises
 
@@ -50,17 +52,9 @@ rises (v ∷ vs) e = rises-after v vs e
 
 -- ---- superseded
 
-above-number : (a b c : ℕ) → a ≤ b → nat_le a c ≡ false → nat_le b c ≡ false
-above-number a b c h e = grind (arith, nat_tests)
-
 module _ (k : List ℕ) (p : Rev) (r : ℕ) where
   abbrev pub later : Version → Bool
   later u = same_key u.key k && rev_lt p u.rev && nat_le u.rev.main r
-
-  none-of : (a b : Bool) → (a && b && false) ≡ false
-  none-of true true = refl
-  none-of true false = refl
-  none-of false b = refl
 
   none-before : (a b : Bool) → (a && false && b) ≡ false
   none-before true b = refl
@@ -118,16 +112,12 @@ number-above a b h e = grind (arith, nat_tests)
 number-off : (a b c : ℕ) → a < b → b ≤ c → (c == a) ≡ false
 number-off a b c h g = grind (arith, nat_tests)
 
-no-both : (a : Bool) → (a && false) ≡ false
-no-both true = refl
-no-both false = refl
-
 none-in : (v u : Version) (vs : List Version) → v.rev.main < u.rev.main → AreAbove u.rev vs → list_any (is_twin v) vs ≡ false
 none-in v u [] h a = refl
 none-in v u (x ∷ xs) h a =
     ap (λ b. (same_key x.key v.key && b) || list_any (is_twin v) xs)
     (number-off v.rev.main u.rev.main x.rev.main h (rev_lt-main u.rev x.rev a.0))
-    ∙ ap (λ b. b || list_any (is_twin v) xs) (no-both (same_key x.key v.key)) ∙ none-in v u xs h a.1
+    ∙ ap (λ b. b || list_any (is_twin v) xs) (and-false (same_key x.key v.key)) ∙ none-in v u xs h a.1
 
 twin-next : (v : Version) (vs : List Version) → AreAbove v.rev vs → IsRising vs
     → list_any (is_twin v) vs ≡ is_next_in v.rev.main (next_main v.key vs)
@@ -144,10 +134,6 @@ twin-next v (u ∷ us) a s = by (same_key u.key v.key) (u.rev.main == v.rev.main
 -- none of the list is a twin of this version
 abbrev IsAlone : List Version → Version → Type 0
 IsAlone vs u = list_any (is_twin u) vs ≡ false
-
-either-false : (a b : Bool) → (a || b) ≡ false → (a ≡ false) × (b ≡ false)
-either-false true b e = cc
-either-false false b e = (refl, e)
 
 same-turn : (k l : List ℕ) (b : Bool) → same_key k l ≡ b → same_key l k ≡ b
 same-turn k l true e = ap (λ x. same_key x k) (sym (same_key-eq k l e)) ∙ same-refl k
@@ -166,19 +152,19 @@ twin-turn u v e = by (same_key v.key u.key) refl (v.rev.main == u.rev.main) refl
     by : (a : Bool) → same_key v.key u.key ≡ a → (b : Bool) → (v.rev.main == u.rev.main) ≡ b → (a && b) ≡ false → is_twin v u ≡ false
     by true f true g h = cc
     by true f false g h =
-        ap (λ b. same_key u.key v.key && b) (eqb-turn u.rev.main v.rev.main ∙ g) ∙ no-both (same_key u.key v.key)
+        ap (λ b. same_key u.key v.key && b) (eqb-turn u.rev.main v.rev.main ∙ g) ∙ and-false (same_key u.key v.key)
     by false f b g h = ap (λ a. a && (u.rev.main == v.rev.main)) (same-turn v.key u.key false f)
 
 alone-before : (v : Version) (vs before : List Version) → AllByRecursion (IsAlone (v ∷ vs)) before → filter (is_twin v) before ≡ []
 alone-before v vs [] a = refl
 alone-before v vs (u ∷ us) a =
     ap (λ b. cond b (u ∷ filter (is_twin v) us) (filter (is_twin v) us))
-    (twin-turn u v (either-false (is_twin u v) (list_any (is_twin u) vs) a.0).0)
+    (twin-turn u v (or_parts (is_twin u v) (list_any (is_twin u) vs) a.0).0)
     ∙ alone-before v vs us a.1
 
 alone-after : (v : Version) (vs before : List Version) → AllByRecursion (IsAlone (v ∷ vs)) before → AllByRecursion (IsAlone vs) before
 alone-after v vs [] a = tt
-alone-after v vs (u ∷ us) a = ((either-false (is_twin u v) (list_any (is_twin u) vs) a.0).1, alone-after v vs us a.1)
+alone-after v vs (u ∷ us) a = ((or_parts (is_twin u v) (list_any (is_twin u) vs) a.0).1, alone-after v vs us a.1)
 
 each-push : {X : Type 0} (P : X → Type 0) (xs : List X) (x : X) → AllByRecursion P xs → P x → AllByRecursion P (xs ++ x ∷ [])
 each-push P [] x a h = (h, tt)

@@ -1,8 +1,8 @@
 -- Where versions rise, those of one key from a revision on tell whether one of them is superseded.
-use Rattle.std.proofs.Common.{◌≡◌, ◌≤◌, ℕ, filter, List, [], ◌∷◌, Bool, true, false, ◌&&◌, ◌||◌, cond, refl, sym, ◌∙◌, ap, arith}
+use Rattle.std.proofs.Common.{◌≡◌, ◌≤◌, ℕ, filter, List, [], ◌∷◌, Bool, true, false, ◌&&◌, ◌||◌, cond, refl, sym, ◌∙◌, ap}
 use Rattle.std.specs.Prelude.{nat_le}
 use Rattle.std.specs.List.{list_any}
-use Rattle.std.proofs.lemmas.Bool.Decides.{nat_tests}
+use Rattle.std.proofs.lemmas.Bool.{le-leb}
 use Rattle.kv_model.specs.declared.version.Rev.{Rev}
 use Rattle.kv_model.specs.declared.version.Version.{Version}
 use Rattle.kv_model.specs.Keys.{same_key}
@@ -11,9 +11,6 @@ use Rattle.version_table.specs.Rising.{IsRising}
 use Rattle.store_laws.proofs.RevOrder.{rev_lt-main}
 use Rattle.witness_core.specs.Making.{is_first_by}
 use Rattle.witness_core.proofs.Following.{later, none-later}
-
-at-most : (a b : ℕ) → a ≤ b → nat_le a b ≡ true
-at-most a b h = grind (arith, nat_tests)
 
 module _ (k : List ℕ) (p : Rev) (r : ℕ) where
   abbrev own : Version → Bool
@@ -39,7 +36,7 @@ module _ (k : List ℕ) (p : Rev) (r : ℕ) where
           none-later k p r u.rev us s.0 i
           ∙ sym (ap (λ b. cond b (nat_le u.rev.main r) (is_first_by p r (filter own us))) g ∙ i)
       by true f true g false h d i rest =
-          let x : false ≡ true = sym h ∙ at-most p.main u.rev.main (rev_lt-main p u.rev g) in cc
+          let x : false ≡ true = sym h ∙ le-leb p.main u.rev.main (rev_lt-main p u.rev g) in cc
       by true f false g e h d i rest = skip (e && true) g rest
       by false f b g e h d i rest = none e
         where

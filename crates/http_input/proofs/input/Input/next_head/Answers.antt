@@ -1,8 +1,9 @@
 use Rattle.std.proofs.Common.{Err, subst, sym, ◌∙◌}
+use Rattle.std.proofs.lemmas.List.{nil_from_length}
 use Rattle.http_reply.specs.Counts.{inner_of}
 use Rattle.http_reply.specs.declared.front.Front.{Front}
 use Rattle.http_input.specs.Parts.{HeadCame}
-use Rattle.http_input.proofs.Taking.{ended, nil_of}
+use Rattle.http_input.proofs.Taking.{ended}
 use Rattle.http_input.proofs.Told.{cut_head, fault_came}
 use Rattle.http_input.proofs.input.Input.next_head.Goals as goal
 
@@ -13,7 +14,7 @@ returns-in-Fault-clause-came g c =
 
 pub returns-then-len-eq0-clause-came : goal.returns-then-len-eq0-clause-came
 returns-then-len-eq0-clause-came g c = (
-  nil_of c.fill.new.self (sym c.len.ensures ∙ c.if-len-eq0.true),
+  nil_from_length c.fill.new.self (sym c.len.ensures ∙ c.if-len-eq0.true),
   (ended _ _ _ c.in-Ok-false.field-0 c.in-Ok-false.field-0-test c.in-Ok-false.ensures.filled).1,
 )
 
