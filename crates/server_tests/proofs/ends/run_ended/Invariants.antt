@@ -1,4 +1,4 @@
-use Rattle.pool_tests.proofs.ends.run_ended.Given as goal
+use Rattle.server_tests.proofs.ends.run_ended.Given as goal
 
 abbrev pub ghosts-ended : goal.ghosts-ended
 ghosts-ended g a = record { name = a.opening.name; parts = a.opening.parts }

@@ -1,4 +1,4 @@
-use Rattle.pool_tests.proofs.held.run_served.Given as goal
+use Rattle.server_tests.proofs.held.run_served.Given as goal
 
 abbrev pub ghosts-served : goal.ghosts-served
 ghosts-served g a = record { name = a.opening.name; parts = a.opening.parts }
