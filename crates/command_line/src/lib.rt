@@ -17,7 +17,7 @@
 //! The words of `replay` and `check` are read by `filters`. What a server does is told by
 //! `http_pool`.
 //!
-//! The tests stand in the crate `command_tests`, in `src/streams.rt` and `src/serving.rt`.
+//! The tests stand in the crate `server_tests`, in `src/streams.rt` and `src/serving.rt`.
 #![tactic(auto)]
 
 mod filters;

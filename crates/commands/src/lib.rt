@@ -25,7 +25,7 @@
 //! [`Fault`] says why the program ends before its work is done, a server too, and [`write_number`]
 //! writes a line that ends in a number, whole or up to a failed write.
 //!
-//! The tests stand in the crate `command_tests`.
+//! The tests stand in the crate `server_tests`, in `src/streams.rt`, and in `tests/rows.d`.
 #![tactic(auto)]
 
 mod counted;

@@ -19,8 +19,8 @@
 //! name is spelled in snake or in camel case, and one that no message has is ignored. With
 //! `"limit":"two"` and `"key":"?"` the refusal is `BadBase64(Key)`, since `key` is read first.
 //!
-//! The tests stand in the crate `gateway_tests`, in `src/reading.rt`, `requests.rt`,
-//! `compares.rt`, `values.rt` and `faults.rt`.
+//! The tests stand in the crate `gateway_tests`, in `src/values.rt` and `src/faults.rt`, and in
+//! `tests/rows.d/refusals.rows`.
 #![tactic(auto)]
 
 ghost use Rattle.kv_model.specs.Commands.{call_of};

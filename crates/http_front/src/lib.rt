@@ -20,7 +20,7 @@
 //! A server with threads takes [`command_path`], [`write_settled`], [`decline`] and [`turn_after`]
 //! for itself.
 //!
-//! The tests stand in the crate `front_tests`.
+//! The tests stand in the crate `server_tests`, in `src/rows.rt`.
 #![tactic(auto)]
 
 mod answering;

@@ -132,6 +132,7 @@ fn take_turn<R: Read, W: Write>(
 }
 
 /// Where a connection stands after a request that was answered so: `true` tells that it is closed.
+/// `Err` is the front that it was given.
 pub fn turn_after(answered: Result<bool, Front>) -> Result<Turn, Front>
     ensures { result ≡ turn_of answered }
 {

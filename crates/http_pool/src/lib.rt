@@ -16,7 +16,7 @@
 //! closure, that it may cross, is proved where little else is known. The path that a request asks
 //! for, a reply and a refusal are those of `http_front`.
 //!
-//! The tests stand in the crate `pool_tests`.
+//! The tests stand in the crate `server_tests`.
 #![tactic(auto)]
 
 mod background;

@@ -23,7 +23,7 @@
 //! A second put of a on success, or a delete of a range with a in it, would be `DuplicateKey`.
 //!
 //! The tests stand in the crate `store_tests`, in `src/checks.rt` and `src/plans.rt`; those of
-//! answers are rows of `command_tests`.
+//! answers are rows of `tests/rows.d`.
 #![tactic(auto)]
 
 mod changes;

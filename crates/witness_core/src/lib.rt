@@ -22,7 +22,7 @@
 //! A tombstone is needed by a watch of its own revision. After a compaction at 4 and trimming,
 //! version 2 is gone, and 3 and 4 have the needs of Ranges at 4, the oldest that may be asked.
 //!
-//! The tests stand in the crate `witness_tests`.
+//! The tests stand in the crate `certificate_tests`.
 #![tactic(auto)]
 
 pub mod certificate;
