@@ -1,10 +1,8 @@
--- The operations that are published to readers beside the writer, and what a reader makes of them.
+-- The operations that are published to readers beside the writer, and what all of them say.
 use Rattle.std.specs.Prelude.{ℕ, List, [], ◌++◌, fold}
-use Rattle.kv_model.specs.declared.version.Rev.{Rev}
 use Rattle.kv_model.specs.declared.version.Version.{Version}
 use Rattle.kv_model.specs.declared.feed.Op.{Op}
 use Rattle.kv_model.specs.declared.feed.Op.TheVariants.{Batch, Floor, Trim}
-use Rattle.kv_model.specs.Trimming.{trimmed, oldest_place}
 
 -- the versions of one revision, the revision of an accepted Compact, or one trimming step
 pub data Published : Type 0 where
@@ -21,33 +19,6 @@ published Trim = Published.trim
 -- the main of the last of these versions, and the given revision where there are none
 abbrev pub last_main_or : ℕ → List Version → ℕ
 last_main_or r vs = fold (λ _ v. v.rev.main) r vs
-
--- ---- what a reader stores
-
--- the versions that are kept, the last compaction, the revision, and the first place that trimming has not looked at
-pub record Snapshot : Type 0 where
-  pub versions : List Version
-  pub compacted : ℕ
-  pub revision : ℕ
-  pub place : Rev
-
-abbrev pub blank : Snapshot
-blank = record { versions = []; compacted = 0; revision = 1; place = oldest_place }
-
-abbrev pub trim_snapshot : Snapshot → Snapshot
-trim_snapshot s =
-    let t = trimmed s.versions s.place s.compacted in
-    record s { versions = t.versions; place = t.place }
-
--- a batch is appended and its main is the new revision; a compaction starts trimming anew
-abbrev pub absorb : Snapshot → Published → Snapshot
-absorb s (Published.batch vs) = record s { versions = s.versions ++ vs; revision = last_main_or s.revision vs }
-absorb s (Published.floor c) = record s { compacted = c; place = oldest_place }
-absorb s Published.trim = trim_snapshot s
-
--- the store that the operations make from the empty one
-abbrev pub store_of : List Published → Snapshot
-store_of = fold absorb blank
 
 -- ---- what was published, where nothing is trimmed
 

@@ -6,7 +6,7 @@ use Rattle.kv_model.specs.Ranges.{plain_range}
 use Rattle.kv_model.specs.Calls.{Call}
 use Rattle.kv_model.specs.World.{opening}
 use Rattle.kv_model.specs.Told.{Reply, Expiry}
-use Rattle.kv_model.specs.PlainRuns.{Event, Told, told_by}
+use Rattle.kv_model.specs.SampleRuns.{Event, Told, told_by}
 use Rattle.kv_model.specs.OnLiterals.{model_on_literals}
 use Rattle.kv_model.specs.Samples.{a, b, c, one, two, put_of, put_event, range_event, told, refused, put_reply, kv_of}
 use Rattle.kv_model.specs.Samples.{found, told_after}

@@ -8,7 +8,7 @@ use Rattle.kv_model.specs.Ranges.{plain_range}
 use Rattle.kv_model.specs.Calls.{Call}
 use Rattle.kv_model.specs.World.{World, opening}
 use Rattle.kv_model.specs.Told.{Reply}
-use Rattle.kv_model.specs.PlainRuns.{Event, told_by}
+use Rattle.kv_model.specs.SampleRuns.{Event, told_by}
 use Rattle.kv_model.specs.OnLiterals.{model_on_literals}
 use Rattle.kv_model.specs.Samples.{a, b, c, one, two, put_of, put_event, delete_event, range_event, all_query}
 use Rattle.kv_model.specs.Samples.{compact_event, told, refused, put_reply, kv_of, found, told_after, rev_at, puts}

@@ -12,7 +12,7 @@ use Rattle.kv_model.specs.Calls.{Call, Ops}
 use Rattle.kv_model.specs.Txns.{Replies}
 use Rattle.kv_model.specs.World.{opening}
 use Rattle.kv_model.specs.Told.{Reply}
-use Rattle.kv_model.specs.PlainRuns.{Event, told_by}
+use Rattle.kv_model.specs.SampleRuns.{Event, told_by}
 use Rattle.kv_model.specs.OnLiterals.{model_on_literals}
 use Rattle.kv_model.specs.Samples.{a, x, y, one, two, put_of, put_event, range_event, all_query, told, refused}
 use Rattle.kv_model.specs.Samples.{put_reply, kv_of, found}

@@ -7,7 +7,7 @@ use Rattle.kv_model.specs.Calls.{Call}
 use Rattle.kv_model.specs.Watches.{Delivery}
 use Rattle.kv_model.specs.World.{opening}
 use Rattle.kv_model.specs.Told.{Reply}
-use Rattle.kv_model.specs.PlainRuns.{Event, Told, told_by}
+use Rattle.kv_model.specs.SampleRuns.{Event, Told, told_by}
 use Rattle.kv_model.specs.OnLiterals.{model_on_literals}
 use Rattle.kv_model.specs.Samples.{a, b, one, two, put_event, delete_event, watch_event, compact_event, told, refused}
 use Rattle.kv_model.specs.Samples.{put_reply, kv_of, told_events, told_after, put_version, gone_version, put_delete_put}

@@ -14,7 +14,7 @@ use Rattle.kv_model.specs.Calls.{Call}
 use Rattle.kv_model.specs.Watches.{Delivery}
 use Rattle.kv_model.specs.World.{opening}
 use Rattle.kv_model.specs.Told.{Reply}
-use Rattle.kv_model.specs.PlainRuns.{Event, Told, told_by, world_after}
+use Rattle.kv_model.specs.SampleRuns.{Event, Told, told_by, world_after}
 
 -- ---- keys and values
 

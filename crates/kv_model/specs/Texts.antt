@@ -14,7 +14,7 @@ use Rattle.kv_model.specs.Answers.{txn_text, short_header, response, responses, 
 use Rattle.kv_model.specs.Answers.{reply_text, fault_text, created_text, tombstone_text, event_text, events_text}
 use Rattle.kv_model.specs.Answers.{cancelled_text, response_to, message_text}
 use Rattle.kv_model.specs.Wire.{WireEvent, WireTold, wire_step, reply_to}
-use Rattle.kv_model.specs.PlainRuns.{Event, Told, told_by}
+use Rattle.kv_model.specs.SampleRuns.{Event, Told, told_by}
 use Rattle.kv_model.specs.Samples.{a, one, two, put_event, delete_event, watch_event, compact_event}
 use Rattle.kv_model.specs.OnLiterals.{model_on_literals}
 

@@ -9,7 +9,7 @@ use Rattle.kv_model.specs.declared.version.Rev.{Rev}
 use Rattle.kv_model.specs.declared.version.Version.{Version}
 use Rattle.kv_model.specs.History.{rev_lt}
 use Rattle.kv_model.specs.Feed.{last_main_or}
-use Rattle.kv_model.specs.Trimming.{oldest_place, trimmed}
+use Rattle.store_laws.specs.Trimming.{oldest_place, trimmed}
 use Rattle.store_laws.specs.Stands.{first_main_of}
 use Rattle.store_laws.proofs.HistoryLaws.{AllByRecursion-split}
 use Rattle.store_laws.proofs.PlaceLaws.{each-map, each-append, each-filter}

@@ -5,7 +5,7 @@ use Rattle.std.specs.List.{AllByRecursion}
 use Rattle.kv_model.specs.declared.version.Rev.{Rev}
 use Rattle.kv_model.specs.declared.version.Version.{Version}
 use Rattle.kv_model.specs.Feed.{last_main_or}
-use Rattle.kv_model.specs.Trimming.{TrimStep, oldest_place, trimmed}
+use Rattle.store_laws.specs.Trimming.{TrimStep, oldest_place, trimmed}
 use Rattle.version_table.specs.Rising.{IsRising, retracted}
 use Rattle.key_index.specs.Index.{Index}
 use Rattle.key_index.specs.Agrees.{Agrees}

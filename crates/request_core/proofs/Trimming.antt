@@ -5,7 +5,7 @@ use Rattle.kv_model.specs.declared.version.Version.{Version}
 use Rattle.kv_model.specs.History.{value_at, value_now, end_of, rev_le}
 use Rattle.kv_model.specs.Headline.{Trims}
 use Rattle.kv_model.specs.Told.{Trimmed}
-use Rattle.kv_model.specs.Trimming.{trimmed, IsTrimmedTo}
+use Rattle.store_laws.specs.Trimming.{trimmed, IsTrimmedTo}
 use Rattle.kv_model.specs.World.{World}
 use Rattle.store_laws.specs.Stands.{StandsFor}
 use Rattle.kv_model.specs.Certificates.{Claim}

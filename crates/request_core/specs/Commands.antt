@@ -12,7 +12,7 @@ use Rattle.kv_model.specs.Told.{Reply, Answer, Trimmed, Expiry as ModelExpiry}
 use Rattle.kv_model.specs.Wire.{raised, number_made, changes_beside, trim_told}
 use Rattle.kv_model.specs.World.{World}
 use Rattle.kv_model.specs.Headline.{Trims, kept_after}
-use Rattle.kv_model.specs.Trimming.{oldest_place}
+use Rattle.store_laws.specs.Trimming.{oldest_place}
 use Rattle.kv_model.specs.Certificates.{Claim}
 use Rattle.store_laws.specs.TrimmingLaws.{IsOwn, IsVisit}
 use Rattle.trim_core.specs.declared.trimmer.Trim.{Trim}

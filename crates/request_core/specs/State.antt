@@ -26,7 +26,7 @@ use Rattle.kv_model.specs.History.{KeyValue, value_at, end_of, rev_le}
 use Rattle.kv_model.specs.Step.{last_main, at_least_zero}
 use Rattle.kv_model.specs.Headline.{Keeping}
 use Rattle.kv_model.specs.Told.{Trimmed}
-use Rattle.kv_model.specs.Trimming.{TrimStep, trimmed, oldest_place, IsTrimmedTo}
+use Rattle.store_laws.specs.Trimming.{TrimStep, trimmed, oldest_place, IsTrimmedTo}
 use Rattle.store_laws.specs.TrimmingLaws.{keeping}
 use Rattle.store_laws.specs.Stands.{Store, Tracked, noted}
 use Rattle.watch_hub.specs.Hub.{Hub}

@@ -17,7 +17,7 @@ use Rattle.store_laws.specs.Sound.{IsHistory}
 use Rattle.kv_model.specs.Watches.{event_of, before_is_kept, matches}
 use Rattle.kv_model.specs.Questions.{Question, IsQuestion, IsKept, Answered, answered, IsGood}
 use Rattle.kv_model.specs.History.{is_superseded, is_tombstone}
-use Rattle.kv_model.specs.Trimming.{is_trimmed, oldest_place}
+use Rattle.store_laws.specs.Trimming.{is_trimmed, oldest_place}
 use Rattle.store_laws.specs.TrimmingLaws.{TrimmingStartsOver, TrimmingGoesOn, GoodStaysGood}
 use Rattle.store_laws.proofs.Compacting.{same_ranges}
 use Rattle.store_laws.proofs.PlaceLaws.{each-map, each-part, each-append, last_that-none, rev_le-after, value_at-by}

@@ -20,7 +20,7 @@ use Rattle.kv_model.specs.Watches.{undelivered}
 use Rattle.kv_model.specs.World.{World, Watch, opening, revision, versions, added}
 use Rattle.kv_model.specs.Headline.{Keeping, kept_after}
 use Rattle.kv_model.specs.Headline.{nothing_kept}
-use Rattle.kv_model.specs.Trimming.{oldest_place}
+use Rattle.store_laws.specs.Trimming.{oldest_place}
 use Rattle.store_laws.specs.Stands.{Store, StandsFor}
 use Rattle.store_laws.specs.TrimmingLaws.{keeping}
 use Rattle.store_laws.proofs.PlaceLaws.{each-map, each-part}

@@ -17,7 +17,7 @@ use Rattle.store_laws.specs.Sound.{IsHistory}
 use Rattle.kv_model.specs.Watches.{event_of_by, before_is_kept, matches, wants, plain_watch}
 use Rattle.kv_model.specs.Questions.{Question, IsKept, Answered, answered_by, IsGood, IsLeast}
 use Rattle.kv_model.specs.History.{is_superseded, is_tombstone}
-use Rattle.kv_model.specs.Trimming.{is_trimmed, IsSettled}
+use Rattle.store_laws.specs.Trimming.{is_trimmed, IsSettled}
 use Rattle.store_laws.proofs.PartLaws.{IsOnce, in_whole, part_length, part_same}
 use Rattle.store_laws.proofs.Compacting.{latest-out}
 use Rattle.store_laws.proofs.HistoryLaws.{same_key-eq}

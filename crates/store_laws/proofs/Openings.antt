@@ -3,7 +3,7 @@ use Rattle.std.proofs.Common.{arith, [], ◌∷◌, refl}
 use Rattle.std.proofs.lemmas.List.Sums.{fold-append}
 use Rattle.kv_model.specs.Lists.{nothing}
 use Rattle.kv_model.specs.Questions.{IsGood}
-use Rattle.kv_model.specs.Feed.{absorb, blank}
+use Rattle.store_laws.specs.Snapshots.{absorb, blank}
 use Rattle.store_laws.specs.Laws.{EmptyRunIsRun, BlankStands, OpeningIsSound, FeedGoesOn}
 use Rattle.kv_model.specs.History.{dress}
 

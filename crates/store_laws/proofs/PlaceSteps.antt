@@ -7,7 +7,7 @@ use Rattle.std.specs.List.{AllByRecursion}
 use Rattle.kv_model.specs.declared.version.Rev.{Rev}
 use Rattle.kv_model.specs.declared.version.Version.{Version}
 use Rattle.kv_model.specs.History.{rev_lt}
-use Rattle.kv_model.specs.Trimming.{place_after}
+use Rattle.store_laws.specs.Trimming.{place_after}
 use Rattle.store_laws.proofs.RevOrder.{ranked, rev_lt-mains, rev_lt-subs, below-cases}
 
 -- ---- places

@@ -13,8 +13,8 @@ use Rattle.kv_model.specs.World.{World}
 use Rattle.store_laws.specs.Sound.{IsSound}
 use Rattle.kv_model.specs.Told.{Trimmed}
 use Rattle.kv_model.specs.Questions.{IsGood}
-use Rattle.kv_model.specs.Trimming.{TrimStep, trimmed, trimmed_next, visited, finished, place_after, is_trimmed, IsSettled}
-use Rattle.kv_model.specs.Trimming.{IsTrimmedTo}
+use Rattle.store_laws.specs.Trimming.{TrimStep, trimmed, trimmed_next, visited, finished, place_after, is_trimmed, IsSettled}
+use Rattle.store_laws.specs.Trimming.{IsTrimmedTo}
 use Rattle.kv_model.specs.Wire.{WireTold, trim_told}
 use Rattle.kv_model.specs.Headline.{Keeping, IsInLeast, IsTrimmed, IsCertificate, Trims}
 use Rattle.kv_model.specs.Certificates.{Claim}

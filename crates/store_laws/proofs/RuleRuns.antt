@@ -15,7 +15,7 @@ use Rattle.store_laws.specs.Sound.{IsHistory, IsBatch, IsSound}
 use Rattle.kv_model.specs.Txns.{added_by}
 use Rattle.kv_model.specs.World.{World, opening}
 use Rattle.kv_model.specs.Questions.{IsGood}
-use Rattle.kv_model.specs.Trimming.{TrimStep, trimmed, oldest_place, IsTrimmedTo}
+use Rattle.store_laws.specs.Trimming.{TrimStep, trimmed, oldest_place, IsTrimmedTo}
 use Rattle.kv_model.specs.Certificates.{claims_of}
 use Rattle.kv_model.specs.Follows.{FollowsFrom}
 use Rattle.kv_model.specs.Wire.{WireEvent, wire_step, is_free, takes_memory, is_physical, MayLose}

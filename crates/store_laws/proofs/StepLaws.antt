@@ -14,7 +14,7 @@ use Rattle.kv_model.specs.History.{Mutation, now, dress, value_at, end_of, is_su
 use Rattle.store_laws.specs.Sound.{IsHistory}
 use Rattle.kv_model.specs.Watches.{WatchEvent, event_of, events_of, matches}
 use Rattle.kv_model.specs.Questions.{Question, IsQuestion, Answered, answered, IsGood}
-use Rattle.kv_model.specs.Trimming.{is_trimmed, IsSettled}
+use Rattle.store_laws.specs.Trimming.{is_trimmed, IsSettled}
 use Rattle.store_laws.proofs.Compacting.{same_ranges}
 use Rattle.store_laws.proofs.PlaceLaws.{each-map, each-append}
 use Rattle.store_laws.proofs.HistoryLaws.{AllByRecursion-split}

@@ -20,7 +20,7 @@ use Rattle.kv_model.specs.Keys.{same_key}
 use Rattle.kv_model.specs.History.{Mutation, now, dress, dress_after, latest, value_at, rev_le, rev_lt, end_of}
 use Rattle.store_laws.specs.Sound.{IsChange, IsHistory}
 use Rattle.kv_model.specs.History.{is_superseded, is_tombstone}
-use Rattle.kv_model.specs.Trimming.{is_trimmed}
+use Rattle.store_laws.specs.Trimming.{is_trimmed}
 use Rattle.store_laws.proofs.HistoryLaws.{same_key-eq, AllByRecursion-split}
 use Rattle.store_laws.proofs.Compacting.{superseded-out, tombstone-out}
 use Rattle.store_laws.proofs.PlaceLaws.{each-map, each-part, each-dressed, each-change, mains-by, last_that-none, rev_le-end, rev_le-after}

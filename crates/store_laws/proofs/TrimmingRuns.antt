@@ -15,16 +15,16 @@ use Rattle.kv_model.specs.declared.version.Rev.{Rev}
 use Rattle.kv_model.specs.History.{Mutation, Action, put, delete}
 use Rattle.store_laws.specs.Sound.{IsBefore, IsChange, IsHistory}
 use Rattle.kv_model.specs.World.{World, opening, revision, versions}
-use Rattle.kv_model.specs.PlainRuns.{Event, step, world_after}
-use Rattle.kv_model.specs.Trimming.{oldest_place}
+use Rattle.kv_model.specs.SampleRuns.{Event, step, world_after}
+use Rattle.store_laws.specs.Trimming.{oldest_place}
 use Rattle.kv_model.specs.Follows.{Outcome, FollowsFrom}
 use Rattle.kv_model.specs.Wire.{WireEvent, WireTold, WireOutcome, wire_step, is_free, takes_memory, MayLose}
 use Rattle.kv_model.specs.Headline.{Keeping, Keeps}
 use Rattle.kv_model.specs.Headline.{IsRun, KeepsWell}
 use Rattle.kv_model.specs.OnLiterals.{model_on_literals}
 use Rattle.kv_model.specs.Samples.{a, one, two, rev_at, put_version}
-use Rattle.kv_model.specs.SampleTrims.{trimming_on_literals, put_delete_compact, put_delete, first_changes, later_changes}
-use Rattle.kv_model.specs.SampleTrims.{range_need, watch_need}
+use Rattle.store_laws.specs.SampleTrims.{trimming_on_literals, put_delete_compact, put_delete, first_changes, later_changes}
+use Rattle.store_laws.specs.SampleTrims.{range_need, watch_need}
 use Rattle.kv_model.specs.Texts.{ones, ok, wire_on_literals}
 use Rattle.kv_model.specs.Certificates.{Claim}
 use Rattle.store_laws.specs.TrimmingLaws.{keeping}

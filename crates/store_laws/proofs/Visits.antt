@@ -11,7 +11,7 @@ use Rattle.kv_model.specs.declared.version.Version.{Version}
 use Rattle.kv_model.specs.Lists.{IsPart}
 use Rattle.kv_model.specs.History.{value_at, end_of, rev_lt, without_rev}
 use Rattle.kv_model.specs.Told.{Trimmed}
-use Rattle.kv_model.specs.Trimming.{TrimStep, trimmed, trimmed_next, visited, finished, place_after, is_trimmed, IsTrimmedTo}
+use Rattle.store_laws.specs.Trimming.{TrimStep, trimmed, trimmed_next, visited, finished, place_after, is_trimmed, IsTrimmedTo}
 use Rattle.store_laws.specs.Rising.{IsRising}
 use Rattle.store_laws.specs.TrimmingLaws.{IsVisit}
 use Rattle.store_laws.proofs.HistoryLaws.{AllByRecursion-split}

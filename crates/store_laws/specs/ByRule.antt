@@ -7,7 +7,7 @@ use Rattle.kv_model.specs.declared.ids.Ids.{Ids}
 use Rattle.kv_model.specs.History.{Mutation}
 use Rattle.store_laws.specs.Sound.{IsBatch}
 use Rattle.kv_model.specs.World.{World, opening, revision, added}
-use Rattle.kv_model.specs.Trimming.{trimmed, oldest_place}
+use Rattle.store_laws.specs.Trimming.{trimmed, oldest_place}
 use Rattle.kv_model.specs.Certificates.{claims_of}
 use Rattle.kv_model.specs.Follows.{Outcome}
 use Rattle.kv_model.specs.Wire.{WireEvent, WireTold, WireOutcome, wire_step, is_physical, trim_told}

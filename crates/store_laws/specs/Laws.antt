@@ -10,7 +10,8 @@ use Rattle.kv_model.specs.declared.version.Body.TheVariants.{Put}
 use Rattle.kv_model.specs.Ranges.{live, keys}
 use Rattle.kv_model.specs.Txns.{extend, Touch, collides}
 use Rattle.kv_model.specs.Questions.{IsLeast}
-use Rattle.kv_model.specs.Feed.{Published, store_of, absorb}
+use Rattle.kv_model.specs.Feed.{Published}
+use Rattle.store_laws.specs.Snapshots.{store_of, absorb}
 use Rattle.kv_model.specs.World.{opening}
 use Rattle.store_laws.specs.Sound.{IsSound}
 use Rattle.store_laws.specs.Stands.{Store, StandsFor}

@@ -1,3 +1,6 @@
+pub mod Trimming
+pub mod Snapshots
+pub mod Changes
 pub mod Sound
 pub mod Plans
 pub mod FeedLaws
@@ -9,3 +12,4 @@ pub mod Growth
 pub mod PlanLaws
 pub mod ByRule
 pub mod Rising
+pub mod SampleTrims

@@ -9,7 +9,7 @@ use Rattle.store_laws.specs.Sound.{IsHistory, IsSound}
 use Rattle.kv_model.specs.World.{World}
 use Rattle.kv_model.specs.Told.{Trimmed}
 use Rattle.kv_model.specs.Questions.{IsGood, IsLeast, IsLeastBy}
-use Rattle.kv_model.specs.Trimming.{TrimStep, trimmed, IsSettled, IsTrimmedTo, oldest_place}
+use Rattle.store_laws.specs.Trimming.{TrimStep, trimmed, IsSettled, IsTrimmedTo, oldest_place}
 use Rattle.kv_model.specs.Certificates.{claims_of, first_fault, AreNeedsBy, Dump, Claim}
 use Rattle.kv_model.specs.Wire.{trim_told}
 use Rattle.kv_model.specs.Headline.{Keeping, Trims, IsTrimmed, IsCertificate, dump_of}

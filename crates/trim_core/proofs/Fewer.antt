@@ -7,7 +7,7 @@ use Rattle.kv_model.specs.declared.version.Rev.{Rev}
 use Rattle.kv_model.specs.declared.version.Version.{Version}
 use Rattle.kv_model.specs.Keys.{same_key}
 use Rattle.kv_model.specs.History.{rev_lt, is_superseded, is_tombstone}
-use Rattle.kv_model.specs.Trimming.{is_trimmed}
+use Rattle.store_laws.specs.Trimming.{is_trimmed}
 use Rattle.trim_core.specs.Steps.{FewerStayTrimmed}
 
 any-filter : (s t : Version → Bool) (vs : List Version) → list_any s vs ≡ false → list_any s (filter t vs) ≡ false

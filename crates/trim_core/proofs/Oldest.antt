@@ -9,7 +9,7 @@ use Rattle.kv_model.specs.declared.version.Rev.{Rev}
 use Rattle.kv_model.specs.declared.version.Version.{Version}
 use Rattle.kv_model.specs.Keys.{same_key}
 use Rattle.kv_model.specs.History.{rev_lt, is_superseded, is_tombstone}
-use Rattle.kv_model.specs.Trimming.{is_trimmed}
+use Rattle.store_laws.specs.Trimming.{is_trimmed}
 use Rattle.store_laws.proofs.HistoryLaws.{AllByRecursion-split, same_key-eq}
 use Rattle.store_laws.proofs.KeyLaws.{same-refl}
 use Rattle.store_laws.proofs.PlaceSteps.{First, first-from}

@@ -9,8 +9,8 @@ use Rattle.kv_model.specs.declared.version.Version.{Version}
 use Rattle.kv_model.specs.Keys.{same_key}
 use Rattle.kv_model.specs.History.{rev_lt, is_at, without_rev, is_superseded}
 use Rattle.kv_model.specs.Told.{Trimmed}
-use Rattle.kv_model.specs.Trimming.{TrimStep, is_trimmed}
-use Rattle.kv_model.specs.Trimming.{place_after, visited, finished, trimmed, trimmed_next}
+use Rattle.store_laws.specs.Trimming.{TrimStep, is_trimmed}
+use Rattle.store_laws.specs.Trimming.{place_after, visited, finished, trimmed, trimmed_next}
 use Rattle.store_laws.proofs.PlaceSteps.{First, first-from}
 use Rattle.store_laws.proofs.RevOrder.{rev_lt-main, is_rev-self, is_rev-before}
 use Rattle.store_laws.proofs.Rising.{IsAbove, rising-parts}

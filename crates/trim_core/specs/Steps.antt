@@ -4,7 +4,7 @@ use Rattle.std.specs.List.{find}
 use Rattle.kv_model.specs.declared.version.Rev.{Rev}
 use Rattle.kv_model.specs.declared.version.Version.{Version}
 use Rattle.kv_model.specs.History.{rev_lt}
-use Rattle.kv_model.specs.Trimming.{TrimStep, IsTrimmedTo}
+use Rattle.store_laws.specs.Trimming.{TrimStep, IsTrimmedTo}
 use Rattle.version_table.specs.Rising.{IsRising}
 use Rattle.key_index.specs.KeyRevisions.{is_oldest}
 use Rattle.key_index.specs.Index.{Index, revisions}

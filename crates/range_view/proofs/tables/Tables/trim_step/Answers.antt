@@ -1,6 +1,6 @@
 -- What is left rises still, and the index is that of it.
 use Rattle.std.proofs.Common.{◌≡◌, sym, ap, subst}
-use Rattle.kv_model.specs.Trimming.{TrimStep, trimmed}
+use Rattle.store_laws.specs.Trimming.{TrimStep, trimmed}
 use Rattle.version_table.specs.Rising.{IsRising}
 use Rattle.range_view.specs.Stored.{IsUpTo}
 use Rattle.range_view.proofs.Growing.{trimmed-rising, trimmed-upto}

@@ -1,6 +1,6 @@
 -- The version that is visited goes from both, or from none of the two.
 use Rattle.std.proofs.Common.{sym, ◌∙◌, ap}
-use Rattle.kv_model.specs.Trimming.{trimmed}
+use Rattle.store_laws.specs.Trimming.{trimmed}
 use Rattle.trim_core.proofs.Stepping.{removes, stays, ends, out-agrees}
 use Rattle.trim_core.proofs.trimmer.Trimmer.step.Goals as goal
 use Rattle.trim_core.proofs.trimmer.Trimmer.step.Goals.{then-is_trimmed, else-is_trimmed}

@@ -5,13 +5,14 @@ use Rattle.kv_model.specs.declared.version.Version.{Version}
 use Rattle.kv_model.specs.declared.version.Body.TheVariants.{Put}
 use Rattle.kv_model.specs.Calls.{Call, Ops}
 use Rattle.kv_model.specs.World.{World, opening}
-use Rattle.kv_model.specs.PlainRuns.{Event, step, world_after}
+use Rattle.kv_model.specs.SampleRuns.{Event, step, world_after}
 use Rattle.kv_model.specs.Told.{Trimmed}
-use Rattle.kv_model.specs.Trimming.{trimmed}
+use Rattle.store_laws.specs.Trimming.{trimmed}
 use Rattle.kv_model.specs.History.{is_superseded}
 use Rattle.kv_model.specs.Certificates.{NeedFault, claims_of, first_fault, Dump, Claim, Need}
-use Rattle.kv_model.specs.Feed.{Published, Snapshot, blank, absorb}
-use Rattle.kv_model.specs.Changes.{change_between}
+use Rattle.kv_model.specs.Feed.{Published}
+use Rattle.store_laws.specs.Snapshots.{Snapshot, blank, absorb}
+use Rattle.store_laws.specs.Changes.{change_between}
 use Rattle.kv_model.specs.OnLiterals.{model_on_literals}
 use Rattle.kv_model.specs.Samples.{a, b, c, x, y, one, two, put_of, put_event, delete_event, compact_event, rev_at}
 
