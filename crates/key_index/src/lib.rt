@@ -27,7 +27,7 @@
 //!
 //! A key without revisions is not in the index.
 //!
-//! The tests stand in the crate `store_tests`, in `src/index.rt`.
+//! The tests stand in the crate `table_tests`, in `src/index.rt`.
 #![tactic(auto)]
 
 mod changes;

@@ -19,7 +19,7 @@
 //! time_left 7            9 of 10 s
 //! ```
 //!
-//! The tests stand in the crate `store_tests`, in `src/leases.rt`.
+//! The tests stand in the crate `table_tests`, in `src/leases.rt`.
 #![tactic(auto)]
 
 pub mod book;

@@ -18,7 +18,7 @@
 //! forget 7                      8: a               a lease without keys has no entry
 //! ```
 //!
-//! The tests stand in the crate `store_tests`, in `src/keys_of_leases.rt`.
+//! The tests stand in the crate `table_tests`, in `src/keys_of_leases.rt`.
 #![tactic(auto)]
 
 mod index;

@@ -51,13 +51,6 @@ pub(crate) fn fill(alloc: Global, tables: &mut Tables, changes: &[Change]) {
     }
 }
 
-pub(crate) fn pair(rev: Option<Rev>) -> Option<(u64, u64)> {
-    match rev {
-        Some(rev) => Some((rev.main, rev.sub)),
-        None => None,
-    }
-}
-
 /// A transaction of nothing.
 pub(crate) fn empty(alloc: Global) -> Txn {
     Txn {

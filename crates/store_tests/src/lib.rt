@@ -1,5 +1,6 @@
-//! The public calls of the store's libraries, each once on its happy path, with ample memory: what
-//! no clause can say of them. They stand in one crate above, for the tests of a crate have it
+//! The public calls of a store over its tables (reads, trimming, transactions, watches, a core),
+//! each once on its happy path, with ample memory: what no clause can say of them. Those of the
+//! tables stand in `table_tests`. They stand in one crate above, for the tests of a crate have it
 //! proved once more. It has nothing but tests.
 #![tactic(auto)]
 
@@ -10,19 +11,7 @@ mod cores;
 #[cfg(test)]
 mod fixtures;
 #[cfg(test)]
-mod index;
-#[cfg(test)]
-mod keys_of_leases;
-#[cfg(test)]
-mod leases;
-#[cfg(test)]
-mod pages;
-#[cfg(test)]
 mod plans;
-#[cfg(test)]
-mod spans;
-#[cfg(test)]
-mod table;
 #[cfg(test)]
 mod trims;
 #[cfg(test)]

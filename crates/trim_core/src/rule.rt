@@ -2,7 +2,7 @@
 ghost use Rattle.std.specs.Prelude.{◌≡◌, List, option_copied};
 ghost use Rattle.kv_model.specs.declared.version.Version.{Version};
 ghost use Rattle.kv_model.specs.History.{is_superseded, is_tombstone};
-ghost use Rattle.kv_model.specs.Trimming.{is_trimmed, place_after};
+ghost use Rattle.store_laws.specs.Trimming.{is_trimmed, place_after};
 ghost use Rattle.version_table.specs.Rising.{IsRising};
 ghost use Rattle.key_index.specs.Agrees.{Agrees};
 ghost use Rattle.trim_core.specs.Steps.{next_version};

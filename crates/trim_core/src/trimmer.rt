@@ -1,6 +1,6 @@
 //! One trimming step after another.
 ghost use Rattle.std.specs.Prelude.{◌≡◌};
-ghost use Rattle.kv_model.specs.Trimming.{oldest_place, trimmed};
+ghost use Rattle.store_laws.specs.Trimming.{oldest_place, trimmed};
 ghost use Rattle.key_index.specs.Agrees.{Agrees};
 ghost use Rattle.std.specs.Prelude.{option_copied};
 ghost use Rattle.trim_core.specs.Steps.{next_version, step_of};

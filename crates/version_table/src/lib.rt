@@ -20,7 +20,7 @@
 //! remove 2.0, 3.1, 5.0                [6.0 7.0]
 //! ```
 //!
-//! The tests stand in the crate `store_tests`, in `src/table.rt` and `src/pages.rt`.
+//! The tests stand in the crate `table_tests`, in `src/table.rt` and `src/pages.rt`.
 #![tactic(auto)]
 
 mod growth;

@@ -1,0 +1,20 @@
+//! The public calls of the tables of a store (the versions, the index of keys, the leases and their
+//! keys), each once on its happy path, with ample memory: what no clause can say of them. They
+//! stand in one crate above, for the tests of a crate have it proved once more. It has nothing but
+//! tests.
+#![tactic(auto)]
+
+#[cfg(test)]
+mod fixtures;
+#[cfg(test)]
+mod index;
+#[cfg(test)]
+mod keys_of_leases;
+#[cfg(test)]
+mod leases;
+#[cfg(test)]
+mod pages;
+#[cfg(test)]
+mod spans;
+#[cfg(test)]
+mod table;
