@@ -12,7 +12,7 @@ use crate::counted::Counted;
 use crate::fault::Fault;
 use crate::input::read_input;
 use crate::replies::write_out;
-use crate::said::{Said, said_all};
+use crate::said::{Said, said_of};
 use crate::script::{Lines, line_events};
 use json_gateway::{Ids, WireRun, run_wire};
 use std::alloc::{AllocError, Global};
@@ -58,20 +58,20 @@ pub fn replay<R: Read, W: Write>(alloc: Global, r: &mut R, w: &mut W) -> Result<
     }
 }
 
-/// A script's lines, and what is written for its events, in order.
+/// A script's lines, and what is said to its events.
 #[derive(Drop)]
 struct Run<'a> {
     lines: Lines<'a>,
-    said: Vec<Said>,
+    said: Said,
 }
 
 /// Runs a script's events on a fresh store. Fails for want of memory outside a request.
 fn run_of(alloc: Global, text: &[u8]) -> Result<Run<'_>, AllocError>
     ensures lines { IfOk result (λ run. AreLines run.lines (script.line_events text.now)) }
-    ensures run { IfOk result (λ run. Answers text.now run.said.items) }
+    ensures run { IfOk result (λ run. Answers text.now run.said) }
 {
     let lines = line_events(alloc, text)?;
     let WireRun { outcomes } = run_wire(alloc, lines.events.as_slice(), &IDS)?;
-    let said = said_all(alloc, outcomes)?;
+    let said = said_of(alloc, outcomes)?;
     Ok(Run { lines, said })
 }

@@ -7,9 +7,10 @@ ghost use Rattle.json_gateway.specs.Outcomes.{wire_response};
 ghost use Rattle.json_gateway.specs.Runs.{command_view, event_view, expired_view, expiry_outcome};
 ghost use Rattle.json_gateway.specs.Runs.{message_view};
 ghost use Rattle.kv_model.specs.Wire.{closed, trim_told};
-ghost use Rattle.commands.specs.Lines.{line_by, replies_by};
 ghost use Rattle.commands.specs.Replies as spec;
-ghost use Rattle.commands.specs.Said.{one_line, said_line};
+ghost use Rattle.commands.specs.Said.{bytes_of, line_said, line_shown, one_line, replies_said};
+ghost use Rattle.commands.specs.Said.{first_text, other_texts, outcomes_from, texts_from};
+ghost use Rattle.commands.specs.Said.{texts_left};
 ghost use Rattle.commands.specs.Faults.{is_write};
 ghost use Rattle.commands.specs.Writes.{Writes};
 
@@ -26,10 +27,10 @@ use std::io::Write;
 
 /// Writes the replies to all lines, and hands them on. Where that fails, a front of them was
 /// written, and nothing more is.
-pub fn write_out<W: Write>(w: &mut W, lines: &Lines<'_>, said: &[Said]) -> Result<(), Fault>
+pub fn write_out<W: Write>(w: &mut W, lines: &Lines<'_>, said: &Said) -> Result<(), Fault>
     ensures replies { Writes result (W.contents w.old) (W.contents w.new)
-        (replies_by said_line lines.now.are_events.items (map event_view lines.now.events.items)
-        said.now) }
+        (replies_said lines.now.are_events.items (map event_view lines.now.events.items)
+        said.now.outcomes.items (map bytes_of said.now.texts.items)) }
     ensures err { IfErr result (λ fault. is_write fault ≡ true) }
 {
     if let Err(error) = write_replies(w, lines, said) {
@@ -41,13 +42,22 @@ pub fn write_out<W: Write>(w: &mut W, lines: &Lines<'_>, said: &[Said]) -> Resul
     }
 }
 
+/// Where the writing of replies has come to.
+#[derive(Clone, Copy)]
+struct Place {
+    /// The place of the next event, and of its outcome.
+    event: usize,
+    /// The place of the next text of what is kept.
+    text: usize,
+}
+
 /// Writes a reply for each line: `bad line`, or what is said to the next event.
-fn write_replies<W: Write>(w: &mut W, lines: &Lines<'_>, said: &[Said]) -> io::Result<()>
+fn write_replies<W: Write>(w: &mut W, lines: &Lines<'_>, said: &Said) -> io::Result<()>
     ensures { Writes result (W.contents w.old) (W.contents w.new)
-        (replies_by said_line lines.now.are_events.items (map event_view lines.now.events.items)
-        said.now) }
+        (replies_said lines.now.are_events.items (map event_view lines.now.events.items)
+        said.now.outcomes.items (map bytes_of said.now.texts.items)) }
 {
-    let mut place = 0;
+    let mut place = Place { event: 0, text: 0 };
     for is_event in &lines.are_events {
         place = write_line(w, *is_event, &lines.events, said, place)?;
     }
@@ -55,34 +65,37 @@ fn write_replies<W: Write>(w: &mut W, lines: &Lines<'_>, said: &[Said]) -> io::R
 }
 
 /// Writes the reply for a line: `bad line`, or what is said to the event at a place. Gives the
-/// place of the event that comes next.
+/// place of what comes next.
 fn write_line<W: Write>(
     w: &mut W,
     is_event: bool,
     events: &[WireEvent<'_>],
-    said: &[Said],
-    place: usize,
-) -> io::Result<usize>
+    said: &Said,
+    place: Place,
+) -> io::Result<Place>
     ensures written { Writes result (W.contents w.old) (W.contents w.new)
-        (line_by said_line is_event (map event_view (drop place events.now))
-        (drop place said.now)) }
+        (line_said is_event (map event_view (drop place.event events.now))
+        (outcomes_from said.now place) (texts_from said.now place)) }
     ensures next { IfOk result (λ next. (flags : List Bool)
-        → replies_by said_line (is_event ∷ flags) (map event_view (drop place events.now))
-        (drop place said.now)
-        ≡ line_by said_line is_event (map event_view (drop place events.now))
-        (drop place said.now)
-        ++ replies_by said_line flags (map event_view (drop next events.now))
-        (drop next said.now)) }
+        → replies_said (is_event ∷ flags) (map event_view (drop place.event events.now))
+        (outcomes_from said.now place) (texts_from said.now place)
+        ≡ line_said is_event (map event_view (drop place.event events.now))
+        (outcomes_from said.now place) (texts_from said.now place)
+        ++ replies_said flags (map event_view (drop next.event events.now))
+        (outcomes_from said.now next) (texts_from said.now next)) }
 {
     if !is_event {
         write_bytes(w, b"bad line\n")?;
         return Ok(place);
     }
-    match events.get(place) {
-        Some(event) => match said.get(place) {
-            Some(said) => {
-                write_said(w, event, said)?;
-                Ok(place + 1)
+    match events.get(place.event) {
+        Some(event) => match said.outcomes.get(place.event) {
+            Some(outcome) => {
+                let text = write_said(w, event, outcome, &said.texts, place.text)?;
+                Ok(Place {
+                    event: place.event + 1,
+                    text,
+                })
             }
             None => Ok(place),
         },
@@ -90,14 +103,42 @@ fn write_line<W: Write>(
     }
 }
 
-/// Writes what is said to an event.
-fn write_said<W: Write>(w: &mut W, event: &WireEvent<'_>, said: &Said) -> io::Result<()>
-    ensures { Writes result (W.contents w.old) (W.contents w.new)
-        (said_line (event_view event.now) said.now) }
+/// Writes what is said to an event: the text at a place, where its outcome shows what is kept, and
+/// else its line. Gives the place of the text that comes next.
+fn write_said<W: Write>(
+    w: &mut W,
+    event: &WireEvent<'_>,
+    outcome: &WireOutcome,
+    texts: &[Vec<u8>],
+    place: usize,
+) -> io::Result<usize>
+    ensures written { Writes result (W.contents w.old) (W.contents w.new)
+        (line_shown (event_view event.now) outcome.now (map bytes_of (drop place texts.now))) }
+    ensures next { IfOk result (λ next. map bytes_of (drop next texts.now)
+        ≡ texts_left outcome.now (map bytes_of (drop place texts.now))) }
 {
-    match said {
-        Said::Outcome(outcome) => write_outcome(w, event, outcome),
-        Said::Lines(text) => write_bytes(w, text.as_slice()),
+    match outcome {
+        WireOutcome::Certified(Ok(_)) => write_text(w, texts, place),
+        other => {
+            write_outcome(w, event, other)?;
+            Ok(place)
+        }
+    }
+}
+
+/// Writes the text at a place, if there is one. Gives the place behind it.
+fn write_text<W: Write>(w: &mut W, texts: &[Vec<u8>], place: usize) -> io::Result<usize>
+    ensures written { Writes result (W.contents w.old) (W.contents w.new)
+        (first_text (map bytes_of (drop place texts.now))) }
+    ensures next { IfOk result (λ next. map bytes_of (drop next texts.now)
+        ≡ other_texts (map bytes_of (drop place texts.now))) }
+{
+    match texts.get(place) {
+        Some(text) => {
+            write_bytes(w, text.as_slice())?;
+            Ok(place + 1)
+        }
+        None => Ok(place),
     }
 }
 

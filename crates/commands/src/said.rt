@@ -1,42 +1,51 @@
-//! What is written for the outcomes of a run, made before the first line is written.
-ghost use Rattle.std.specs.Prelude.{◌≡◌, map, IfOk};
-ghost use Rattle.json_gateway.specs.Runs.{outcome_view};
-ghost use Rattle.commands.specs.Said.{AreSaid, IsSaid};
+//! What is said to the events of a run, made before the first line is written.
+ghost use Rattle.std.specs.Prelude.{◌≡◌, ◌++◌, map, IfOk, OnOk};
+ghost use Rattle.commands.specs.Said.{AreShown, bytes_of, text_shown, texts_shown};
 
 use json_gateway::WireOutcome;
 use std::alloc::{AllocError, Global};
 
-/// What is written for an outcome.
-#[derive(Debug, Drop)]
-pub enum Said {
-    /// One line, which takes no memory.
-    Outcome(WireOutcome),
-    /// Several lines: what is kept, and its certificate.
-    Lines(Vec<u8>),
+/// The outcomes of a run, and the text of each that shows what is kept, in order. The line of any
+/// other takes no memory, and is made once it is written.
+#[derive(Drop)]
+pub struct Said {
+    pub outcomes: Vec<WireOutcome>,
+    pub texts: Vec<Vec<u8>>,
 }
 
-/// What is written for each outcome, in order. `AllocError` comes where the list or the text of a
-/// certificate found no memory.
-pub fn said_all(alloc: Global, outcomes: Vec<WireOutcome>) -> Result<Vec<Said>, AllocError>
-    ensures { IfOk result (λ said. AreSaid said.items (map outcome_view outcomes.items)) }
+/// Makes the texts of the outcomes that show what is kept. `AllocError` comes where one of them, or
+/// their list, found no memory.
+pub fn said_of(alloc: Global, outcomes: Vec<WireOutcome>) -> Result<Said, AllocError>
+    ensures said { IfOk result (λ said. said.outcomes ≡ outcomes) }
+    ensures shown { IfOk result (λ said. AreShown said) }
 {
-    let mut all = Vec::with_capacity(alloc, outcomes.len())?;
+    let texts = texts_of(alloc, &outcomes)?;
+    Ok(Said { outcomes, texts })
+}
+
+/// The text of each outcome that shows what is kept, in order.
+fn texts_of(alloc: Global, outcomes: &[WireOutcome]) -> Result<Vec<Vec<u8>>, AllocError>
+    ensures { IfOk result (λ texts. map bytes_of texts.items ≡ texts_shown outcomes.now) }
+{
+    let mut texts = Vec::new(alloc);
     for outcome in outcomes {
-        all.push(said_of(alloc, outcome)?)?;
+        add_text(alloc, &mut texts, outcome)?;
     }
-    Ok(all)
+    Ok(texts)
 }
 
-/// What is written for an outcome: the text of what is kept is made here, and any other line once
-/// it is written.
-fn said_of(alloc: Global, outcome: WireOutcome) -> Result<Said, AllocError>
-    ensures { IfOk result (λ said. IsSaid said (outcome_view outcome)) }
+/// Adds the text of an outcome that shows what is kept, and nothing for any other.
+fn add_text(
+    alloc: Global,
+    texts: &mut Vec<Vec<u8>>,
+    outcome: &WireOutcome,
+) -> Result<(), AllocError>
+    ensures { OnOk result (map bytes_of texts.new.items
+        ≡ map bytes_of texts.old.items ++ text_shown outcome.now) }
 {
-    match outcome {
-        WireOutcome::Certified(Ok(shown)) => {
-            let text = certificate_text::write(alloc, &shown.dump, &shown.certificate)?;
-            Ok(Said::Lines(text))
-        }
-        other => Ok(Said::Outcome(other)),
+    if let WireOutcome::Certified(Ok(shown)) = outcome {
+        let text = certificate_text::write(alloc, &shown.dump, &shown.certificate)?;
+        texts.push(text)?;
     }
+    Ok(())
 }

@@ -9,13 +9,14 @@ returns-in-Ok-clause-ok g c =
     let read = rw c.new-reader.ensures.reader at c.in_ok-script.ensures.ok in
     let lines = rw c.as_slice.ensures.value at c.in-Ok.ensures.lines in
     let run = rw c.as_slice.ensures.value at c.in-Ok.ensures.run in
-    let written = rw c.deref.ensures.value at c.write_out.ensures.replies in
-    whole_answers c.write_out.result _ _ _ c.in_ok-script.script.items _ _ read lines run written
+    let written = c.write_out.ensures.replies in
+    whole_answers c.write_out.result _ _ _ c.in_ok-script.script.items _ c.in-Ok.run'.said read lines run written
 
 pub returns-in-Ok-clause-cut : goal.returns-in-Ok-clause-cut
 returns-in-Ok-clause-cut g c =
     let read = rw c.new-reader.ensures.reader at c.in_ok-script.ensures.ok in
     let lines = rw c.as_slice.ensures.value at c.in-Ok.ensures.lines in
     let run = rw c.as_slice.ensures.value at c.in-Ok.ensures.run in
-    let written = rw c.deref.ensures.value at c.write_out.ensures.replies in
-    front_answers c.write_out.result (λ fault. is_write fault ≡ true) _ _ _ c.in_ok-script.script.items _ _ read lines run written
+    let written = c.write_out.ensures.replies in
+    front_answers c.write_out.result (λ fault. is_write fault ≡ true) _ _ _ c.in_ok-script.script.items _ c.in-Ok.run'.said
+    read lines run written
