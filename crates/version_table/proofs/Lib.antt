@@ -2,3 +2,4 @@ pub mod Rising
 pub mod Changes
 pub mod PageLookups
 pub mod PageChanges
+pub mod PageParts

@@ -44,6 +44,14 @@ ends_before p (Some v) = rev_lt v.rev p
 abbrev pub is_past : Rev → Places → Bool
 is_past p q = ends_before p (newest q.versions)
 
+-- the last page, if there is one, stands wholly before a place
+abbrev pub past_or_none : Rev → Option Places → Bool
+past_or_none p None = true
+past_or_none p (Some q) = is_past p q
+
+abbrev pub ends_past : Rev → List Places → Bool
+ends_past p ps = past_or_none p (newest ps)
+
 -- how many pages stand wholly before a place
 abbrev pub pages_before : Rev → List Places → ℕ
 pages_before p ps = rising.count_while (is_past p) ps

@@ -13,7 +13,7 @@
 //! ```text
 //! push 2.0, 3.0, 3.1, 5.0, 6.0, 7.0   [2.0 3.0 3.1 5.0] [6.0 7.0]    each is above those before it
 //! takes 7.0                           no: 7.0 is not above itself; 7.1 and 8.0 are
-//! get 3.1                             its page is found by halving, and its place on that
+//! get 3.1                             its page is found by galloping, and its place by halving
 //! next_from 4.0                       5.0, the first revision that is not before 4.0
 //! remove 3.0                          [2.0 3.1 5.0] [6.0 7.0]: its place is not used again
 //! next_from 5.1                       6.0: the last version of the first page is before 5.1
@@ -23,6 +23,7 @@
 //! The tests stand in the crate `table_tests`, in `src/table.rt` and `src/pages.rt`.
 #![tactic(auto)]
 
+mod galloping;
 mod growth;
 mod halving;
 mod page;

@@ -1,4 +1,4 @@
-//! Pages one after another: which of them a revision falls into, found by halving.
+//! Pages one after another: which of them a revision falls into.
 ghost use Rattle.std.specs.Prelude.{◌≡◌, ◌≤◌, length, drop, filter, not, IfSome, option_copied};
 ghost use Rattle.std.specs.Prelude.{option_map, Some};
 ghost use Rattle.std.specs.List.{find, slice_get};
@@ -7,18 +7,20 @@ ghost use Rattle.version_table.specs.Paged.{HaveVersions, flat, pages_before, pl
 ghost use Rattle.version_table.specs.Paged.{versions_in};
 ghost use Rattle.version_table.specs.Rising.{IsRising, newest, rev_of};
 
-use crate::halving;
 use crate::page::{PLACES, Page};
 use crate::walk::Versions;
+use crate::{galloping, halving};
 use kv_model::version::{Rev, Version};
 
-/// How many of the pages stand wholly before a revision. It halves.
+/// How many of the pages stand wholly before a revision. It gallops from the page in which the
+/// revision stands where each main revision has one version and none was taken out: the time is
+/// logarithmic in how many pages away that is.
 pub(crate) fn pages_before(pages: &[Page], rev: Rev) -> usize
     requires rising { IsRising (flat pages.now) }
     requires held { HaveVersions pages.now }
     ensures { result ≡ pages_before rev pages.now }
 {
-    pages.partition_point(|page| page.is_past(rev))
+    galloping::pages_before(pages, rev, guess(pages, rev) / PLACES)
 }
 
 /// The page at an index.
@@ -38,7 +40,7 @@ fn versions_at(pages: &[Page], index: usize) -> Option<&[Version]>
     }
 }
 
-/// The versions of the first page that does not stand wholly before a revision. It halves.
+/// The versions of the first page that does not stand wholly before a revision. It gallops.
 fn versions_by(pages: &[Page], rev: Rev) -> Option<&[Version]>
     requires rising { IsRising (flat pages.now) }
     requires held { HaveVersions pages.now }
@@ -101,7 +103,7 @@ fn version_if(pages: &[Page], place: usize, rev: Rev) -> Option<&Version>
     }
 }
 
-/// The version at a revision. It halves over the pages, and then within one.
+/// The version at a revision. It gallops over the pages, and halves within one.
 fn search(pages: &[Page], rev: Rev) -> Option<&Version>
     requires rising { IsRising (flat pages.now) }
     requires held { HaveVersions pages.now }
@@ -125,7 +127,7 @@ pub(crate) fn get(pages: &[Page], rev: Rev) -> Option<&Version>
     }
 }
 
-/// The first revision that is not before the given one. It halves.
+/// The first revision that is not before the given one. It gallops, and halves within a page.
 pub(crate) fn next_from(pages: &[Page], rev: Rev) -> Option<Rev>
     requires rising { IsRising (flat pages.now) }
     requires held { HaveVersions pages.now }
@@ -147,7 +149,7 @@ fn pages_from(pages: &[Page], index: usize) -> &[Page]
     rest
 }
 
-/// A walk over the versions that are not before a revision. It begins by halving.
+/// A walk over the versions that are not before a revision. It begins by galloping.
 pub(crate) fn walk_from(pages: &[Page], rev: Rev) -> Versions<'_>
     requires rising { IsRising (flat pages.now) }
     requires held { HaveVersions pages.now }

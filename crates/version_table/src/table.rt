@@ -126,7 +126,8 @@ impl VersionTable {
     ///
     /// Constant time where the table has one version of each main revision from its first one to
     /// this: it looks first at the place that the revision then has. Elsewhere, as behind a command
-    /// of several changes or behind trimmed versions, logarithmic time.
+    /// of several changes or behind trimmed versions, it gallops from there: time that is
+    /// logarithmic in how many versions away it stands.
     pub fn get(&self, rev: Rev) -> Option<&Version>
         ensures value { option_copied result ≡ find (is_at rev) self.now }
         ensures rising { IsRising self.now }
