@@ -8,7 +8,7 @@ use Rattle.std.proofs.lemmas.Bool.{and_parts, eqb-true, ltb-true}
 use Rattle.kv_model.specs.declared.version.Rev.{Rev}
 use Rattle.kv_model.specs.declared.version.Version.{Version}
 use Rattle.kv_model.specs.History.{rev_lt}
-use Rattle.kv_model.specs.Feed.{last_main_or}
+use Rattle.store_laws.specs.Snapshots.{last_main_or}
 use Rattle.store_laws.specs.Trimming.{oldest_place, trimmed}
 use Rattle.store_laws.specs.Stands.{first_main_of}
 use Rattle.store_laws.proofs.HistoryLaws.{AllByRecursion-split}

@@ -4,7 +4,7 @@ use Rattle.std.specs.Prelude.{if◌then◌else◌}
 use Rattle.std.specs.List.{AllByRecursion}
 use Rattle.kv_model.specs.declared.version.Rev.{Rev}
 use Rattle.kv_model.specs.declared.version.Version.{Version}
-use Rattle.kv_model.specs.Feed.{last_main_or}
+use Rattle.store_laws.specs.Snapshots.{last_main_or}
 use Rattle.store_laws.specs.Trimming.{TrimStep, oldest_place, trimmed}
 use Rattle.version_table.specs.Rising.{IsRising, retracted}
 use Rattle.key_index.specs.Index.{Index}

@@ -10,7 +10,7 @@ use Rattle.kv_model.specs.Lists.{last_that}
 use Rattle.kv_model.specs.Keys.{same_key}
 use Rattle.kv_model.specs.History.{Action, KeyValue, key_value, shown, value_at, rev_le}
 use Rattle.kv_model.specs.Step.{last_main}
-use Rattle.kv_model.specs.Feed.{last_main_or}
+use Rattle.store_laws.specs.Snapshots.{last_main_or}
 use Rattle.kv_model.specs.Txns.{next_body}
 use Rattle.store_laws.proofs.PlaceLaws.{each-map, each-append}
 use Rattle.range_view.specs.declared.reply.KvRef.{KvRef}

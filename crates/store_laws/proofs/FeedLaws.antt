@@ -14,8 +14,8 @@ use Rattle.kv_model.specs.World.{World, added}
 use Rattle.kv_model.specs.Told.{Trimmed}
 use Rattle.kv_model.specs.Step.{perform, expire}
 use Rattle.store_laws.specs.Trimming.{TrimStep, trimmed, trimmed_next, visited, finished, is_trimmed, place_after}
-use Rattle.kv_model.specs.Feed.{Published, Untrimmed, grow, nothing_published, last_main_or}
-use Rattle.store_laws.specs.Snapshots.{Snapshot, absorb, blank}
+use Rattle.kv_model.specs.Feed.{Published}
+use Rattle.store_laws.specs.Snapshots.{Snapshot, absorb, blank, Untrimmed, grow, nothing_published, last_main_or}
 use Rattle.store_laws.specs.Changes.{untrimmed, change_between, batch_of}
 use Rattle.store_laws.specs.FeedLaws.{CommandIsPublished, ExpiryIsPublished, CommandIsOneChange, ExpiryIsOneChange, ReaderStoresPart}
 use Rattle.store_laws.proofs.HistoryLaws.{dress_after-append}

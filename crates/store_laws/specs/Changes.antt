@@ -4,7 +4,8 @@ use Rattle.kv_model.specs.declared.version.Version.{Version}
 use Rattle.kv_model.specs.Calls.{Call}
 use Rattle.kv_model.specs.World.{World, versions, revision, added}
 use Rattle.kv_model.specs.Step.{perform, expire}
-use Rattle.kv_model.specs.Feed.{Published, Untrimmed}
+use Rattle.kv_model.specs.Feed.{Published}
+use Rattle.store_laws.specs.Snapshots.{Untrimmed}
 
 -- a world as one has it who was told of every change
 abbrev pub untrimmed : World → Untrimmed

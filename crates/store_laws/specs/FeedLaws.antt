@@ -4,8 +4,8 @@ use Rattle.kv_model.specs.Lists.{IsPart}
 use Rattle.kv_model.specs.Calls.{Call}
 use Rattle.kv_model.specs.World.{World}
 use Rattle.kv_model.specs.Step.{perform, expire}
-use Rattle.kv_model.specs.Feed.{Published, grow, untrimmed_of}
-use Rattle.store_laws.specs.Snapshots.{store_of}
+use Rattle.kv_model.specs.Feed.{Published}
+use Rattle.store_laws.specs.Snapshots.{store_of, grow, untrimmed_of}
 use Rattle.store_laws.specs.Changes.{untrimmed, change_of, change_of_expiry}
 
 -- what a command publishes leads from its world to the world after it

@@ -1,9 +1,36 @@
--- What a reader beside the writer stores: the versions that are kept, by the operations that were published.
+-- What the operations that were published say to a reader beside the writer, and what it stores by them.
 use Rattle.std.specs.Prelude.{ℕ, List, [], ◌++◌, fold}
 use Rattle.kv_model.specs.declared.version.Rev.{Rev}
 use Rattle.kv_model.specs.declared.version.Version.{Version}
-use Rattle.kv_model.specs.Feed.{Published, last_main_or}
+use Rattle.kv_model.specs.Feed.{Published}
 use Rattle.store_laws.specs.Trimming.{trimmed, oldest_place}
+
+-- the main of the last of these versions, and the given revision where there are none
+abbrev pub last_main_or : ℕ → List Version → ℕ
+last_main_or r vs = fold (λ _ v. v.rev.main) r vs
+
+-- ---- where nothing is trimmed
+
+-- every version, the last compaction and the revision
+pub record Untrimmed : Type 0 where
+  pub versions : List Version
+  pub compacted : ℕ
+  pub revision : ℕ
+
+abbrev pub nothing_published : Untrimmed
+nothing_published = record { versions = []; compacted = 0; revision = 1 }
+
+-- a batch is appended and its main is the new revision; trimming counts for nothing
+abbrev pub grow : Untrimmed → Published → Untrimmed
+grow u (Published.batch vs) = record u { versions = u.versions ++ vs; revision = last_main_or u.revision vs }
+grow u (Published.floor c) = record u { compacted = c }
+grow u Published.trim = u
+
+-- what all the operations say, which every answer of a reader goes by
+abbrev pub untrimmed_of : List Published → Untrimmed
+untrimmed_of = fold grow nothing_published
+
+-- ---- what is kept
 
 -- the versions that are kept, the last compaction, the revision, and the first place that trimming has not looked at
 pub record Snapshot : Type 0 where

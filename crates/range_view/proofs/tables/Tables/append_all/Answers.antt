@@ -1,6 +1,6 @@
 -- The table grows by the versions of the next revision, and the index with it.
 use Rattle.std.proofs.Common.{◌≡◌, sym}
-use Rattle.kv_model.specs.Feed.{last_main_or}
+use Rattle.store_laws.specs.Snapshots.{last_main_or}
 use Rattle.range_view.proofs.Growing.{grows, grown-stored, next-main}
 use Rattle.range_view.proofs.tables.Tables.append_all.Goals as goal
 
