@@ -133,12 +133,13 @@ abbrev pub unless_refused : {X : Type 0} → Option Refusal → X → Result X R
 unless_refused None x = Ok x
 unless_refused (Some e) x = Err e
 
--- the reply to a Range over versions, c the last compaction and now the present revision
-unfoldable pub range_reply : List Version → ℕ → ℕ → Rev → RangeQuery → RangeReply
-range_reply vs c now p q = reply_from q now (live vs (read_place q.revision p) q.range)
+-- the reply to a Range over versions, now the present revision
+unfoldable pub range_reply : List Version → ℕ → Rev → RangeQuery → RangeReply
+range_reply vs now p q = reply_from q now (live vs (read_place q.revision p) q.range)
 
+-- the same, with its refusals: c is the last compaction
 abbrev pub range_answer : List Version → ℕ → ℕ → Rev → RangeQuery → Result RangeReply Refusal
-range_answer vs c now p q = unless_refused (range_refusal c now q) (range_reply vs c now p q)
+range_answer vs c now p q = unless_refused (range_refusal c now q) (range_reply vs now p q)
 
 -- a Range of one key with nothing else asked
 abbrev pub plain_range : List ℕ → ℕ → RangeQuery

@@ -45,7 +45,7 @@ commit r w ms = commit_at (revision w) r w ms
 
 unfoldable pub range_in : World → RangeQuery → Made
 range_in w q = refused_or (range_refusal w.compacted (revision w) q)
-    (Ok (Reply.range (range_reply (versions w) w.compacted (revision w) (end_of (revision w)) q), w))
+    (Ok (Reply.range (range_reply (versions w) (revision w) (end_of (revision w)) q), w))
 
 unfoldable pub put_in : World → PutRequest → Made
 put_in w p = refused_or (option_or (put_fault p) (put_refusal (is_granted w.leases) (versions w) p))
@@ -78,7 +78,7 @@ unfoldable pub run_path : World → Path → Made
 run_path w path =
     let ms = effect (versions w) (revision w + 1) 0 path in
     refused_or (run_refusal (is_granted w.leases) w.compacted (revision w) (versions w) 0 path)
-    (commit (Reply.txn (succeeded path) (replies_of (versions (changed w ms)) w.compacted (revision w) 0
+    (commit (Reply.txn (succeeded path) (replies_of (versions (changed w ms)) (revision w) 0
     (inner_path path))) w ms)
 
 unfoldable pub txn_in : World → Ops → Made

@@ -274,14 +274,14 @@ changes_of vs main sub (Path.txn b inner rest) =
     let n = changes_of vs main sub inner in
     n + changes_of vs main (sub + n) rest
 
-unfoldable pub replies_of : List Version → ℕ → ℕ → ℕ → Path → Replies
-replies_of vs c now sub Path.end = Replies.no_replies
-replies_of vs c now sub (Path.range q rest) = Replies.range (range_reply vs c now (place_before (now + 1) sub) q)
-    (replies_of vs c now sub rest)
-replies_of vs c now sub (Path.put p rest) = Replies.put (previous_value p.prev_kv
-    (value_at vs (place_before (now + 1) sub) p.key)) (replies_of vs c now (suc sub) rest)
-replies_of vs c now sub (Path.delete d rest) =
+unfoldable pub replies_of : List Version → ℕ → ℕ → Path → Replies
+replies_of vs now sub Path.end = Replies.no_replies
+replies_of vs now sub (Path.range q rest) = Replies.range (range_reply vs now (place_before (now + 1) sub) q)
+    (replies_of vs now sub rest)
+replies_of vs now sub (Path.put p rest) = Replies.put (previous_value p.prev_kv
+    (value_at vs (place_before (now + 1) sub) p.key)) (replies_of vs now (suc sub) rest)
+replies_of vs now sub (Path.delete d rest) =
     let kvs = live vs (place_before (now + 1) sub) d.range in
-    Replies.delete (length kvs) (if_asked d.prev_kv kvs) (replies_of vs c now (sub + length kvs) rest)
-replies_of vs c now sub (Path.txn b inner rest) =
-    Replies.txn b (replies_of vs c now sub inner) (replies_of vs c now (sub + changes_of vs (now + 1) sub inner) rest)
+    Replies.delete (length kvs) (if_asked d.prev_kv kvs) (replies_of vs now (sub + length kvs) rest)
+replies_of vs now sub (Path.txn b inner rest) =
+    Replies.txn b (replies_of vs now sub inner) (replies_of vs now (sub + changes_of vs (now + 1) sub inner) rest)

@@ -164,7 +164,7 @@ impl<'a> View<'a> {
     /// is sorted, in n log n comparisons of the n that pass the filters. No value is copied.
     pub fn range(&self, alloc: Global, query: &RangeQuery) -> Result<RangeReply<'a>, Refusal>
         ensures reply { IfOk result (λ r. reply_view r ≡ range_reply self.now.versions
-            self.now.compacted self.now.revision self.now.place query.now) }
+            self.now.revision self.now.place query.now) }
         ensures refused { MatchOption
             (revision_refusal self.now.compacted self.now.revision query.now.revision)
             (IfErr result (λ e. e ≡ Refusal.Memory)) (λ e. result ≡ Err e) }
@@ -181,7 +181,7 @@ impl<'a> View<'a> {
     /// The answer to a Range at the revision asked for, which is not looked at.
     fn answer(&self, alloc: Global, query: &RangeQuery) -> Result<RangeReply<'a>, AllocError>
         ensures { IfOk result (λ r. reply_view r ≡ range_reply self.now.versions
-            self.now.compacted self.now.revision self.now.place query.now) }
+            self.now.revision self.now.place query.now) }
     {
         let place = read_place(query, self.place);
         let found = self.walk(alloc, query, place)?;

@@ -60,6 +60,6 @@ either-revision n true r s h k = h
 either-revision n false r s h k = k
 
 -- a reply shows the revision of the store that was read
-pub reply_revision : (vs : List Version) (c now : ℕ) (p : Rev) (q : RangeQuery) → (range_reply vs c now p q).revision ≡ now
+pub reply_revision : (vs : List Version) (now : ℕ) (p : Rev) (q : RangeQuery) → (range_reply vs now p q).revision ≡ now
 unfolding range_reply reply_from
-reply_revision vs c now p q = either-revision now q.count_only _ _ refl refl
+reply_revision vs now p q = either-revision now q.count_only _ _ refl refl

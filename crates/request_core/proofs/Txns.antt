@@ -114,10 +114,9 @@ txn-readable s new ops b inner was =
 
 -- the answer, read on what was left
 left-answer : (s new : CoreState) (ops : Ops) (b : Bool) (inner : Path) → WasRun s new ops b inner
-    → Reply.txn b (replies_of new.store.versions new.store.compacted s.store.revision 0 inner) ≡ reply_of_path s.store (path_in s.store ops)
+    → Reply.txn b (replies_of new.store.versions s.store.revision 0 inner) ≡ reply_of_path s.store (path_in s.store ops)
 left-answer s new ops b inner was = λ i. Reply.txn (succeeded (was.path i))
-    (replies_of (left-versions s new ops was.clear was.made i) (left-compacted s new ops was.made i) s.store.revision 0
-    (inner_path (was.path i)))
+    (replies_of (left-versions s new ops was.clear was.made i) s.store.revision 0 (inner_path (was.path i)))
 
 -- the store grows by its changes, where there are some
 txn-grows : (s : CoreState) (ops : Ops) → fault_of_txn s.store ops ≡ None → changes_of_path s.store (path_in s.store ops) ≢ []
@@ -174,7 +173,7 @@ txn_done s new t b steps was =
     let left : new ≡ after_txn s (txn_view t) = was.made in
     record {
       makes = λ w h. subst (λ (n : CoreState). Makes w (as_call (txn_view t))
-          (Reply.txn b (replies_of new.store.versions new.store.compacted s.store.revision 0 (steps_view steps.items))) n.store) (sym left)
+          (Reply.txn b (replies_of new.store.versions s.store.revision 0 (steps_view steps.items))) n.store) (sym left)
           (subst (λ r. Makes w (as_call (txn_view t)) r (after_txn s (txn_view t)).store)
           (sym (left-answer s new (txn_view t) b (steps_view steps.items) was)) (txn-makes s new t b (steps_view steps.items) was w h));
       allowed = txn-readable s new (txn_view t) b (steps_view steps.items) was;

@@ -56,13 +56,13 @@ answer_view (answer.Watch revision id number) = record { reply = Reply.watch id 
 
 -- what is read of a store for an answer at the revision
 abbrev pub reply_left : Todo → Store → ℕ → Reply
-reply_left (todo.Range q) s revision = Reply.range (range_reply s.versions s.compacted revision (end_of revision) q.now)
+reply_left (todo.Range q) s revision = Reply.range (range_reply s.versions revision (end_of revision) q.now)
 reply_left (todo.Put key asked) s revision =
     Reply.put (previous_value asked (value_at s.versions (end_of (revision - 1)) key.now))
 reply_left (todo.Delete range asked deleted) s revision =
     Reply.delete deleted (if_asked (asked && nat_lt 0 deleted) (live s.versions (end_of (revision - 1)) range.now))
 reply_left (todo.Txn before succeeded steps) s revision =
-    Reply.txn succeeded (replies_of s.versions s.compacted before 0 (steps_view steps.items))
+    Reply.txn succeeded (replies_of s.versions before 0 (steps_view steps.items))
 reply_left (todo.Grant id ttl) s revision = Reply.grant id ttl
 reply_left todo.Revoke s revision = Reply.revoke
 reply_left (todo.KeepAlive id ttl) s revision = Reply.keep_alive id (unwrap_or ttl 0)

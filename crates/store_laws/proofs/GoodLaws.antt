@@ -121,8 +121,8 @@ unfolding range_reply
 good-range_answer vs ms c q g h f = by (range_refusal c (now ms) q) refl
   where
     by : (o : Option Refusal) → range_refusal c (now ms) q ≡ o
-        → unless_refused o (range_reply vs c (now ms) (end_of (now ms)) q)
-        ≡ unless_refused o (range_reply (dress ms) c (now ms) (end_of (now ms)) q)
+        → unless_refused o (range_reply vs (now ms) (end_of (now ms)) q)
+        ≡ unless_refused o (range_reply (dress ms) (now ms) (end_of (now ms)) q)
     by (Some e) is = refl
     by None is =
         let at : (r : ℕ) × IsKept c (now ms) r × (read_place q.revision (end_of (now ms)) ≡ end_of r) = read-kept c (now ms) q.revision

@@ -54,8 +54,8 @@ module _ (c n : ℕ) (us vs : List Version) (h : SeesSame c n us vs) (k : IsKept
       let at : (m : ℕ) × IsKept c n m × (end_of (suc r) ≡ end_of m) = read-kept c n (pos (suc r)) k e in
       subst (λ p. value_at us p key ≡ value_at vs p key) (sym at.2) (h.kept at.0 at.1 key)
 
-  same-range_reply : (q : RangeQuery) (sub : ℕ) → revision_refusal c n q.revision ≡ None → range_reply us c n (place_before (n + 1) sub) q
-      ≡ range_reply vs c n (place_before (n + 1) sub) q
+  same-range_reply : (q : RangeQuery) (sub : ℕ) → revision_refusal c n q.revision ≡ None → range_reply us n (place_before (n + 1) sub) q
+      ≡ range_reply vs n (place_before (n + 1) sub) q
   unfolding range_reply
   same-range_reply q sub e = ap (reply_from q n) (live-same us vs (read_place q.revision (place_before (n + 1) sub)) q.range
       (same-read q.revision sub e))
@@ -74,19 +74,19 @@ module _ (c n : ℕ) (us vs : List Version) (h : SeesSame c n us vs) (k : IsKept
       ∙ ap (λ m. changes_of vs (n + 1) sub inner + m) (same-changes_of (sub + changes_of vs (n + 1) sub inner) rest)
 
   -- so every operation is answered the same
-  pub same-replies : (sub : ℕ) (q : Path) → ReadsKept c n q → replies_of us c n sub q ≡ replies_of vs c n sub q
+  pub same-replies : (sub : ℕ) (q : Path) → ReadsKept c n q → replies_of us n sub q ≡ replies_of vs n sub q
   unfolding replies_of
   same-replies sub Path.end a = refl
   same-replies sub (Path.range q rest) a = λ i. Replies.range (same-range_reply q sub a.0 i) (same-replies sub rest a.1 i)
   same-replies sub (Path.put p rest) a = λ i. Replies.put (previous_value p.prev_kv (same-before sub p.key i)) (same-replies (suc sub) rest
       a i)
   same-replies sub (Path.delete d rest) a =
-      ap (λ kvs. Replies.delete (length kvs) (if_asked d.prev_kv kvs) (replies_of us c n (sub + length kvs) rest)) (same-live sub d.range)
+      ap (λ kvs. Replies.delete (length kvs) (if_asked d.prev_kv kvs) (replies_of us n (sub + length kvs) rest)) (same-live sub d.range)
       ∙ ap (Replies.delete (length (live vs (place_before (n + 1) sub) d.range)) (if_asked d.prev_kv (live vs (place_before (n + 1) sub)
       d.range))) (same-replies (sub + length (live vs (place_before (n + 1) sub) d.range)) rest a)
   same-replies sub (Path.txn b inner rest) a =
-      (λ i. Replies.txn b (same-replies sub inner a.0 i) (replies_of us c n (sub + same-changes_of sub inner i) rest))
-      ∙ ap (Replies.txn b (replies_of vs c n sub inner)) (same-replies (sub + changes_of vs (n + 1) sub inner) rest a.1)
+      (λ i. Replies.txn b (same-replies sub inner a.0 i) (replies_of us n (sub + same-changes_of sub inner i) rest))
+      ∙ ap (Replies.txn b (replies_of vs n sub inner)) (same-replies (sub + changes_of vs (n + 1) sub inner) rest a.1)
 
 -- ---- a good part and the whole history
 

@@ -31,20 +31,20 @@ use Rattle.store_laws.proofs.GoodLaws.{or-none-first}
 
 -- where it is not refused, the reply is the whole history's
 pub range_reply_stands : (s : Store) (w : World) → StandsFor s w → (q : RangeQuery) → refusal_of_range s q ≡ None
-    → range_reply s.versions s.compacted s.revision (end_of s.revision) q
-    ≡ range_reply (versions w) w.compacted (revision w) (end_of (revision w)) q
+    → range_reply s.versions s.revision (end_of s.revision) q
+    ≡ range_reply (versions w) (revision w) (end_of (revision w)) q
 range_reply_stands s w h q e =
-    let same : unless_refused None (range_reply s.versions s.compacted s.revision (end_of s.revision) q)
-    ≡ unless_refused None (range_reply (versions w) w.compacted (revision w) (end_of (revision w)) q)
-    = sym (ap (λ o. unless_refused o (range_reply s.versions s.compacted s.revision (end_of s.revision) q)) e) ∙ range_answer_stands s w h q
-    ∙ ap (λ o. unless_refused o (range_reply (versions w) w.compacted (revision w) (end_of (revision w)) q))
+    let same : unless_refused None (range_reply s.versions s.revision (end_of s.revision) q)
+    ≡ unless_refused None (range_reply (versions w) (revision w) (end_of (revision w)) q)
+    = sym (ap (λ o. unless_refused o (range_reply s.versions s.revision (end_of s.revision) q)) e) ∙ range_answer_stands s w h q
+    ∙ ap (λ o. unless_refused o (range_reply (versions w) (revision w) (end_of (revision w)) q))
     (sym (range_refusal_stands s w h q) ∙ e) in cc
 
 pub range_made : (s : Store) (w : World) → StandsFor s w → (q : RangeQuery) → refusal_of_range s q ≡ None → made_in w (Call.range q)
     ≡ Ok (reply_of_range s q, w)
 unfolding range_in
 range_made s w h q e =
-    ap (λ o. refused_or o (Ok (Reply.range (range_reply (versions w) w.compacted (revision w) (end_of (revision w)) q), w)))
+    ap (λ o. refused_or o (Ok (Reply.range (range_reply (versions w) (revision w) (end_of (revision w)) q), w)))
     (sym (range_refusal_stands s w h q) ∙ e)
     ∙ ap (λ r. Ok (Reply.range r, w)) (sym (range_reply_stands s w h q e))
 
@@ -52,7 +52,7 @@ pub range_refused : (s : Store) (w : World) → StandsFor s w → (q : RangeQuer
     → made_in w (Call.range q) ≡ Err e
 unfolding range_in
 range_refused s w h q e is = ap (λ o. refused_or o (Ok (
-  Reply.range (range_reply (versions w) w.compacted (revision w) (end_of (revision w))
+  Reply.range (range_reply (versions w) (revision w) (end_of (revision w))
       q),
   w,
 ))) (sym (range_refusal_stands s w h q) ∙ is)

@@ -53,17 +53,17 @@ run_refusal_stands s w h q n = sym (sym (refusal-planned (is_granted s.leases) s
 
 -- where no Range of the path is refused, its operations are answered from the grown store
 pub replies_stand : (s : Store) (w : World) → StandsFor s w → (q : Path) → ReadsKept s.compacted s.revision q → (us : List Mutation)
-    → replies_of (versions (changed w us)) w.compacted (revision w) 0 q ≡ replies_of (extend_all s.versions us) s.compacted s.revision 0 q
+    → replies_of (versions (changed w us)) (revision w) 0 q ≡ replies_of (extend_all s.versions us) s.revision 0 q
 replies_stand s w h q a us =
     let t : List Version = added_by (versions w) us in
     let reads : ReadsKept w.compacted (revision w) q = subst (λ n. ReadsKept w.compacted n q) h.revision_is
     (subst (λ c. ReadsKept c s.revision q) h.compacted a) in
-    ap (λ vs. replies_of vs w.compacted (revision w) 0 q) (dress-added w.mutations us)
+    ap (λ vs. replies_of vs (revision w) 0 q) (dress-added w.mutations us)
     ∙ sym (same-replies w.compacted (revision w) (s.versions ++ t) (versions w ++ t) (good-sees s.versions t w.mutations w.compacted h.good
     h.sound.history h.sound.floor) (now-kept w.mutations w.compacted h.sound.history h.sound.floor) 0 q reads)
-    ∙ ap (λ vs. replies_of vs w.compacted (revision w) 0 q) (sym (good-added s.versions w.mutations us w.compacted h.good h.sound.history
+    ∙ ap (λ vs. replies_of vs (revision w) 0 q) (sym (good-added s.versions w.mutations us w.compacted h.good h.sound.history
     h.sound.floor))
-    ∙ sym (λ i. replies_of (extend_all s.versions us) (h.compacted i) (h.revision_is i) 0 q)
+    ∙ ap (λ n. replies_of (extend_all s.versions us) n 0 q) (sym h.revision_is)
 
 inner-reads : (c n : ℕ) (q : Path) → ReadsKept c n q → ReadsKept c n (inner_path q)
 inner-reads c n Path.end a = tt
@@ -82,7 +82,7 @@ path_told s w h q n = by (refusal_of_path s q) refl
     made = commit_at s.revision (reply_of_path s q) w (changes_of_path s q)
 
     told : List Mutation → Made
-    told ms = commit_at (revision w) (Reply.txn (succeeded q) (replies_of (versions (changed w ms)) w.compacted (revision w) 0
+    told ms = commit_at (revision w) (Reply.txn (succeeded q) (replies_of (versions (changed w ms)) (revision w) 0
         (inner_path q))) w ms
 
     same : refusal_of_path s q ≡ None → told (effect (versions w) (revision w + 1) 0 q) ≡ made

@@ -30,7 +30,7 @@ abbrev pub refusal_of_range : Store → RangeQuery → Option Refusal
 refusal_of_range s q = range_refusal s.compacted s.revision q
 
 abbrev pub reply_of_range : Store → RangeQuery → Reply
-reply_of_range s q = Reply.range (range_reply s.versions s.compacted s.revision (end_of s.revision) q)
+reply_of_range s q = Reply.range (range_reply s.versions s.revision (end_of s.revision) q)
 
 -- ---- Put
 
@@ -70,8 +70,8 @@ changes_of_path s q = planned s.versions (s.revision + 1) [] q
 
 -- read in the versions that the store has with the changes
 abbrev pub reply_of_path : Store → Path → Reply
-reply_of_path s q = Reply.txn (succeeded q) (replies_of (extend_all s.versions (changes_of_path s q)) s.compacted
-    s.revision 0 (inner_path q))
+reply_of_path s q = Reply.txn (succeeded q) (replies_of (extend_all s.versions (changes_of_path s q)) s.revision 0
+    (inner_path q))
 
 -- ---- Compact
 

@@ -161,10 +161,10 @@ inner-changes vs main sub b inner = let n : ℕ = changes_of vs main sub inner i
 
 -- the answers to a path in these tables, behind so many changes of the revision after one
 abbrev pub told : Stored → ℕ → ℕ → Path → Replies
-told t n sub q = replies_of t.versions t.compacted n sub q
+told t n sub q = replies_of t.versions n sub q
 
 pub range-told : (t : Stored) (n sub : ℕ) (q : RangeQuery) (r : RangeReply)
-    → reply_view r ≡ ranges.range_reply t.versions t.compacted n (place_before (n + 1) sub) q
+    → reply_view r ≡ ranges.range_reply t.versions n (place_before (n + 1) sub) q
     → (rest : Path) → op_reply_view (reply.Range r) (told t n sub rest) ≡ told t n sub (Path.range q rest)
 unfolding replies_of
 range-told t n sub q r e rest = reply-range r (told t n sub rest) ∙ ap (λ a. Replies.range a (told t n sub rest)) e

@@ -35,7 +35,7 @@ pub fn replies<'a>(
     requires changes { txns.changes_of tables.now.versions (before + 1) 0 (steps_view steps.now)
         < 2 ^ 64 }
     ensures { IfOk result (λ rs. replies_view rs.items
-        ≡ txns.replies_of tables.now.versions tables.now.compacted before 0
+        ≡ txns.replies_of tables.now.versions before 0
         (steps_view steps.now)) }
 {
     let (replies, _) = row_replies(alloc, tables, before, 0, steps)?;
@@ -57,7 +57,7 @@ fn row_replies<'a>(
     requires changes { sub + txns.changes_of tables.now.versions (before + 1) sub
         (steps_view steps.now) < 2 ^ 64 }
     ensures replies { IfOk result (λ r. replies_view r.0.items
-        ≡ txns.replies_of tables.now.versions tables.now.compacted before sub
+        ≡ txns.replies_of tables.now.versions before sub
         (steps_view steps.now)) }
     ensures next { IfOk result (λ r. r.1
         ≡ sub + txns.changes_of tables.now.versions (before + 1) sub (steps_view steps.now)) }
@@ -87,8 +87,8 @@ fn step_reply<'a>(
         (step_view step.now txns.Path.end) < 2 ^ 64 }
     ensures replies { IfOk result (λ r. (rest : txns.Path)
         → op_reply_view r.0
-        (txns.replies_of tables.now.versions tables.now.compacted before r.1 rest)
-        ≡ txns.replies_of tables.now.versions tables.now.compacted before sub
+        (txns.replies_of tables.now.versions before r.1 rest)
+        ≡ txns.replies_of tables.now.versions before sub
         (step_view step.now rest)) }
     ensures next { IfOk result (λ r. r.1
         ≡ sub + txns.changes_of tables.now.versions (before + 1) sub
@@ -123,7 +123,7 @@ fn range_reply<'a>(
     requires room { before + 1 < 2 ^ 64 }
     requires kept { ranges.revision_refusal tables.now.compacted before query.now.revision ≡ None }
     ensures { IfOk result (λ r. reply_view r
-        ≡ ranges.range_reply tables.now.versions tables.now.compacted before
+        ≡ ranges.range_reply tables.now.versions before
         (txns.place_before (before + 1) sub) query.now) }
 {
     let view = tables.view_before(before, place_before(before, sub));

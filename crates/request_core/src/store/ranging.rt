@@ -43,7 +43,7 @@ impl Core {
         requires { revision_refusal self.now.store.compacted self.now.store.revision
             query.now.revision ≡ None }
         ensures { IfOk result (λ r. reply_view r
-            ≡ range_reply self.now.store.versions self.now.store.compacted self.now.store.revision
+            ≡ range_reply self.now.store.versions self.now.store.revision
             (end_of self.now.store.revision) query.now) }
     {
         match self.tables.view().range(self.alloc, query) {

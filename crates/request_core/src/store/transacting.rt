@@ -157,7 +157,7 @@ impl Core {
         requires { CanReply self.now.store before (steps_view steps.now) }
         ensures { IfOk result
             (λ rs. replies_view rs.items
-            ≡ replies_of self.now.store.versions self.now.store.compacted before 0
+            ≡ replies_of self.now.store.versions before 0
             (steps_view steps.now)) }
     {
         txn_core::replies(self.alloc, &self.tables, before, steps)

@@ -12,6 +12,6 @@ invariant-row_replies-loop-step l = record {
   changes : l.next + changes_of l.tables.versions (l.before + 1) l.next (steps_view (drop l.step-index l.steps))
       ≡ l.sub + changes_of l.tables.versions (l.before + 1) l.sub (steps_view l.steps);
   replies : in_row (map op_reply_view l.replies.items)
-      (replies_of l.tables.versions l.tables.compacted l.before l.next (steps_view (drop l.step-index l.steps)))
-      ≡ replies_of l.tables.versions l.tables.compacted l.before l.sub (steps_view l.steps);
+      (replies_of l.tables.versions l.before l.next (steps_view (drop l.step-index l.steps)))
+      ≡ replies_of l.tables.versions l.before l.sub (steps_view l.steps);
 }

@@ -13,6 +13,6 @@ returns-in_ok-range-in-Range-clause-lends c =
     let s = c.args.self.now.store in
     ap (λ (x : RangeReply). let a : Answer = record { reply = Reply.range x; revision = x.revision } in a) c.in_ok-range-in-Range.ensures
     ∙ ap (λ (n : ℕ). let a : Answer = record { reply = reply_left (todo.Range c.in-Range.query) s s.revision; revision = n } in a)
-    (reply_revision s.versions s.compacted s.revision (end_of s.revision) c.in-Range.query.now)
+    (reply_revision s.versions s.revision (end_of s.revision) c.in-Range.query.now)
     ∙ sym (ap (λ (t : Todo). let a : Answer = record { reply = reply_left t s c.args.receipt.now.revision; revision = c.args.receipt.now.revision } in a) c.in-Range.is
     ∙ ap (λ (n : ℕ). let a : Answer = record { reply = reply_left (todo.Range c.in-Range.query) s n; revision = n } in a) c.requires.revision)
