@@ -21,7 +21,7 @@ use Rattle.kv_model.specs.Leases.{Lease}
 use Rattle.kv_model.specs.Txns.{Path, path_of, holds}
 use Rattle.range_view.specs.Stored.{Viewed}
 use Rattle.txn_core.specs.declared.step.Step.{Step}
-use Rattle.txn_core.specs.Planning.{made, refusal_of, is_memory, IsRefusal, path_in, made_in, refusal_in}
+use Rattle.txn_core.specs.Planning.{made, refusal_of, is_memory, IsRefusal, path_in, versions_made_in, refusal_in}
 use Rattle.txn_core.specs.Steps.{in_row, step_view}
 use Rattle.txn_core.proofs.Walking.{or-nothing, txn_view-out, op_view-Range, op_view-Put, op_view-Delete}
 use Rattle.txn_core.proofs.Elements.{At, from-here}
@@ -168,7 +168,7 @@ not_run v ls t b e h g =
     (refused-first e (refusal_in v ls (path_in v (branch_of t b))) None g)
 
 -- a path of a transaction alone
-pub made-txn : (v : Viewed) (ws : List Version) (b : Bool) (q : Path) → made_in v ws (Path.txn b q Path.end) ≡ made_in v ws q
+pub made-txn : (v : Viewed) (ws : List Version) (b : Bool) (q : Path) → versions_made_in v ws (Path.txn b q Path.end) ≡ versions_made_in v ws q
 unfolding made
 made-txn v ws b q = refl
 

@@ -72,8 +72,8 @@ abbrev pub path_in : Viewed → Ops → Path
 path_in v ops = path_of v.versions v.revision ops
 
 -- the versions that a path adds to those that are made already
-abbrev pub made_in : Viewed → List Version → Path → List Version
-made_in v ws q = made v.versions v.place (v.revision + 1) ws q
+abbrev pub versions_made_in : Viewed → List Version → Path → List Version
+versions_made_in v ws q = made v.versions v.place (v.revision + 1) ws q
 
 abbrev pub refusal_in : Viewed → List Lease → Path → Option Refusal
 refusal_in v ls q = refusal_of (is_granted ls) v.compacted v.revision v.versions v.place q

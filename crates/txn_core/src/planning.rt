@@ -98,7 +98,7 @@ fn run_txn<'a, 't>(
     ensures path { IfOk result (λ b. Path.txn b.succeeded (steps_view b.steps.items) Path.end
         ≡ planning.path_in view.now (txn_view txn.now)) }
     ensures made { IfOk result (λ b. changes.new
-        ≡ planning.made_in view.now changes.old (steps_view b.steps.items)) }
+        ≡ planning.versions_made_in view.now changes.old (steps_view b.steps.items)) }
     ensures fine { IfOk result (λ b.
         planning.refusal_in view.now leases.now.leases (steps_view b.steps.items) ≡ None) }
     ensures refused { IfErr result (λ e.
@@ -133,7 +133,7 @@ fn run_row<'a, 't>(
     ensures path { IfOk result (λ s. steps_view s.items
         ≡ planning.path_in view.now (ops_view row.now.items)) }
     ensures made { IfOk result (λ s. changes.new
-        ≡ planning.made_in view.now changes.old (steps_view s.items)) }
+        ≡ planning.versions_made_in view.now changes.old (steps_view s.items)) }
     ensures fine { IfOk result (λ s.
         planning.refusal_in view.now leases.now.leases (steps_view s.items) ≡ None) }
     ensures refused { IfErr result (λ e.
@@ -169,8 +169,8 @@ fn run_operation<'a, 't>(
         → planning.path_in view.now (then (op_view operation.now) rest)
         ≡ step_view s (planning.path_in view.now rest)) }
     ensures made { IfOk result (λ s. (rest : Path)
-        → planning.made_in view.now changes.old (step_view s rest)
-        ≡ planning.made_in view.now changes.new rest) }
+        → planning.versions_made_in view.now changes.old (step_view s rest)
+        ≡ planning.versions_made_in view.now changes.new rest) }
     ensures fine { IfOk result (λ s. (rest : Path)
         → planning.refusal_in view.now leases.now.leases (step_view s rest)
         ≡ planning.refusal_in view.now leases.now.leases rest) }

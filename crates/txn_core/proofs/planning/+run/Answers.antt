@@ -10,7 +10,7 @@ use Rattle.kv_model.specs.Leases.{is_granted}
 use Rattle.kv_model.specs.Ranges.{revision_refusal}
 use Rattle.kv_model.specs.Txns.{holds}
 use Rattle.txn_core.specs.KeyWrites.{held_refusal}
-use Rattle.txn_core.specs.Planning.{made, refusal_of, IsRefusal, path_in, made_in, refusal_in}
+use Rattle.txn_core.specs.Planning.{made, refusal_of, IsRefusal, path_in, versions_made_in, refusal_in}
 use Rattle.txn_core.specs.Steps.{in_row, step_view, steps_view}
 use Rattle.txn_core.proofs.Running.{refused-first, none-first, path-range, path-put, path-delete, path-inner, refused-inner, branch_of, ran}
 use Rattle.txn_core.proofs.Running.{not_run, row-split, row-end, in_row-more}
@@ -29,7 +29,7 @@ run_operation-returns-in-Ok-clause-path t c = λ rest.
 
 pub run_operation-returns-in-Ok-clause-made : goal.run_operation-returns-in-Ok-clause-made
 unfolding made
-run_operation-returns-in-Ok-clause-made t c = λ rest. ap (made_in c.args.view.now c.args.changes.now) (step_view-Range _ rest)
+run_operation-returns-in-Ok-clause-made t c = λ rest. ap (versions_made_in c.args.view.now c.args.changes.now) (step_view-Range _ rest)
 
 pub run_operation-returns-in-Ok-clause-fine : goal.run_operation-returns-in-Ok-clause-fine
 unfolding refusal_of
@@ -60,7 +60,7 @@ pub run_operation-returns-in-Ok-run_put-clause-made : goal.run_operation-returns
 unfolding made
 run_operation-returns-in-Ok-run_put-clause-made t c = λ rest.
     let v = c.args.view.now in
-    ap (made_in v c.args.changes.now) (step_view-Put _ rest) ∙ ap (λ ws. made_in v ws rest) (sym c.in-Ok-run_put.ensures.made)
+    ap (versions_made_in v c.args.changes.now) (step_view-Put _ rest) ∙ ap (λ ws. versions_made_in v ws rest) (sym c.in-Ok-run_put.ensures.made)
 
 pub run_operation-returns-in-Ok-run_put-clause-fine : goal.run_operation-returns-in-Ok-run_put-clause-fine
 unfolding refusal_of
@@ -94,7 +94,7 @@ pub run_operation-returns-in-Ok-run_delete-clause-made : goal.run_operation-retu
 unfolding made
 run_operation-returns-in-Ok-run_delete-clause-made t c = λ rest.
     let v = c.args.view.now in
-    ap (made_in v c.args.changes.now) (step_view-Delete _ rest) ∙ ap (λ ws. made_in v ws rest) (sym c.in-Ok-run_delete.ensures)
+    ap (versions_made_in v c.args.changes.now) (step_view-Delete _ rest) ∙ ap (λ ws. versions_made_in v ws rest) (sym c.in-Ok-run_delete.ensures)
 
 pub run_operation-returns-in-Ok-run_delete-clause-fine : goal.run_operation-returns-in-Ok-run_delete-clause-fine
 unfolding refusal_of
@@ -116,8 +116,8 @@ unfolding made
 run_operation-returns-in-Ok-run_txn-clause-made t c = λ rest.
     let v = c.args.view.now in
     let b = c.in-Ok-run_txn.field-0 in
-    ap (made_in v c.args.changes.now) (step_view-Inner b.succeeded b.steps rest)
-    ∙ ap (λ ws. made_in v ws rest) (sym c.in-Ok-run_txn.ensures.made)
+    ap (versions_made_in v c.args.changes.now) (step_view-Inner b.succeeded b.steps rest)
+    ∙ ap (λ ws. versions_made_in v ws rest) (sym c.in-Ok-run_txn.ensures.made)
 
 pub run_operation-returns-in-Ok-run_txn-clause-fine : goal.run_operation-returns-in-Ok-run_txn-clause-fine
 unfolding refusal_of
@@ -180,7 +180,7 @@ run_row-loop-operation-preserved t c =
       ap (λ ss. in_row (map step_view ss) (path_in v rest)) c.in-Ok-push.ensures.items
           ∙ in_row-more l.steps.items c.in-Ok.step (path_in v rest)
           ∙ ap (in_row (map step_view l.steps.items)) (sym stepped) ∙ l.invariant.0,
-      sym (c.in-Ok.ensures.made (path_in v rest)) ∙ ap (made_in v l.changes) (sym stepped) ∙ l.invariant.1,
+      sym (c.in-Ok.ensures.made (path_in v rest)) ∙ ap (versions_made_in v l.changes) (sym stepped) ∙ l.invariant.1,
       sym (c.in-Ok.ensures.fine (path_in v rest)) ∙ ap (refusal_in v ls) (sym stepped) ∙ l.invariant.2,
     )
 
@@ -197,8 +197,8 @@ run_row-returns-clause-made t c =
     let v = c.args.view.now in
     let l = c.loop-operation in
     let ended = row-end v c.deref-operation-items.result.now l.operation-index c.loop-operation-test.false in
-    ap (made_in v l.changes) (sym ended) ∙ l.invariant.1
-    ∙ ap (made_in v c.args.changes.now) (sym (ap (in_row (map step_view l.steps.items)) (sym ended) ∙ l.invariant.0))
+    ap (versions_made_in v l.changes) (sym ended) ∙ l.invariant.1
+    ∙ ap (versions_made_in v c.args.changes.now) (sym (ap (in_row (map step_view l.steps.items)) (sym ended) ∙ l.invariant.0))
 
 pub run_row-returns-clause-fine : goal.run_row-returns-clause-fine
 unfolding refusal_of

@@ -1,6 +1,6 @@
 use Rattle.std.proofs.Common.{◌≡◌, drop, map}
 use Rattle.kv_model.specs.Commands.{ops_view}
-use Rattle.txn_core.specs.Planning.{path_in, made_in, refusal_in}
+use Rattle.txn_core.specs.Planning.{path_in, versions_made_in, refusal_in}
 use Rattle.txn_core.specs.Steps.{in_row, step_view}
 use Rattle.txn_core.proofs.planning.+run.Given as goal
 
@@ -9,7 +9,7 @@ abbrev pub invariant-run_row-loop-operation : goal.invariant-run_row-loop-operat
 invariant-run_row-loop-operation l =
     (in_row (map step_view l.steps.items) (path_in l.view (ops_view (drop l.operation-index l.operation-items)))
     ≡ path_in l.view (ops_view l.row.items))
-    × (made_in l.view l.changes (path_in l.view (ops_view (drop l.operation-index l.operation-items)))
-    ≡ made_in l.view l.fn.changes (path_in l.view (ops_view l.row.items)))
+    × (versions_made_in l.view l.changes (path_in l.view (ops_view (drop l.operation-index l.operation-items)))
+    ≡ versions_made_in l.view l.fn.changes (path_in l.view (ops_view l.row.items)))
     × (refusal_in l.view l.leases.leases (path_in l.view (ops_view (drop l.operation-index l.operation-items)))
     ≡ refusal_in l.view l.leases.leases (path_in l.view (ops_view l.row.items)))

@@ -3,7 +3,7 @@ use Rattle.std.proofs.Common.{sym, ◌∙◌, ap, subst, []}
 use Rattle.kv_model.specs.Commands.{txn_view}
 use Rattle.kv_model.specs.Leases.{is_granted}
 use Rattle.store_laws.proofs.PlaceLaws.{AreBy}
-use Rattle.txn_core.specs.Planning.{IsRefusal, path_in, made_in, refusal_in}
+use Rattle.txn_core.specs.Planning.{IsRefusal, path_in, versions_made_in, refusal_in}
 use Rattle.txn_core.specs.Steps.{steps_view}
 use Rattle.txn_core.proofs.Making.{by-end, made-planned, refusal-planned}
 use Rattle.txn_core.proofs.Running.{made-txn, refusal-txn, memory-or}
@@ -23,8 +23,8 @@ returns-in-Ok-clause-versions c =
     let v = c.args.view.now in
     let b = c.in-Ok.branch in
     let by = subst (λ p. AreBy p v.versions) (sym c.requires.at) (by-end v.revision v.versions c.requires.upto c.requires.places) in
-    c.into_versions.ensures ∙ c.in-Ok.ensures.made ∙ ap (λ ws. made_in v ws (steps_view b.steps.items)) c.new-changes.ensures
-    ∙ sym (made-txn v [] b.succeeded (steps_view b.steps.items)) ∙ ap (made_in v []) c.in-Ok.ensures.path
+    c.into_versions.ensures ∙ c.in-Ok.ensures.made ∙ ap (λ ws. versions_made_in v ws (steps_view b.steps.items)) c.new-changes.ensures
+    ∙ sym (made-txn v [] b.succeeded (steps_view b.steps.items)) ∙ ap (versions_made_in v []) c.in-Ok.ensures.path
     ∙ made-planned v.versions v.place _ [] (path_in v (txn_view c.args.txn.now)) by
 
 pub returns-clause-refused : goal.returns-clause-refused
