@@ -7,7 +7,7 @@
 ghost use Rattle.std.specs.Prelude.{◌≡◌, ◌≤◌, ◌++◌, map, IfOk, OnOk, option_map};
 ghost use Rattle.kv_model.specs.Told as told;
 ghost use Rattle.kv_model.specs.Answers as texts;
-ghost use Rattle.kv_model.specs.Answers.{answered};
+ghost use Rattle.kv_model.specs.Answers.{success_response};
 ghost use Rattle.range_view.specs.Replies.{kv_view, reply_view};
 ghost use Rattle.gateway_text.specs.Tokens.{data_tokens};
 ghost use Rattle.gateway_text.specs.Views.{header_data};
@@ -39,7 +39,7 @@ const PREVIOUS: usize = 11;
 /// The body of a Range's answer. Its header has the reply's revision.
 #[tactic(auto, using(crate::proofs::Objects::written), unfolding(kv_model::specs::Answers::reply_text))]
 pub fn range_text(alloc: Global, reply: &RangeReply<'_>, ids: &Ids) -> Result<Vec<u8>, AllocError>
-    ensures { IfOk result (λ v. v.items ≡ (answered ids.now
+    ensures { IfOk result (λ v. v.items ≡ (success_response ids.now
         (record {
           reply = told.Reply.range (reply_view reply.now);
           revision = reply.now.revision;
@@ -61,7 +61,7 @@ pub fn put_text(
     previous: Option<KvRef<'_>>,
     ids: &Ids,
 ) -> Result<Vec<u8>, AllocError>
-    ensures { IfOk result (λ v. v.items ≡ (answered ids.now
+    ensures { IfOk result (λ v. v.items ≡ (success_response ids.now
         (record {
           reply = told.Reply.put (option_map kv_view previous.entry);
           revision = revision;
@@ -87,7 +87,7 @@ pub fn delete_text(
     previous: &[KvRef<'_>],
     ids: &Ids,
 ) -> Result<Vec<u8>, AllocError>
-    ensures { IfOk result (λ v. v.items ≡ (answered ids.now
+    ensures { IfOk result (λ v. v.items ≡ (success_response ids.now
         (record {
           reply = told.Reply.delete deleted (map kv_view previous.now);
           revision = revision;

@@ -5,7 +5,7 @@
 ghost use Rattle.std.specs.Prelude.{◌≡◌, ◌++◌, map, codes, IfOk, OnOk};
 ghost use Rattle.kv_model.specs.Told as told;
 ghost use Rattle.kv_model.specs.Answers as texts;
-ghost use Rattle.kv_model.specs.Answers.{answered, int_field};
+ghost use Rattle.kv_model.specs.Answers.{success_response, int_field};
 ghost use Rattle.gateway_text.specs.Tokens.{data_tokens, field_tokens};
 ghost use Rattle.gateway_text.specs.Views.{header_data, lease_data, leases_data};
 ghost use Rattle.gateway_text.specs.Views.{seconds_view, time_left_data};
@@ -29,7 +29,7 @@ pub fn granted_text(
     ttl: u64,
     ids: &Ids,
 ) -> Result<Vec<u8>, AllocError>
-    ensures { IfOk result (λ v. v.items ≡ (answered ids.now
+    ensures { IfOk result (λ v. v.items ≡ (success_response ids.now
         (record { reply = told.Reply.grant id ttl; revision = revision })).body) }
 {
     let mut out = JsonText::with_capacity(alloc, FRAME)?;
@@ -40,7 +40,7 @@ pub fn granted_text(
 /// The body of a LeaseRevoke's answer, with the revision after it.
 #[tactic(auto, using(crate::proofs::Objects::written), unfolding(kv_model::specs::Answers::reply_text))]
 pub fn revoked_text(alloc: Global, revision: u64, ids: &Ids) -> Result<Vec<u8>, AllocError>
-    ensures { IfOk result (λ v. v.items ≡ (answered ids.now
+    ensures { IfOk result (λ v. v.items ≡ (success_response ids.now
         (record { reply = told.Reply.revoke; revision = revision })).body) }
 {
     let mut out = JsonText::with_capacity(alloc, FRAME)?;
@@ -58,7 +58,7 @@ pub fn renewed_text(
     ttl: u64,
     ids: &Ids,
 ) -> Result<Vec<u8>, AllocError>
-    ensures { IfOk result (λ v. v.items ≡ (answered ids.now
+    ensures { IfOk result (λ v. v.items ≡ (success_response ids.now
         (record { reply = told.Reply.keep_alive id ttl; revision = revision })).body) }
 {
     let header = Header::Whole(*ids, revision);
@@ -83,7 +83,7 @@ pub fn time_left_text(
     keys: &[&[u8]],
     ids: &Ids,
 ) -> Result<Vec<u8>, AllocError>
-    ensures { IfOk result (λ v. v.items ≡ (answered ids.now
+    ensures { IfOk result (λ v. v.items ≡ (success_response ids.now
         (record {
           reply = told.Reply.time_to_live id (seconds_view seconds) granted
               (map (λ k. k.now) keys.now);
@@ -104,7 +104,7 @@ pub fn leases_text(
     leases: &[i64],
     ids: &Ids,
 ) -> Result<Vec<u8>, AllocError>
-    ensures { IfOk result (λ v. v.items ≡ (answered ids.now
+    ensures { IfOk result (λ v. v.items ≡ (success_response ids.now
         (record { reply = told.Reply.leases leases.now; revision = revision })).body) }
 {
     let room = leases.len().saturating_mul(ITEM).saturating_add(FRAME);

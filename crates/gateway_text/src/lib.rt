@@ -1,10 +1,10 @@
 //! The bodies of the JSON gateway's answers and refusals, written straight into bytes: no tree of
 //! values is built.
 //!
-//! The one contract is that of each `.._text` function: the bytes are `answered` of `kv_model`,
-//! the compact text of the answer's value, for every reply, revision and numbers of the member. A
-//! body that fails was not given, and fails for want of memory alone. `json_gateway` picks the
-//! function for each reply, and the [`Wording`] for each refusal. For example, with member 2 of
+//! The one contract is that of each `.._text` function: the bytes are `success_response` of
+//! `kv_model`, the compact text of the answer's value, for every reply, revision and numbers of the
+//! member. A body that fails was not given, and fails for want of memory alone. `json_gateway` picks
+//! the function for each reply, and the [`Wording`] for each refusal. For example, with member 2 of
 //! cluster 1 at revision 5, a Put that replaced nothing is told as
 //!
 //! ```text

@@ -3,7 +3,7 @@ ghost use Rattle.std.specs.Prelude.{◌≡◌, ◌++◌, map, codes, IfOk, OnOk,
 ghost use Rattle.std.specs.List.{flat_map};
 ghost use Rattle.kv_model.specs.Told as told;
 ghost use Rattle.kv_model.specs.Answers as texts;
-ghost use Rattle.kv_model.specs.Answers.{answered, list_field};
+ghost use Rattle.kv_model.specs.Answers.{success_response, list_field};
 ghost use Rattle.range_view.specs.Replies.{kv_view, reply_view, replies_view};
 ghost use Rattle.gateway_text.specs.Tokens.{data_tokens, field_tokens};
 ghost use Rattle.gateway_text.specs.Views.{header_data, response_of};
@@ -31,7 +31,7 @@ pub fn txn_text(
     replies: &[OpReply<'_>],
     ids: &Ids,
 ) -> Result<Vec<u8>, AllocError>
-    ensures { IfOk result (λ v. v.items ≡ (answered ids.now
+    ensures { IfOk result (λ v. v.items ≡ (success_response ids.now
         (record {
           reply = told.Reply.txn succeeded (replies_view replies.now);
           revision = revision;

@@ -4,7 +4,7 @@
 ghost use Rattle.std.specs.Prelude.{◌≡◌, ℕ, ◌++◌, Some, codes, map, IfOk, OnOk};
 ghost use Rattle.kv_model.specs.Told as told;
 ghost use Rattle.kv_model.specs.Answers as texts;
-ghost use Rattle.kv_model.specs.Answers.{answered, message_text};
+ghost use Rattle.kv_model.specs.Answers.{success_response, message_text};
 ghost use Rattle.kv_model.specs.Watches as watches;
 ghost use Rattle.watch_hub.specs.Messages.{event_view};
 ghost use Rattle.gateway_text.specs.Tokens.{data_tokens, field_tokens};
@@ -27,7 +27,7 @@ const EVENT_NAMES: usize = 64;
 /// The body of the answer to a Watch, with the revision of the store, to the client's number for
 /// the watch.
 pub fn created_text(alloc: Global, revision: u64, id: i64, ids: &Ids) -> Result<Vec<u8>, AllocError>
-    ensures { IfOk result (λ v. (number : ℕ) → v.items ≡ (answered ids.now
+    ensures { IfOk result (λ v. (number : ℕ) → v.items ≡ (success_response ids.now
         (record { reply = told.Reply.watch id number; revision = revision })).body) }
 {
     let mut out = JsonText::with_capacity(alloc, FRAME)?;

@@ -1,6 +1,6 @@
 //! One command or one request on a core, from bytes to bytes.
 ghost use Rattle.std.specs.Prelude.{◌≡◌, ◌&&◌, true, false, None, Ok, map, IfOk};
-ghost use Rattle.kv_model.specs.Answers.{Response, answered, fault_of, response_to};
+ghost use Rattle.kv_model.specs.Answers.{Response, success_response, fault_of, response_to};
 ghost use Rattle.kv_model.specs.Commands.{call_of};
 ghost use Rattle.kv_model.specs.Requests.{request_of};
 ghost use Rattle.store_laws.specs.Stands.{StandsFor};
@@ -118,7 +118,7 @@ fn waits(command: &Command, receipt: &Receipt<'_>) -> bool
 /// How an accepted command ends.
 fn settled(alloc: Global, core: &Core, receipt: &Receipt<'_>, ids: &Ids) -> Settled
     requires { IsReadable receipt.now core.now }
-    ensures { Settles result (answered ids.now (answer_of receipt.now core.now))
+    ensures { Settles result (success_response ids.now (answer_of receipt.now core.now))
         (has_changed receipt.now) receipt.now.revision }
 {
     match answer_text(alloc, core, receipt, ids) {
@@ -148,7 +148,7 @@ fn answer_text(
 ) -> Result<Vec<u8>, AllocError>
     requires { IsReadable receipt.now core.now }
     ensures { IfOk result (λ v.
-        v.items ≡ (answered ids.now (answer_of receipt.now core.now)).body) }
+        v.items ≡ (success_response ids.now (answer_of receipt.now core.now)).body) }
 {
     let answer = core.answer(receipt)?;
     text(alloc, &answer, ids)
@@ -159,7 +159,7 @@ fn answer_text(
 ///
 /// `AllocError` comes where that buffer finds no memory.
 pub fn text(alloc: Global, answer: &Answer<'_>, ids: &Ids) -> Result<Vec<u8>, AllocError>
-    ensures { IfOk result (λ v. v.items ≡ (answered ids.now (answer_view answer.now)).body) }
+    ensures { IfOk result (λ v. v.items ≡ (success_response ids.now (answer_view answer.now)).body) }
 {
     match answer {
         Answer::Range(reply) => range_text(alloc, reply, ids),
@@ -197,7 +197,7 @@ pub fn text(alloc: Global, answer: &Answer<'_>, ids: &Ids) -> Result<Vec<u8>, Al
 /// The text of a Compact's answer, with the revision after it: the header alone, as of a revoke.
 #[tactic(auto, unfolding(kv_model::specs::Answers::reply_text))]
 fn compacted_text(alloc: Global, revision: u64, ids: &Ids) -> Result<Vec<u8>, AllocError>
-    ensures { IfOk result (λ v. v.items ≡ (answered ids.now
+    ensures { IfOk result (λ v. v.items ≡ (success_response ids.now
         (record { reply = CompactReply; revision = revision })).body) }
 {
     revoked_text(alloc, revision, ids)
@@ -212,7 +212,7 @@ fn left_text(
     keys: &[&[u8]],
     ids: &Ids,
 ) -> Result<Vec<u8>, AllocError>
-    ensures { IfOk result (λ v. v.items ≡ (answered ids.now
+    ensures { IfOk result (λ v. v.items ≡ (success_response ids.now
         (record {
           reply = time_left_view id left (map (λ k. k.now) keys.now);
           revision = revision;

@@ -226,11 +226,11 @@ pub record Response : Type 0 where
 abbrev pub refused : Fault → Response
 refused f = record { status = f.status; body = compact_text (fault_text f) }
 
-abbrev pub answered : Ids → Answer → Response
-answered ids a = record { status = 200; body = compact_text (reply_text (header ids a.revision) a.revision a.reply) }
+abbrev pub success_response : Ids → Answer → Response
+success_response ids a = record { status = 200; body = compact_text (reply_text (header ids a.revision) a.revision a.reply) }
 
 abbrev pub response_to : Ids → Result Answer Refusal → Response
-response_to ids (Ok a) = answered ids a
+response_to ids (Ok a) = success_response ids a
 response_to ids (Err e) = refused (fault_of e)
 
 -- the message of a delivery at a revision, to the client's id; none where there is nothing to tell

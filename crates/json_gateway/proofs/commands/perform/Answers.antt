@@ -1,6 +1,6 @@
 use Rattle.kv_model.specs.Commands.{call_of}
 use Rattle.std.proofs.Common.{refl, ◌∙◌}
-use Rattle.kv_model.specs.Answers.{answered, fault_of}
+use Rattle.kv_model.specs.Answers.{success_response, fault_of}
 use Rattle.request_core.specs.Answers.{answer_of, has_changed}
 use Rattle.json_gateway.specs.Endings.{is_physical}
 use Rattle.json_gateway.proofs.Accepted.{accepted_counted}
@@ -13,7 +13,7 @@ returns-in-Ok-clause-counted c = λ w h is.
     accepted_counted c.args.core.now c.apply.new.self c.in-Ok.receipt (call_of c.args.command.now) c.in-Ok.ensures.done w h
 
 pub returns-in-Ok-clause-ready : goal.returns-in-Ok-clause-ready
-returns-in-Ok-clause-ready c = λ no. c.waits.ensures ∙ none_waits c.settled.result (answered c.args.ids.now (answer_of c.in-Ok.receipt c.apply.new.self))
+returns-in-Ok-clause-ready c = λ no. c.waits.ensures ∙ none_waits c.settled.result (success_response c.args.ids.now (answer_of c.in-Ok.receipt c.apply.new.self))
     (has_changed c.in-Ok.receipt) (is_physical (call_of c.args.command.now)) c.in-Ok.receipt.revision c.settled.ensures refl no
 
 pub returns-in-Ok-clause-waits : goal.returns-in-Ok-clause-waits
@@ -23,7 +23,7 @@ returns-in-Ok-clause-waits c = λ w h yes. c.waits.ensures
 pub returns-in-Ok-clause-keeps : goal.returns-in-Ok-clause-keeps
 returns-in-Ok-clause-keeps c =
     accepted_keeps c.args.core.now c.apply.new.self c.in-Ok.receipt (call_of c.args.command.now) c.settled.result
-    (answered c.args.ids.now (answer_of c.in-Ok.receipt c.apply.new.self)) c.in-Ok.ensures.done c.settled.ensures
+    (success_response c.args.ids.now (answer_of c.in-Ok.receipt c.apply.new.self)) c.in-Ok.ensures.done c.settled.ensures
 
 pub returns-in-Err-clause-keeps : goal.returns-in-Err-clause-keeps
 returns-in-Err-clause-keeps c =
