@@ -155,7 +155,8 @@ impl KeyIndex {
 
     /// The first revision of a key after a place, also where it is a tombstone. Takes no memory.
     ///
-    /// The time is logarithmic in the number of keys and in that of the key's revisions.
+    /// The time is logarithmic in the number of keys, and where the place is not that of the key's
+    /// oldest revision in that of its revisions too.
     pub fn after(&self, key: &Bytes, place: Rev) -> Option<Rev>
         ensures { result ≡ after_place place (revisions key.now self.now) }
     {

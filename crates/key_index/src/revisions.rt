@@ -1,7 +1,7 @@
 //! The revisions of one key, in order (etcd: data model, generations of a key).
 ghost use Rattle.std.specs.Prelude.{◌≡◌, ◌↔◌, List, [], ◌∷◌, ◌++◌, drop};
 ghost use Rattle.std.specs.Prelude.{◌<◌, ◌≤◌, ◌-◌, ◌^◌, length, IfOk, IfSome, OnOk, OnErr, IsTrue};
-ghost use Rattle.std.specs.Prelude.{MatchOption};
+ghost use Rattle.std.specs.Prelude.{MatchOption, Some};
 ghost use Rattle.std.specs.List.{slice_get};
 ghost use Rattle.kv_model.specs.Lists.{is_empty};
 ghost use Rattle.kv_model.specs.History.{rev_lt, rev_le};
@@ -85,7 +85,8 @@ impl Revisions {
 
     /// The first revision after a place, also where it is a tombstone. Takes no memory.
     ///
-    /// It halves: the time is logarithmic in the number of the key's revisions.
+    /// Constant time where the place is that of the oldest revision, and else, by halving,
+    /// logarithmic in the number of the key's revisions.
     pub fn after(&self, place: Rev) -> Option<Rev>
         ensures { result ≡ after_place place self.now }
     {
@@ -319,12 +320,30 @@ fn search(revisions: &VecDeque<Rev>, place: Rev) -> Option<Rev>
     }
 }
 
-/// The first of the revisions after a place. It halves.
+/// The first of the revisions after a place: the second, where the place is that of the oldest or
+/// between the two, and else found by halving.
 fn after(revisions: &VecDeque<Rev>, place: Rev) -> Option<Rev>
     requires { IsRising revisions.now.items }
     ensures { result ≡ after_place place revisions.now.items }
 {
-    rev_at(revisions, count_up_to(revisions, place))
+    match second_after(revisions, place) {
+        Some(second) => Some(second),
+        None => rev_at(revisions, count_up_to(revisions, place)),
+    }
+}
+
+/// The second of the revisions, where it is the first after a place.
+#[tactic(auto, using(crate::proofs::KeyRevisions::second_after))]
+fn second_after(revisions: &VecDeque<Rev>, place: Rev) -> Option<Rev>
+    ensures { IfSome result (λ second. after_place place revisions.now.items ≡ Some second) }
+{
+    let oldest = rev_at(revisions, 0)?;
+    let second = rev_at(revisions, 1)?;
+    if is_up_to(oldest, place) && is_before(place, second) {
+        Some(second)
+    } else {
+        None
+    }
 }
 
 /// Whether a revision is above all of the revisions.

@@ -4,7 +4,7 @@ use Rattle.std.specs.List.{slice_get}
 use Rattle.key_index.proofs.KeyRevisions.{find-after}
 use Rattle.key_index.proofs.revisions.after.Goals as goal
 
-pub returns : goal.returns
-returns c =
+pub returns-in-None : goal.returns-in-None
+returns-in-None c =
     c.rev_at.ensures.value ∙ ap (slice_get c.args.revisions.now.items) c.count_up_to.ensures
     ∙ sym (find-after c.args.place c.args.revisions.now.items)
