@@ -15,7 +15,8 @@ use Rattle.kv_model.specs.History.{rev_lt, rev_le}
 use Rattle.store_laws.specs.Rising.{is_of}
 use Rattle.store_laws.proofs.RevOrder.{rev_lt-main, rev_lt-up_to, rev_lt-beyond, rev_lt-opposite, is_rev-same}
 use Rattle.store_laws.proofs.Rising as rising
-use Rattle.key_index.specs.KeyRevisions.{IsRising, newest, ends_in, after_place, at_place, undone, count_up_to, is_oldest, without}
+use Rattle.key_index.specs.KeyRevisions.{IsRising, newest, ends_in, after_place, at_place, second_after, undone, count_up_to}
+use Rattle.key_index.specs.KeyRevisions.{is_oldest, without}
 
 abbrev pub IsAbove : Rev → List Rev → Type 0
 IsAbove p qs = rising.IsAbove (λ q. q) p qs
@@ -166,16 +167,17 @@ pub find-after : (p : Rev) (qs : List Rev) → find (λ q. rev_lt p q) qs ≡ sl
 find-after p qs = (λ i. find (λ q. rev_lt-opposite p q i) qs) ∙ rising.find-not (λ q. rev_le q p) qs
 
 -- where the place lies between the oldest two, the second is the first after it
-pub second_after : (p : Rev) (qs : List Rev) (q r : Rev) → slice_get qs 0 ≡ Some q → slice_get qs 1 ≡ Some r → rev_le q p ≡ true
-    → rev_lt p r ≡ true → after_place p qs ≡ Some r
-second_after p [] q r e f h g = cc
-second_after p (a ∷ []) q r e f h g = cc
-second_after p (a ∷ b ∷ rest) q r e f h g =
-    let first : a ≡ q = cc in
-    let next : b ≡ r = cc in
-    let past : rev_lt p a ≡ false = rev_lt-opposite p a ∙ ap not (subst (λ x. rev_le x p ≡ true) (sym first) h) in
-    let found : rev_lt p b ≡ true = subst (λ x. rev_lt p x ≡ true) (sym next) g in
-    (λ i. cond (past i) (Some a) (cond (found i) (Some b) (find (λ s. rev_lt p s) rest))) ∙ ap Some next
+pub second_after-first : (p : Rev) (qs : List Rev) (r : Rev) → Some r ≡ second_after p qs → Some r ≡ after_place p qs
+second_after-first p [] r e = absurd cc
+second_after-first p (a ∷ []) r e = absurd cc
+second_after-first p (a ∷ b ∷ qs) r e = by (rev_le a p) (rev_lt p b) refl refl e
+  where
+    by : (x y : Bool) → rev_le a p ≡ x → rev_lt p b ≡ y → Some r ≡ cond (x && y) (Some b) None → Some r ≡ after_place p (a ∷ b ∷ qs)
+    by true true h g f =
+        let past : rev_lt p a ≡ false = rev_lt-opposite p a ∙ ap not h in
+        f ∙ sym (λ i. cond (past i) (Some a) (cond (g i) (Some b) (find (λ s. rev_lt p s) qs)))
+    by true false h g f = absurd cc
+    by false y h g f = absurd cc
 
 -- ---- a revision taken out
 

@@ -24,6 +24,12 @@ at_place p qs = last_that (λ q. rev_le q p) qs
 abbrev pub after_place : Rev → List Rev → Option Rev
 after_place p qs = find (λ q. rev_lt p q) qs
 
+-- the second revision, where it is the first after the place: the oldest is not after it
+abbrev pub second_after : Rev → List Rev → Option Rev
+second_after p [] = None
+second_after p (q ∷ []) = None
+second_after p (q ∷ r ∷ qs) = if rev_le q p && rev_lt p r then Some r else None
+
 -- how many revisions are not after the place, where they rise
 abbrev pub count_up_to : Rev → List Rev → ℕ
 count_up_to p qs = rising.count_while (λ q. rev_le q p) qs

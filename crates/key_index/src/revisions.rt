@@ -1,13 +1,13 @@
 //! The revisions of one key, in order (etcd: data model, generations of a key).
 ghost use Rattle.std.specs.Prelude.{◌≡◌, ◌↔◌, List, [], ◌∷◌, ◌++◌, drop};
 ghost use Rattle.std.specs.Prelude.{◌<◌, ◌≤◌, ◌-◌, ◌^◌, length, IfOk, IfSome, OnOk, OnErr, IsTrue};
-ghost use Rattle.std.specs.Prelude.{MatchOption, Some};
+ghost use Rattle.std.specs.Prelude.{MatchOption};
 ghost use Rattle.std.specs.List.{slice_get};
 ghost use Rattle.kv_model.specs.Lists.{is_empty};
 ghost use Rattle.kv_model.specs.History.{rev_lt, rev_le};
 ghost use Rattle.key_index.specs.KeyRevisions.{IsBehind, IsRising, after_place, at_place};
 ghost use Rattle.key_index.specs.KeyRevisions.{count_before, count_up_to, ends_in, ends_up_to};
-ghost use Rattle.key_index.specs.KeyRevisions.{is_oldest, is_rev, newest, undone, without};
+ghost use Rattle.key_index.specs.KeyRevisions.{is_oldest, is_rev, newest, second_after, undone, without};
 
 use kv_model::version::Rev;
 use std::alloc::{AllocError, Global};
@@ -333,9 +333,8 @@ fn after(revisions: &VecDeque<Rev>, place: Rev) -> Option<Rev>
 }
 
 /// The second of the revisions, where it is the first after a place.
-#[tactic(auto, using(crate::proofs::KeyRevisions::second_after))]
 fn second_after(revisions: &VecDeque<Rev>, place: Rev) -> Option<Rev>
-    ensures { IfSome result (λ second. after_place place revisions.now.items ≡ Some second) }
+    ensures { result ≡ second_after place revisions.now.items }
 {
     let oldest = rev_at(revisions, 0)?;
     let second = rev_at(revisions, 1)?;

@@ -1,5 +1,5 @@
 -- The revisions still rise, and a list is no shorter.
-use Rattle.std.proofs.Common.{length, ◌+◌, ◌∷◌, [], arith}
+use Rattle.std.proofs.Common.{◌∷◌, [], arith}
 use Rattle.std.proofs.lemmas.List.{length-append}
 use Rattle.store_laws.proofs.Rising.{rising-push}
 use Rattle.key_index.proofs.revisions.Revisions.push.Goals as goal
