@@ -4,11 +4,12 @@
 //! each key and value is made in a second buffer, which grows to the longest of them, and is copied
 //! into the body. So an answer costs two allocations and a few more as the second buffer grows, and
 //! time for the bytes of its body.
-ghost use Rattle.std.specs.Prelude.{◌≡◌, ◌≤◌, ◌++◌, map, IfOk, OnOk, option_map};
+ghost use Rattle.std.specs.Prelude.{◌≡◌, ◌≤◌, ◌+◌, ◌++◌, map, IfOk, OnOk, option_map};
 ghost use Rattle.kv_model.specs.Told as told;
 ghost use Rattle.kv_model.specs.Answers as texts;
 ghost use Rattle.kv_model.specs.Answers.{success_response};
 ghost use Rattle.range_view.specs.Replies.{kv_view, reply_view};
+ghost use Rattle.gateway_text.specs.Rooms.{most_of_kvs, most_or};
 ghost use Rattle.gateway_text.specs.Tokens.{data_tokens};
 ghost use Rattle.gateway_text.specs.Views.{header_data};
 
@@ -67,11 +68,7 @@ pub fn put_text(
           revision = revision;
         })).body) }
 {
-    let frame = room_of_header(ids, revision) + PUT;
-    let room = match &previous {
-        Some(kv) => room_of_kv(kv).saturating_add(frame + PREVIOUS),
-        None => frame,
-    };
+    let room = room_of_put(ids, revision, previous);
     let mut out = JsonText::with_capacity(alloc, room)?;
     write_put(&mut out, &Header::Whole(*ids, revision), previous)?;
     Ok(out.into_bytes())
@@ -156,8 +153,21 @@ pub(crate) fn frame_of(ids: &Ids, revision: u64, count: u64) -> usize
     room_of_header(ids, revision) + ANSWER_NAMES + digits(count)
 }
 
+/// Room for the text of a Put's answer.
+fn room_of_put(ids: &Ids, revision: u64, previous: Option<KvRef<'_>>) -> usize
+    ensures { result ≤ 148 + most_or 0 (option_map kv_view previous.entry) }
+{
+    let frame = room_of_header(ids, revision) + PUT;
+    match &previous {
+        Some(kv) => room_of_kv(kv).saturating_add(frame + PREVIOUS),
+        None => frame,
+    }
+}
+
 /// So much room, and room for these key-values.
-pub(crate) fn room_for(frame: usize, kvs: &[KvRef<'_>]) -> usize {
+pub(crate) fn room_for(frame: usize, kvs: &[KvRef<'_>]) -> usize
+    ensures { result ≤ frame + most_of_kvs kvs.now }
+{
     let mut room = frame;
     for kv in kvs {
         room = room.saturating_add(room_of_kv(kv));

@@ -1,4 +1,7 @@
 //! A key-value in an answer.
+ghost use Rattle.std.specs.Prelude.{◌≤◌};
+ghost use Rattle.gateway_text.specs.Rooms.{most_of_lent};
+
 use crate::header::digits;
 use crate::json_text::{JsonText, WriteJson};
 use range_view::reply::KvRef;
@@ -12,7 +15,9 @@ const KEY_VALUE_NAMES: usize = 74;
 const LEASE: usize = 31;
 
 /// Room for the text of a key-value: base64 has four symbols for three bytes.
-pub(crate) fn room_of_kv(kv: &KvRef<'_>) -> usize {
+pub(crate) fn room_of_kv(kv: &KvRef<'_>) -> usize
+    ensures { result ≤ most_of_lent kv.now }
+{
     let groups = kv.key.len() / 3 + kv.value.len() / 3 + 2;
     let lease = if kv.lease == 0 { 0 } else { LEASE };
     let numbers = digits(kv.create) + digits(kv.modified) + digits(kv.version);

@@ -2,10 +2,11 @@
 //! LeaseGrantResponse and the like).
 //!
 //! Each function here fails for want of memory alone, and costs as those of the other answers do.
-ghost use Rattle.std.specs.Prelude.{◌≡◌, ◌++◌, map, codes, IfOk, OnOk};
+ghost use Rattle.std.specs.Prelude.{◌≡◌, ◌≤◌, ◌+◌, ◌*◌, ◌++◌, length, map, codes, IfOk, OnOk};
 ghost use Rattle.kv_model.specs.Told as told;
 ghost use Rattle.kv_model.specs.Answers as texts;
 ghost use Rattle.kv_model.specs.Answers.{success_response, int_field};
+ghost use Rattle.gateway_text.specs.Rooms.{most_of_key, total};
 ghost use Rattle.gateway_text.specs.Tokens.{data_tokens, field_tokens};
 ghost use Rattle.gateway_text.specs.Views.{header_data, lease_data, leases_data};
 ghost use Rattle.gateway_text.specs.Views.{seconds_view, time_left_data};
@@ -107,8 +108,7 @@ pub fn leases_text(
     ensures { IfOk result (λ v. v.items ≡ (success_response ids.now
         (record { reply = told.Reply.leases leases.now; revision = revision })).body) }
 {
-    let room = leases.len().saturating_mul(ITEM).saturating_add(FRAME);
-    let mut out = JsonText::with_capacity(alloc, room)?;
+    let mut out = JsonText::with_capacity(alloc, room_for_leases(leases))?;
     write_leases(&mut out, &Header::Whole(*ids, revision), leases)?;
     Ok(out.into_bytes())
 }
@@ -215,11 +215,26 @@ impl WriteJson for i64 {
     }
 }
 
+/// Room for a body with these leases.
+fn room_for_leases(leases: &[i64]) -> usize
+    ensures { result ≤ 256 + 32 * length leases.now }
+{
+    leases.len().saturating_mul(ITEM).saturating_add(FRAME)
+}
+
 /// Room for a body with these keys: base64 has four symbols for three bytes.
-fn room_for_keys(keys: &[&[u8]]) -> usize {
+fn room_for_keys(keys: &[&[u8]]) -> usize
+    ensures { result ≤ 256 + total (map (λ k. most_of_key k.now) keys.now) }
+{
     let mut room = FRAME;
     for key in keys {
-        room = room.saturating_add((key.len() / 3).saturating_mul(4).saturating_add(ITEM));
+        room = room.saturating_add(room_of_key(key));
     }
     room
+}
+
+fn room_of_key(key: &[u8]) -> usize
+    ensures { result ≤ most_of_key key.now }
+{
+    (key.len() / 3).saturating_mul(4).saturating_add(ITEM)
 }

@@ -1,5 +1,5 @@
 //! The bodies of refusals.
-ghost use Rattle.std.specs.Prelude.{◌≡◌, ℕ, ◌++◌, IfOk, OnOk, string_bytes};
+ghost use Rattle.std.specs.Prelude.{◌≡◌, ◌≤◌, ◌+◌, ◌*◌, ℕ, ◌++◌, length, IfOk, OnOk, string_bytes};
 ghost use Rattle.kv_model.specs.declared.refusal.Refusal.TheVariants.{Memory};
 ghost use Rattle.kv_model.specs.Requests as requests;
 ghost use Rattle.kv_model.specs.Answers.{fault, fault_of, fault_of_bad};
@@ -132,10 +132,16 @@ pub fn refusal_text(alloc: Global, wording: &Wording<'_>) -> Result<Vec<u8>, All
     ensures { IfOk result (λ v. v.items ≡ (refused (wording_view wording.now)).body) }
 {
     let text = joined(alloc, wording.text, wording.name)?;
-    let room = text.len().saturating_mul(2).saturating_add(REFUSAL_FRAME);
-    let mut out = JsonText::with_capacity(alloc, room)?;
+    let mut out = JsonText::with_capacity(alloc, room_of_refusal(text.as_str()))?;
     write_refusal(&mut out, wording.code, text.as_str())?;
     Ok(out.into_bytes())
+}
+
+/// Room for the body of a refusal, in which the text stands twice.
+fn room_of_refusal(text: &str) -> usize
+    ensures { result ≤ 2 * length text.now + 64 }
+{
+    text.len().saturating_mul(2).saturating_add(REFUSAL_FRAME)
 }
 
 /// One text after the other.

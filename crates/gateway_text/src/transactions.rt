@@ -1,10 +1,11 @@
 //! The bodies of the answers to transactions (the etcd documentation's TxnResponse and ResponseOp).
-ghost use Rattle.std.specs.Prelude.{◌≡◌, ◌++◌, map, codes, IfOk, OnOk, option_map};
+ghost use Rattle.std.specs.Prelude.{◌≡◌, ◌≤◌, ◌+◌, ◌++◌, map, codes, IfOk, OnOk, option_map};
 ghost use Rattle.std.specs.List.{flat_map};
 ghost use Rattle.kv_model.specs.Told as told;
 ghost use Rattle.kv_model.specs.Answers as texts;
 ghost use Rattle.kv_model.specs.Answers.{success_response, list_field};
 ghost use Rattle.range_view.specs.Replies.{kv_view, reply_view, replies_view};
+ghost use Rattle.gateway_text.specs.Rooms.{most_of_reply, total};
 ghost use Rattle.gateway_text.specs.Tokens.{data_tokens, field_tokens};
 ghost use Rattle.gateway_text.specs.Views.{header_data, response_of};
 
@@ -179,8 +180,10 @@ fn write_delete_response(
 
 /// So much room, and room for these responses at a revision.
 #[cycle(room)]
-fn room_of_all(replies: &[OpReply<'_>], revision: u64, room: usize) -> usize {
-    let mut room = room;
+fn room_of_all(replies: &[OpReply<'_>], revision: u64, frame: usize) -> usize
+    ensures { result ≤ frame + total (map most_of_reply replies.now) }
+{
+    let mut room = frame;
     for reply in replies {
         room = room.saturating_add(room_of_one(reply, revision));
     }
@@ -188,7 +191,9 @@ fn room_of_all(replies: &[OpReply<'_>], revision: u64, room: usize) -> usize {
 }
 
 #[cycle(room)]
-fn room_of_one(reply: &OpReply<'_>, revision: u64) -> usize {
+fn room_of_one(reply: &OpReply<'_>, revision: u64) -> usize
+    ensures { result ≤ most_of_reply reply.now }
+{
     let response = RESPONSE + digits(revision);
     match reply {
         OpReply::Range(reply) => room_for(

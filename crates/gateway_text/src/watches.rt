@@ -1,12 +1,14 @@
 //! The bodies of what watches are told (the etcd documentation's WatchResponse and Event).
 //!
 //! Each function here fails for want of memory alone, and costs as those of the other answers do.
-ghost use Rattle.std.specs.Prelude.{◌≡◌, ℕ, ◌++◌, Some, codes, map, IfOk, OnOk};
+ghost use Rattle.std.specs.Prelude.{◌≡◌, ◌≤◌, ◌+◌, ℕ, ◌++◌, Some, codes, map, IfOk, OnOk, option_map};
 ghost use Rattle.kv_model.specs.Told as told;
 ghost use Rattle.kv_model.specs.Answers as texts;
 ghost use Rattle.kv_model.specs.Answers.{success_response, message_text};
 ghost use Rattle.kv_model.specs.Watches as watches;
 ghost use Rattle.watch_hub.specs.Messages.{event_view};
+ghost use Rattle.range_view.specs.Replies.{kv_view};
+ghost use Rattle.gateway_text.specs.Rooms.{most_of_event, most_of_version, most_or, total};
 ghost use Rattle.gateway_text.specs.Tokens.{data_tokens, field_tokens};
 ghost use Rattle.gateway_text.specs.Views.{cancelled_data, created_data, events_data};
 ghost use Rattle.gateway_text.specs.Views.{header_data, message_data};
@@ -17,7 +19,7 @@ use crate::json_text::{JsonText, WriteJson};
 use crate::key_value::room_of_kv;
 use kv_model::ids::Ids;
 use kv_model::version::{Body, Version};
-use range_view::reply::key_value_of;
+use range_view::reply::{KvRef, key_value_of};
 use std::alloc::{AllocError, Global};
 use watch_hub::Event;
 
@@ -230,7 +232,9 @@ fn write_tombstone(out: &mut JsonText, version: &Version) -> Result<(), AllocErr
 }
 
 /// Room for the text of a message of events.
-fn room_of_events(events: &[Event<'_>]) -> usize {
+fn room_of_events(events: &[Event<'_>]) -> usize
+    ensures { result ≤ 256 + total (map most_of_event events.now) }
+{
     let mut room = FRAME;
     for event in events {
         room = room.saturating_add(room_of_event(event));
@@ -238,16 +242,31 @@ fn room_of_events(events: &[Event<'_>]) -> usize {
     room
 }
 
-fn room_of_event(event: &Event<'_>) -> usize {
-    let kv = match key_value_of(event.version) {
+fn room_of_event(event: &Event<'_>) -> usize
+    ensures { result ≤ most_of_event event.now }
+{
+    let version = room_of_version(event.version);
+    let previous = room_of_previous(event.previous);
+    version.saturating_add(previous).saturating_add(EVENT_NAMES)
+}
+
+/// Room for a put's key-value, or for the key and the revision of a tombstone.
+fn room_of_version(version: &Version) -> usize
+    ensures { result ≤ most_of_version version.now }
+{
+    match key_value_of(version) {
         Some(kv) => room_of_kv(&kv),
-        None => (event.version.key.len() / 3 + 1)
+        None => (version.key.len() / 3 + 1)
             .saturating_mul(4)
-            .saturating_add(digits(event.version.rev.main)),
-    };
-    let previous = match &event.previous {
+            .saturating_add(digits(version.rev.main)),
+    }
+}
+
+fn room_of_previous(previous: Option<KvRef<'_>>) -> usize
+    ensures { result ≤ most_or 0 (option_map kv_view previous.entry) }
+{
+    match &previous {
         Some(kv) => room_of_kv(kv),
         None => 0,
-    };
-    kv.saturating_add(previous).saturating_add(EVENT_NAMES)
+    }
 }
