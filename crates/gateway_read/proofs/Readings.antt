@@ -1,5 +1,5 @@
 -- The model's readings, part by part.
-use Rattle.std.proofs.Common.{◌≡◌, ℕ, ℤ, List, [], ◌∷◌, map, Bool, true, false, cond, Option, None, Some, Ok, Err, refl, ap, ◌∙◌}
+use Rattle.std.proofs.Common.{◌≡◌, ℕ, ℤ, List, [], ◌∷◌, map, Bool, true, false, cond, Option, None, Some, is_some, Ok, Err, refl, sym, ap, ◌∙◌}
 use Rattle.std.specs.Prelude.{codes, option_map}
 use Rattle.std.specs.Str.{IsUtf8, is_utf8}
 use Rattle.std.proofs.lemmas.Str.{is_utf8-from_IsUtf8, IsUtf8-from_is_utf8}
@@ -102,3 +102,19 @@ request_of-no_path path body h = rw (by_path path body, h) refl
 pub request_of-call_read : (path body : List ℕ) (request : Request) → requests.named_value known_paths path ≡ Some request
     → requests.request_of path body ≡ (requests.object_of body >>= call_read request)
 request_of-call_read path body request h = rw (by_path path body, h) refl
+
+-- ---- paths that are known, and others
+
+by_known : (path : List ℕ) → requests.named_value requests.paths path ≡ option_map call_read (requests.named_value known_paths path)
+by_known path = named_value-map call_read known_paths path
+
+pub not-unknown : (path : List ℕ) (request : Request) → requests.named_value known_paths path ≡ Some request
+    → requests.named_value requests.paths path ≡ None → ⊥
+not-unknown path request h e =
+    let x : true ≡ false = sym (ap is_some (by_known path ∙ ap (option_map call_read) h)) ∙ ap is_some e in cc
+
+pub not-known : (path : List ℕ) → requests.named_value known_paths path ≡ None → is_some (requests.named_value requests.paths path) ≡ true → ⊥
+not-known path h e = let x : false ≡ true = sym (ap is_some (by_known path ∙ ap (option_map call_read) h)) ∙ e in cc
+
+pub ok-not-err : {A E : Type 0} {x : A} {e : E} → (Ok x) ≡ (Err e) → ⊥
+ok-not-err h = cc

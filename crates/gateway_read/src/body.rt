@@ -1,7 +1,9 @@
 //! The object that a body is.
+ghost use Rattle.std.specs.Prelude.{◌≡◌, ◌<◌, length, Err};
 ghost use Rattle.serde_json.specs.View.{view, members_view};
 ghost use Rattle.kv_model.specs.Requests as requests;
 ghost use Rattle.gateway_read.specs.Reading.{Gives};
+ghost use Rattle.gateway_read.specs.declared.bad.Bad.TheVariants.{TooLong};
 
 use crate::bad::Bad;
 use serde_json::{Map, Value};
@@ -11,10 +13,12 @@ use std::str;
 /// The longest body, in bytes.
 const LONGEST_BODY: usize = 1_572_864;
 
-/// The members of a body that is a JSON object. No body at all is an empty object.
+/// The members of a body that is a JSON object. No body at all is an empty object. A body that is
+/// too long takes no memory.
 pub(crate) fn object_of(alloc: Global, body: &[u8]) -> Result<Map<String, Value>, Bad>
-    ensures { Gives (λ members. members_view members.entries) result
+    ensures gives { Gives (λ members. members_view members.entries) result
         (requests.object_of body.now) }
+    ensures too_long { requests.longest_body < length body.now → result ≡ Err TooLong }
 {
     if body.len() > LONGEST_BODY {
         return Err(Bad::TooLong);

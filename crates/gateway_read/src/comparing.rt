@@ -39,7 +39,7 @@ const RELATIONS: [(&str, Relation); 4] = [
 /// and ignored. The first fault counts: `BadField` or `BadBase64`, and `BadField(Compare)` for a
 /// value that is no object. `Memory` comes where a growth finds no memory.
 #[tactic(auto, unfolding(kv_model::specs::Requests::compare_request, crate::specs::Fields::snake_of, crate::specs::Compares::compared))]
-pub fn compare_request(alloc: Global, value: &Value) -> Result<Compare, Bad>
+pub(crate) fn compare_request(alloc: Global, value: &Value) -> Result<Compare, Bad>
     ensures { Gives (λ compare. compare) result (requests.compare_request (view value.now)) }
 {
     let object = &object_under(value, Field::Compare)?;

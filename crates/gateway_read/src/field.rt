@@ -137,7 +137,7 @@ impl Field {
 
     /// The name in camel case, as `rangeEnd` (protobuf's JSON mapping: lowerCamelCase). Some names
     /// are the same in both.
-    pub fn camel(self) -> &'static str
+    pub(crate) fn camel(self) -> &'static str
         ensures spelling { result.now ≡ camel_of self }
         ensures camel { result.now ≡ requests.camel (snake_of self) }
     {

@@ -23,9 +23,11 @@
 //! `tests/rows.d/refusals.rows`.
 #![tactic(auto)]
 
+ghost use Rattle.std.specs.Prelude.{◌≡◌, ◌<◌, length, None, Err, IsSome};
 ghost use Rattle.kv_model.specs.Commands.{call_of};
 ghost use Rattle.kv_model.specs.Requests as requests;
 ghost use Rattle.gateway_read.specs.Reading.{Gives};
+ghost use Rattle.gateway_read.specs.declared.bad.Bad.TheVariants.{NoPath, TooLong};
 
 use bad::Bad;
 use kv_model::call::Command;
@@ -36,7 +38,7 @@ use std::alloc::Global;
 pub mod bad;
 mod body;
 mod compacting;
-pub mod comparing;
+mod comparing;
 mod deleting;
 pub mod field;
 mod kinds;
@@ -75,11 +77,18 @@ const PATHS: [(&str, Request); 14] = [
 /// both stand; other names are ignored. `Memory` comes where a growth finds no memory. The time is
 /// linear in the body, but for the look-up of each field.
 pub fn read(alloc: Global, path: &[u8], body: &[u8]) -> Result<Command, Bad>
-    ensures { Gives call_of result (requests.request_of path.now body.now) }
+    ensures gives { Gives call_of result (requests.request_of path.now body.now) }
+    ensures no_path { requests.named_value requests.paths path.now ≡ None
+        → result ≡ Err NoPath }
+    ensures too_long { IsSome (requests.named_value requests.paths path.now)
+        → requests.longest_body < length body.now → result ≡ Err TooLong }
 {
     let Some(request) = kinds::named(&PATHS, path) else {
         return Err(Bad::NoPath);
     };
-    let members = body::object_of(alloc, body)?;
+    let members = match body::object_of(alloc, body) {
+        Ok(members) => members,
+        Err(bad) => return Err(bad),
+    };
     requests::command(alloc, request, &Object::new(&members))
 }

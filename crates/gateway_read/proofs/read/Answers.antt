@@ -1,13 +1,34 @@
-use Rattle.std.proofs.Common.{rules, sym}
-use Rattle.gateway_read.proofs.Readings.{request_of-no_path, request_of-call_read}
+-- The path, then the body's length, then its fields.
+use Rattle.std.proofs.Common.{sym}
+use Rattle.kv_model.specs.Requests.{object_of}
+use Rattle.gateway_read.specs.Parts.{call_read}
+use Rattle.gateway_read.proofs.Steps.{fails_then}
+use Rattle.gateway_read.proofs.Readings.{request_of-no_path, request_of-call_read, not-unknown, not-known, ok-not-err}
 use Rattle.gateway_read.proofs.read.Goals as goal
 
-pub returns-in_default : goal.returns-in_default
-returns-in_default c = request_of-no_path c.args.path.now c.args.body.now (sym c.in_default.ensures)
+pub returns-in_default-clause-gives : goal.returns-in_default-clause-gives
+returns-in_default-clause-gives c = request_of-no_path c.args.path.now c.args.body.now (sym c.in_default.ensures)
 
-pub returns-in_err-members : goal.returns-in_err-members
-returns-in_err-members c = rw (request_of-call_read c.args.path.now c.args.body.now _ (sym c.in-Some.ensures)) (search rules)
+pub returns-in_default-clause-too_long : goal.returns-in_default-clause-too_long
+returns-in_default-clause-too_long c = λ known long. absurd (not-known c.args.path.now (sym c.in_default.ensures) known)
 
-pub returns : goal.returns
-returns c = rw (request_of-call_read c.args.path.now c.args.body.now _ (sym c.in-Some.ensures), c.in_ok-members.ensures, ← c.new.ensures)
+pub returns-in-Err-clause-gives : goal.returns-in-Err-clause-gives
+returns-in-Err-clause-gives c =
+    rw (request_of-call_read c.args.path.now c.args.body.now c.in-Some.request (sym c.in-Some.ensures))
+    (fails_then c.in-Err.bad (object_of c.args.body.now) (call_read c.in-Some.request) c.in-Err.ensures.gives)
+
+pub returns-in-Err-clause-no_path : goal.returns-in-Err-clause-no_path
+returns-in-Err-clause-no_path c = λ none. absurd (not-unknown c.args.path.now c.in-Some.request (sym c.in-Some.ensures) none)
+
+pub returns-in-Err-clause-too_long : goal.returns-in-Err-clause-too_long
+returns-in-Err-clause-too_long c = λ known long. c.in-Err.ensures.too_long long
+
+pub returns-clause-gives : goal.returns-clause-gives
+returns-clause-gives c = rw (request_of-call_read c.args.path.now c.args.body.now _ (sym c.in-Some.ensures), c.in-Ok.ensures.gives, ← c.new.ensures)
     c.command.ensures
+
+pub returns-clause-no_path : goal.returns-clause-no_path
+returns-clause-no_path c = λ none. absurd (not-unknown c.args.path.now c.in-Some.request (sym c.in-Some.ensures) none)
+
+pub returns-clause-too_long : goal.returns-clause-too_long
+returns-clause-too_long c = λ known long. absurd (ok-not-err (c.in-Ok.ensures.too_long long))
