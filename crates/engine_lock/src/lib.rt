@@ -36,6 +36,7 @@ mod client;
 mod closing;
 pub mod engine;
 pub mod opening;
+pub mod past;
 mod state;
 mod steps;
 
@@ -43,6 +44,7 @@ pub use client::Client;
 pub use closing::CloseFault;
 pub use engine::{Engine, Submitted};
 pub use opening::{EngineName, Feed, NoFeed, Opening};
+pub use past::Given;
 
 /// How many clients one engine makes in its life.
 pub const MOST_CLIENTS: u64 = 64;
