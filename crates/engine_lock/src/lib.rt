@@ -10,8 +10,11 @@
 //!
 //! One holding of the lock makes one event: [`Engine::submit`] hands in the moment and does the
 //! command, [`Engine::expire_once`] hands in the moment and makes a step of expiry,
-//! [`Engine::deliver`], [`Engine::drop_watch`] and [`Engine::trim_once`] are an event each. For
-//! example, where `a` and `b` are two clients:
+//! [`Engine::deliver`], [`Engine::drop_watch`] and [`Engine::trim_once`] are an event each. These
+//! three stand twice, as `.._for` for a client too: a client has, for clauses alone, the list of
+//! all that it was given ([`Given`]), in order, so that a caller's contract can say what it did
+//! with each outcome, message and step, and that there was no other. For example, where `a` and `b`
+//! are two clients:
 //!
 //! ```text
 //!                             core                       shares of a, b    the book's total
