@@ -102,12 +102,13 @@ impl Core {
         self.stamp
     }
 
-    /// The store's numbers. Takes no memory.
+    /// The store's numbers. The revision is at most 2^63 - 1. Takes no memory.
     pub fn status(&self) -> Status
         ensures revision { result.revision ≡ self.now.store.revision }
         ensures compacted { result.compacted ≡ self.now.store.compacted }
         ensures clock { result.clock ≡ self.now.store.clock }
         ensures versions { result.versions ≡ length self.now.store.versions }
+        ensures fits { self.now.store.revision ≤ last_main }
     {
         Status {
             revision: self.tables.revision(),
