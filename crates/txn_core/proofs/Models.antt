@@ -1,7 +1,5 @@
 -- What is planned on a view, in the words of the model: at the end of the view's revision, on the versions that stand there.
-use Rattle.std.proofs.Common.{◌≡◌, ◌⊎◌, ℕ, zero, ℤ, List, [], ◌∷◌, map, Bool, Option, None, Some, refl, sym, ◌∙◌, ap}
-use Rattle.kv_model.specs.declared.refusal.Refusal.{Refusal}
-use Rattle.kv_model.specs.declared.refusal.Refusal.TheVariants.{Memory}
+use Rattle.std.proofs.Common.{◌≡◌, ℕ, List, [], ◌∷◌, map, None, refl, ◌∙◌, ap}
 use Rattle.kv_model.specs.declared.version.Rev.{Rev}
 use Rattle.kv_model.specs.declared.version.Version.{Version}
 use Rattle.kv_model.specs.Calls.{Ops}
@@ -12,11 +10,10 @@ use Rattle.store_laws.specs.Plans.{planned}
 use Rattle.store_laws.proofs.Planning.{plan_refuses}
 use Rattle.range_view.specs.Stored.{Viewed}
 use Rattle.txn_core.specs.KeyWrites.{number_after, as_kept}
-use Rattle.txn_core.specs.Planning.{made, refusal_of, IsRefusal, path_in, versions_made_in, refusal_in, present}
+use Rattle.txn_core.specs.Planning.{made, refusal_of, path_in, versions_made_in, refusal_in, present}
 use Rattle.txn_core.proofs.Apart.{planned-added}
 use Rattle.txn_core.proofs.Making.{version_kept, made-planned, refusal-planned}
 use Rattle.txn_core.proofs.Present.{up_to-by, alike-up_to, path-alike, made-alike, refusal-alike}
-use Rattle.txn_core.proofs.Running.{memory-or}
 
 abbrev pub at_end : Viewed → Viewed
 at_end v = record v { place = end_of v.revision }

@@ -1,5 +1,5 @@
 -- What a view of the end of its revision shows of all versions is what it shows of those that stand there.
-use Rattle.std.proofs.Common.{◌≡◌, ℕ, ℤ, List, [], ◌∷◌, ◌++◌, filter, length, Bool, true, false, ◌&&◌, cond, Option, None, Some, refl, sym, ◌∙◌, ap}
+use Rattle.std.proofs.Common.{◌≡◌, ℕ, ℤ, List, [], ◌∷◌, ◌++◌, filter, length, Bool, true, false, ◌&&◌, cond, None, Some, refl, ◌∙◌, ap}
 use Rattle.std.proofs.Common.{option_and_then}
 use Rattle.std.specs.Option.{option_or}
 use Rattle.std.specs.List.{list_all}
