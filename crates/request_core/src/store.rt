@@ -15,6 +15,8 @@ mod putting;
 mod ranging;
 mod receipts;
 mod revoking;
+#[cfg(test)]
+mod spent;
 mod transacting;
 mod trimming;
 mod watching;
