@@ -99,7 +99,7 @@ fn run_server<R: Wait + Threads + time::Clock + Sync>(
     closed_revision::<Brand, R>(rt, alloc, Opening::new(NoFeed), listener, serve)
 }
 
-fn closed_revision<L: EngineName, R: Wait + Threads + time::Clock + Sync>(
+fn closed_revision<L: EngineName + Send + Sync, R: Wait + Threads + time::Clock + Sync>(
     rt: &R,
     alloc: Global,
     opening: Opening<NoFeed>,

@@ -2,7 +2,7 @@
 ghost use Rattle.std.specs.Prelude.{◌≡◌, ◌&&◌, IfOk, IfErr, MatchOption, option_map, filter_map};
 ghost use Rattle.std.specs.Prelude.{map, filter, length, nat_le};
 ghost use Rattle.kv_model.specs.Keys.{one_key, same_key};
-ghost use Rattle.kv_model.specs.History.{value_at};
+ghost use Rattle.kv_model.specs.History.{value_at, end_of};
 ghost use Rattle.kv_model.specs.Ranges.{range_reply, read_place, revision_refusal, live};
 ghost use Rattle.version_table.specs.Rising.{IsRising};
 ghost use Rattle.key_index.specs.Agrees.{read_at, read_entry};
@@ -13,7 +13,7 @@ ghost use Rattle.range_view.specs.Stored.{AreTied};
 
 use crate::key_versions::KeyVersions;
 use crate::reply::{KvRef, RangeReply, key_value_of};
-use crate::revision::{read_place, revision_refusal};
+use crate::revision::{end_of, read_place, revision_refusal};
 use crate::select::Found;
 use bytes::Bytes;
 use key_index::{Indexed, KeyIndex};
@@ -75,6 +75,19 @@ impl<'a> View<'a> {
             revision,
             place,
         }
+    }
+
+    /// The same, seen at the end of the view's revision. Takes no memory, and constant time.
+    pub fn at_end(&self) -> View<'a>
+        ensures { result ≡ record self.now { place = end_of self.now.revision } }
+    {
+        View::new(
+            self.table,
+            self.index,
+            self.compacted,
+            self.revision,
+            end_of(self.revision),
+        )
     }
 
     /// The revision of the last compaction, 0 before the first.
