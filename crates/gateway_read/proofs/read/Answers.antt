@@ -1,6 +1,8 @@
 -- The path, then the body's length, then its fields.
-use Rattle.std.proofs.Common.{sym}
+use Rattle.std.proofs.Common.{◌≡◌, Some, sym, ap}
+use Rattle.std.specs.Result.{result_err}
 use Rattle.kv_model.specs.Requests.{object_of}
+use Rattle.gateway_read.specs.declared.bad.Bad.TheVariants.{TooLong}
 use Rattle.gateway_read.specs.Parts.{call_read}
 use Rattle.gateway_read.proofs.Steps.{fails_then}
 use Rattle.gateway_read.proofs.Readings.{request_of-no_path, request_of-call_read, not-unknown, not-known, ok-not-err}
@@ -21,7 +23,8 @@ pub returns-in-Err-clause-no_path : goal.returns-in-Err-clause-no_path
 returns-in-Err-clause-no_path c = λ none. absurd (not-unknown c.args.path.now c.in-Some.request (sym c.in-Some.ensures) none)
 
 pub returns-in-Err-clause-too_long : goal.returns-in-Err-clause-too_long
-returns-in-Err-clause-too_long c = λ known long. c.in-Err.ensures.too_long long
+returns-in-Err-clause-too_long c = λ known long.
+    let same : Some c.in-Err.bad ≡ Some TooLong = ap result_err (c.in-Err.ensures.too_long long) in cc
 
 pub returns-clause-gives : goal.returns-clause-gives
 returns-clause-gives c = rw (request_of-call_read c.args.path.now c.args.body.now _ (sym c.in-Some.ensures), c.in-Ok.ensures.gives, ← c.new.ensures)
