@@ -12,7 +12,11 @@ mod ends;
 #[cfg(test)]
 mod held;
 #[cfg(test)]
+mod long_rows;
+#[cfg(test)]
 mod rows;
+#[cfg(test)]
+mod scripts;
 #[cfg(test)]
 mod serving;
 #[cfg(test)]
