@@ -9,9 +9,9 @@ use Rattle.json_gateway.proofs.commands.post.Goals as goal
 pub returns-in-Ok-clause-keeps : goal.returns-in-Ok-clause-keeps
 returns-in-Ok-clause-keeps c = λ w h.
     subst (λ (r : Result Call Bad). KeepsAs c.perform.result.settled c.args.core.now c.perform.new.core w (post_call c.args.ids.now w r).1)
-    (sym c.in-Ok.ensures) (c.perform.ensures.keeps w h)
+    (sym c.in-Ok.ensures.gives) (c.perform.ensures.keeps w h)
 
 pub returns-in-Err-clause-keeps : goal.returns-in-Err-clause-keeps
 returns-in-Err-clause-keeps c = λ w h.
     dismissed_keeps c.args.ids.now c.args.path.now c.args.body.now c.args.core.now c.in-Err.bad c.dismissed.result
-    (fault_of_reading c.in-Err.bad) c.in-Err.ensures c.dismissed.ensures w
+    (fault_of_reading c.in-Err.bad) c.in-Err.ensures.gives c.dismissed.ensures w
