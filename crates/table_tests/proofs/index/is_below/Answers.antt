@@ -8,11 +8,11 @@ use Rattle.key_index.specs.KeyRevisions.{IsBehind, count_before}
 use Rattle.key_index.proofs.KeyRevisions.{behind-counted}
 use Rattle.table_tests.proofs.index.is_below.Goals as goal
 
-pub returns-in-Some-in-None : goal.returns-in-Some-in-None
-returns-in-Some-in-None c =
+pub returns-in-None-get : goal.returns-in-None-get
+returns-in-None-get c =
     let qs = c.in-Some.revisions.now in
     λ sub _. subst (IsBehind (record { main = c.args.main; sub = sub })) (ap (λ (o : Option (List Rev)). unwrap_or o []) c.in-Some.ensures)
-        (behind-counted c.args.main sub qs (ap (slice_get qs) (sym c.count_before.ensures) ∙ sym c.in-None.ensures.value))
+    (behind-counted c.args.main sub qs (ap (slice_get qs) (sym c.count_before.ensures) ∙ sym c.in-None-get.ensures.value))
 
 pub returns-in-None : goal.returns-in-None
 returns-in-None c =
