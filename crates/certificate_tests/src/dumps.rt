@@ -25,7 +25,7 @@ fn needs_of(certificate: &Certificate) -> Needs {
 }
 
 fn needs(alloc: Global, tables: &Tables) -> Option<Needs> {
-    let certificate = make(alloc, tables);
+    let certificate = make(alloc, &tables.view());
     let found = match &certificate {
         Ok(certificate) => Some(needs_of(certificate)),
         Err(_) => None,
@@ -46,7 +46,7 @@ fn outline_of(dump: &Dump) -> Outline {
 }
 
 fn outline(alloc: Global, tables: &Tables) -> Option<Outline> {
-    let dump = Dump::of(alloc, tables);
+    let dump = Dump::of(alloc, &tables.view());
     let found = match &dump {
         Ok(dump) => Some(outline_of(dump)),
         Err(_) => None,
@@ -61,11 +61,19 @@ fn trim(tables: &mut Tables) {
     }
 }
 
+fn puts_below(alloc: Global, tables: &mut Tables, end: u64) {
+    for main in 2..end {
+        append(alloc, tables, version((main, 0, b"a", true)));
+    }
+}
+
 /// What is done with tables, and what they are to answer.
 #[derive(Clone, Copy)]
 enum Row {
     /// The put of a key at a revision, or its tombstone.
     Append(u64, &'static [u8], bool),
+    /// Puts of one key, one at each revision from 2 on below this one.
+    PutsBelow(u64),
     Compact(u64),
     /// Four steps of trimming.
     Trim,
@@ -78,6 +86,7 @@ enum Row {
 fn is_so(alloc: Global, tables: &mut Tables, row: Row) -> bool {
     match row {
         Row::Append(main, key, is_put) => append(alloc, tables, version((main, 0, key, is_put))),
+        Row::PutsBelow(end) => puts_below(alloc, tables, end),
         Row::Compact(revision) => tables.compact(revision),
         Row::Trim => trim(tables),
         Row::Needs(expected) => return needs(alloc, tables) == Some(expected),
@@ -155,4 +164,24 @@ fn needs_a_tombstone_at_the_compaction(rt: HostRuntime) {
         first_wrong_of_fresh(rt.alloc(), COMPACTED_AT_TOMBSTONE.as_slice()),
         None
     );
+}
+
+/// The needs of the first two of many puts of one key.
+const SECOND: (Rev, Need) = (Rev { main: 2, sub: 0 }, Need::Range(2));
+
+const THIRD: (Rev, Need) = (Rev { main: 3, sub: 0 }, Need::Range(3));
+
+/// 1,200 versions of one key, and then a compaction that needs the last one alone.
+const MANY: [Row; 6] = [
+    Row::PutsBelow(1_202),
+    Row::Shows((0, 1_201, 1_200, Some(Rev { main: 2, sub: 0 }))),
+    Row::Needs(([Some(SECOND), Some(THIRD)], 1_200)),
+    Row::Judged(Ok(Least { count: 1_200 })),
+    Row::Compact(1_201),
+    Row::Judged(Err(NeedFault::NoNeed(Rev { main: 2, sub: 0 }))),
+];
+
+#[test]
+fn needs_each_of_many_versions(rt: HostRuntime) {
+    assert_eq!(rt; first_wrong_of_fresh(rt.alloc(), MANY.as_slice()), None);
 }

@@ -85,8 +85,8 @@ pub(crate) fn verdict(
 
 /// What a check says of what is kept and its certificate.
 pub(crate) fn judged(alloc: Global, tables: &Tables) -> Verdict {
-    let dump = Dump::of(alloc, tables);
-    let certificate = make(alloc, tables);
+    let dump = Dump::of(alloc, &tables.view());
+    let certificate = make(alloc, &tables.view());
     let found = match (&dump, &certificate) {
         (Ok(dump), Ok(certificate)) => Some(check(alloc, dump, certificate)),
         _ => None,

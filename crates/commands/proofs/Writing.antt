@@ -30,7 +30,7 @@ line_is e (outcome.Clock c) ts later same = refl
 line_is e (outcome.Expiry x) ts later same = refl
 line_is e (outcome.Delivered d) ts later same = refl
 line_is e (outcome.Closed stood) ts later same = refl
-line_is e (outcome.Trimmed t c) ts later same = refl
+line_is e (outcome.Trimmed t) ts later same = refl
 line_is e (outcome.Certified (Ok shown)) ts later same = ap first_text same
 line_is e (outcome.Certified (Err w)) ts later same = refl
 
@@ -41,7 +41,7 @@ left_is (outcome.Clock c) ts later same = same
 left_is (outcome.Expiry x) ts later same = same
 left_is (outcome.Delivered d) ts later same = same
 left_is (outcome.Closed stood) ts later same = same
-left_is (outcome.Trimmed t c) ts later same = same
+left_is (outcome.Trimmed t) ts later same = same
 left_is (outcome.Certified (Ok shown)) ts later same = ap other_texts same
 left_is (outcome.Certified (Err w)) ts later same = same
 

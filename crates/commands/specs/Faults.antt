@@ -1,5 +1,5 @@
 -- What a fault came of.
-use Rattle.std.specs.Prelude.{Bool, true, false}
+use Rattle.std.specs.Prelude.{Bool, true, false, ◌||◌}
 use Rattle.commands.specs.declared.fault.Fault.{Fault}
 use Rattle.commands.specs.declared.fault.Fault.TheVariants as fault
 
@@ -19,3 +19,13 @@ is_endless _ = false
 abbrev pub is_write : Fault → Bool
 is_write (fault.Write error) = true
 is_write _ = false
+
+-- it may come of reading a text, or of writing what it is answered
+abbrev pub is_of_streams : Fault → Bool
+is_of_streams f = is_read f || is_write f
+
+-- it may come of the words of a command line
+abbrev pub is_of_words : Fault → Bool
+is_of_words fault.Arguments = true
+is_of_words fault.Memory = true
+is_of_words _ = false

@@ -1,5 +1,5 @@
 //! Why the program ends before its work is done.
-ghost use Rattle.std.specs.Prelude.{◌≡◌, ◌≢◌};
+ghost use Rattle.std.specs.Prelude.{◌≡◌, ◌≢◌, true, is_ok, Err, MatchResult};
 ghost use Rattle.std.specs.IoError.{error_kind};
 
 use http_reply::Front;
@@ -31,6 +31,17 @@ pub enum Fault {
     /// The server ended before its connections did.
     #[error("etcd_one: {0}")]
     Server(Front),
+}
+
+/// How a command ends whose writes ended so.
+pub fn written(ended: io::Result<()>) -> Result<(), Fault>
+    ensures { MatchResult ended (λ _. is_ok result ≡ true)
+        (λ error. result ≡ Err (Fault.Write error)) }
+{
+    match ended {
+        Ok(()) => Ok(()),
+        Err(error) => Err(Fault::Write(error)),
+    }
 }
 
 /// Why the words of the command line could not be had: one that is not UTF-8 is no command.

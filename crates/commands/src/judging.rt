@@ -1,7 +1,7 @@
 //! `check`: what the text of a certificate is worth.
 ghost use Rattle.std.specs.Prelude.{◌≡◌, ◌++◌, ◌∷◌, [], false, true, codes, IfOk, IfErr, IfSome};
 ghost use Rattle.std.specs.Io.KnownBytes.{Appends};
-ghost use Rattle.commands.specs.Faults.{is_write};
+ghost use Rattle.commands.specs.Faults.{is_of_streams, is_write};
 ghost use Rattle.commands.specs.Judging as spec;
 ghost use Rattle.commands.specs.Judging.{IsVerdict, verdict_line};
 ghost use Rattle.commands.specs.Writes.{AppendsFront, Writes};
@@ -48,6 +48,7 @@ pub fn check<R: Read, W: Write>(alloc: Global, r: &mut R, w: &mut W) -> Result<V
     ensures cut { IfErr result (λ fault. is_write fault ≡ true
         → IfSome (R.remaining r.old) (λ text. (verdict : Verdict) × IsVerdict text verdict
         × AppendsFront (W.contents w.old) (W.contents w.new) (verdict_line verdict))) }
+    ensures fault { IfErr result (λ fault. is_of_streams fault ≡ true) }
 {
     let mut reader = Counted::new(r);
     let text = read_input(alloc, &mut reader)?;

@@ -39,6 +39,7 @@ mod said;
 mod script;
 
 pub use fault::{Fault, fault_of_words};
+pub use http_reply::Front;
 pub use judging::{Verdict, check};
 pub use pieces::write_number;
 pub use replaying::replay;

@@ -1,5 +1,6 @@
 //! Bytes written whole, or up to where a write fails.
-ghost use Rattle.std.specs.Prelude.{◌++◌, ◌∷◌, [], map, decimal};
+ghost use Rattle.std.specs.Prelude.{◌≢◌, ◌++◌, ◌∷◌, [], map, decimal, IfErr};
+ghost use Rattle.std.specs.IoError.{error_kind};
 ghost use Rattle.std.specs.List.{concat};
 ghost use Rattle.commands.specs.Replies.{rev_text};
 ghost use Rattle.commands.specs.Writes.{Writes};
@@ -46,7 +47,8 @@ pub fn write_rev<W: Write>(w: &mut W, words: &[u8], rev: Rev) -> io::Result<()>
 /// bytes was written then. `write_all` does the same, but its contract does not say what a failure
 /// leaves.
 pub fn write_bytes<W: Write>(w: &mut W, bytes: &[u8]) -> io::Result<()>
-    ensures { Writes result (W.contents w.old) (W.contents w.new) bytes.now }
+    ensures written { Writes result (W.contents w.old) (W.contents w.new) bytes.now }
+    ensures kind { IfErr result (λ error. error_kind error ≢ ErrorKind.Interrupted) }
 {
     let mut rest = bytes;
     for _ in 0..u64::MAX {

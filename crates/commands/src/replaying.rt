@@ -5,7 +5,7 @@ ghost use Rattle.commands.specs.Lines.{AreLines};
 ghost use Rattle.commands.specs.Replies as spec;
 ghost use Rattle.commands.specs.Said.{Answers};
 ghost use Rattle.commands.specs.Script as script;
-ghost use Rattle.commands.specs.Faults.{is_write};
+ghost use Rattle.commands.specs.Faults.{is_of_streams, is_write};
 ghost use Rattle.commands.specs.Writes.{AppendsFront};
 
 use crate::counted::Counted;
@@ -49,6 +49,7 @@ pub fn replay<R: Read, W: Write>(alloc: Global, r: &mut R, w: &mut W) -> Result<
     ensures cut { IfErr result (λ fault. is_write fault ≡ true
         → IfSome (R.remaining r.old) (λ script. (replies : List ℕ) × spec.IsAnswered script replies
         × AppendsFront (W.contents w.old) (W.contents w.new) replies)) }
+    ensures fault { IfErr result (λ fault. is_of_streams fault ≡ true) }
 {
     let mut reader = Counted::new(r);
     let script = read_input(alloc, &mut reader)?;

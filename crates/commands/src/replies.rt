@@ -1,12 +1,11 @@
 //! The replies to a script's lines, written in their order.
 ghost use Rattle.std.specs.Prelude.{◌≡◌, ◌++◌, ◌∷◌, [], List, Option, Bool, ℕ, Err, true, drop};
-ghost use Rattle.trim_core.specs.Told.{told_of};
 ghost use Rattle.std.specs.Prelude.{codes, decimal, map, IfOk, IfErr};
 ghost use Rattle.std.specs.Fmt.{signed_decimal};
 ghost use Rattle.json_gateway.specs.Outcomes.{wire_response};
 ghost use Rattle.json_gateway.specs.Runs.{command_view, event_view, expired_view, expiry_outcome};
-ghost use Rattle.json_gateway.specs.Runs.{message_view};
-ghost use Rattle.kv_model.specs.Wire.{closed, trim_told};
+ghost use Rattle.json_gateway.specs.Runs.{message_view, trimmed_view};
+ghost use Rattle.kv_model.specs.Wire.{closed};
 ghost use Rattle.commands.specs.Replies as spec;
 ghost use Rattle.commands.specs.Said.{bytes_of, line_said, line_shown, one_line, replies_said};
 ghost use Rattle.commands.specs.Said.{first_text, other_texts, outcomes_from, texts_from};
@@ -14,14 +13,12 @@ ghost use Rattle.commands.specs.Said.{texts_left};
 ghost use Rattle.commands.specs.Faults.{is_write};
 ghost use Rattle.commands.specs.Writes.{Writes};
 
-use crate::fault::Fault;
+use crate::fault::{Fault, written};
 use crate::pieces::{write_bytes, write_number, write_pieces, write_rev};
 use crate::said::Said;
 use crate::script::Lines;
 use itoa::Buffer;
-use json_gateway::{
-    Certificate, Expiry, Message, Outcome, Settled, Trim, Unexpired, WireEvent, WireOutcome,
-};
+use json_gateway::{Expiry, Message, Outcome, Settled, Trimmed, Unexpired, WireEvent, WireOutcome};
 use std::io;
 use std::io::Write;
 
@@ -33,13 +30,17 @@ pub fn write_out<W: Write>(w: &mut W, lines: &Lines<'_>, said: &Said) -> Result<
         said.now.outcomes.items (map bytes_of said.now.texts.items)) }
     ensures err { IfErr result (λ fault. is_write fault ≡ true) }
 {
-    if let Err(error) = write_replies(w, lines, said) {
-        return Err(Fault::Write(error));
-    }
-    match w.flush() {
-        Ok(()) => Ok(()),
-        Err(error) => Err(Fault::Write(error)),
-    }
+    written(hand_on(w, lines, said))
+}
+
+/// Writes the replies to all lines, and hands them on.
+fn hand_on<W: Write>(w: &mut W, lines: &Lines<'_>, said: &Said) -> io::Result<()>
+    ensures { Writes result (W.contents w.old) (W.contents w.new)
+        (replies_said lines.now.are_events.items (map event_view lines.now.events.items)
+        said.now.outcomes.items (map bytes_of said.now.texts.items)) }
+{
+    write_replies(w, lines, said)?;
+    w.flush()
 }
 
 /// Where the writing of replies has come to.
@@ -160,7 +161,7 @@ fn write_outcome<W: Write>(
         WireOutcome::Delivered(Ok(message)) => write_message(w, message),
         WireOutcome::Delivered(Err(_)) => write_out_of_memory(w, event),
         WireOutcome::Closed(stood) => write_closed(w, *stood),
-        WireOutcome::Trimmed { trim, certificate } => write_trimmed(w, *trim, certificate),
+        WireOutcome::Trimmed(trimmed) => write_trimmed(w, trimmed),
         WireOutcome::Certified(_) => write_out_of_memory(w, event),
     }
 }
@@ -257,18 +258,14 @@ fn write_closed<W: Write>(w: &mut W, stood: bool) -> io::Result<()>
 }
 
 /// Writes what a trimming step did, and where it is done whether there is a certificate of it.
-fn write_trimmed<W: Write>(
-    w: &mut W,
-    trim: Trim,
-    certificate: &Option<Certificate>,
-) -> io::Result<()>
+fn write_trimmed<W: Write>(w: &mut W, trimmed: &Trimmed) -> io::Result<()>
     ensures { Writes result (W.contents w.old) (W.contents w.new)
-        (spec.told_line (trim_told (told_of trim) certificate.now)) }
+        (spec.told_line (trimmed_view trimmed.now)) }
 {
-    match trim {
-        Trim::Removed(rev) => write_rev(w, b"removed ", rev),
-        Trim::Kept(rev) => write_rev(w, b"kept ", rev),
-        Trim::Done(count) => write_done(w, count, certificate.is_some()),
+    match trimmed {
+        Trimmed::Removed(rev) => write_rev(w, b"removed ", *rev),
+        Trimmed::Kept(rev) => write_rev(w, b"kept ", *rev),
+        Trimmed::Done { count, certificate } => write_done(w, *count, certificate.is_some()),
     }
 }
 

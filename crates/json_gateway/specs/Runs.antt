@@ -4,7 +4,7 @@ use Rattle.std.specs.declared.alloc.AllocError.{AllocError}
 use Rattle.kv_model.specs.Told as told
 use Rattle.kv_model.specs.Follows as follows
 use Rattle.kv_model.specs.Wire as model
-use Rattle.kv_model.specs.Wire.{WireTold, trim_told}
+use Rattle.kv_model.specs.Wire.{WireTold}
 use Rattle.request_core.specs.declared.answer.Expiry.{Expiry}
 use Rattle.request_core.specs.declared.answer.Expiry.TheVariants as expiry
 use Rattle.json_gateway.specs.declared.outcome.Certified.{Certified}
@@ -13,6 +13,8 @@ use Rattle.json_gateway.specs.declared.outcome.Message.TheVariants as message
 use Rattle.json_gateway.specs.declared.outcome.Settled.{Settled}
 use Rattle.json_gateway.specs.declared.outcome.Settled.TheVariants as settled
 use Rattle.json_gateway.specs.declared.outcome.Outcome.{Outcome}
+use Rattle.json_gateway.specs.declared.outcome.Trimmed.{Trimmed}
+use Rattle.json_gateway.specs.declared.outcome.Trimmed.TheVariants as trimmed
 use Rattle.json_gateway.specs.declared.wire.WireEvent.{WireEvent}
 use Rattle.json_gateway.specs.declared.wire.WireEvent.TheVariants as event
 use Rattle.json_gateway.specs.declared.wire.WireOutcome.{WireOutcome}
@@ -20,7 +22,6 @@ use Rattle.json_gateway.specs.declared.wire.WireOutcome.TheVariants as outcome
 use Rattle.json_gateway.specs.declared.wire.Unexpired.{Unexpired}
 use Rattle.json_gateway.specs.declared.wire.Unexpired.TheVariants as unexpired
 use Rattle.json_gateway.specs.Outcomes.{response_of, IsBare}
-use Rattle.trim_core.specs.Told.{told_of}
 
 abbrev pub event_view : WireEvent → model.WireEvent
 event_view (event.Moment m) = model.WireEvent.moment m
@@ -68,6 +69,12 @@ abbrev pub delivery_outcome : Result Message AllocError → model.WireOutcome
 delivery_outcome (Ok m) = follows.Outcome.said (message_view m)
 delivery_outcome (Err e) = follows.Outcome.memory
 
+-- what a trimming step did
+abbrev pub trimmed_view : Trimmed → WireTold
+trimmed_view (trimmed.Removed p) = WireTold.removed p
+trimmed_view (trimmed.Kept p) = WireTold.kept p
+trimmed_view (trimmed.Done n certificate) = WireTold.done n certificate
+
 -- what is kept, as it is shown
 abbrev pub certified_outcome : Result Certified AllocError → model.WireOutcome
 certified_outcome (Ok shown) = follows.Outcome.said (WireTold.certified shown.dump shown.certificate)
@@ -79,7 +86,7 @@ outcome_view (outcome.Clock clock) = follows.Outcome.said (WireTold.clock clock)
 outcome_view (outcome.Expiry made) = expiry_outcome made
 outcome_view (outcome.Delivered made) = delivery_outcome made
 outcome_view (outcome.Closed stood) = follows.Outcome.said (WireTold.closed stood)
-outcome_view (outcome.Trimmed t certificate) = follows.Outcome.said (trim_told (told_of t) certificate)
+outcome_view (outcome.Trimmed t) = follows.Outcome.said (trimmed_view t)
 outcome_view (outcome.Certified shown) = certified_outcome shown
 
 -- where a request was not accepted, no revision rose and no watch was made

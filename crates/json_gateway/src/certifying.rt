@@ -1,9 +1,13 @@
 //! What a core keeps, and the certificate of it.
-ghost use Rattle.std.specs.Prelude.{◌≡◌, IfOk, IfSome};
-ghost use Rattle.kv_model.specs.Certificates.{claims_of};
+ghost use Rattle.std.specs.Prelude.{◌≡◌, List, Option, IfOk, IfSome};
+ghost use Rattle.kv_model.specs.Certificates.{Claim, claims_of};
+ghost use Rattle.kv_model.specs.Wire.{trim_told};
+ghost use Rattle.trim_core.specs.Told.{told_of};
+ghost use Rattle.json_gateway.specs.Runs.{trimmed_view};
 ghost use Rattle.request_core.specs.State.{dump_kept};
 
-use crate::outcome::Certified;
+use crate::outcome::{Certified, Trimmed};
+use range_view::tables::Trim;
 use request_core::store::Core;
 use std::alloc::{AllocError, Global};
 use witness_core::{Certificate, check};
@@ -19,12 +23,20 @@ pub fn certified(core: &Core) -> Result<Certified, AllocError>
     Ok(Certified { dump, certificate })
 }
 
-/// The certificate of what is kept, where a trimming step is done. None where it is not, or where
-/// no memory was found for it.
-pub fn certificate_where(alloc: Global, core: &Core, done: bool) -> Option<Certificate>
-    ensures { IfSome result (λ claims. claims ≡ claims_of (dump_kept core.now.store)) }
+/// What a trimming step did; where it is done, with the certificate of what is kept.
+pub fn trimmed(alloc: Global, core: &Core, trim: Trim) -> Trimmed
+    ensures { (certificate : Option (List Claim))
+        × (trimmed_view result ≡ trim_told (told_of trim) certificate)
+        × IfSome certificate (λ claims. claims ≡ claims_of (dump_kept core.now.store)) }
 {
-    if done { checked(alloc, core) } else { None }
+    match trim {
+        Trim::Removed(rev) => Trimmed::Removed(rev),
+        Trim::Kept(rev) => Trimmed::Kept(rev),
+        Trim::Done(count) => Trimmed::Done {
+            count,
+            certificate: checked(alloc, core),
+        },
+    }
 }
 
 /// The certificate of what is kept, once it has passed its check. None where no memory was found.

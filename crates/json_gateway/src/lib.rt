@@ -42,12 +42,14 @@ pub mod outcome;
 pub mod wire;
 
 pub use commands::{dismissed, perform, post, text};
+pub use gateway_read::bad::Bad;
 pub use gateway_read::read;
 pub use kv_model::ids::Ids;
 pub use kv_model::refusal::Refusal;
 pub use messages::message;
-pub use outcome::{Certified, Message, Outcome, Reply, Settled};
+pub use outcome::{Certified, Message, Outcome, Reply, Settled, Trimmed};
 pub use range_view::tables::Trim;
 pub use request_core::answer::Expiry;
+pub use request_core::store::Core;
 pub use wire::{Unexpired, WireEvent, WireOutcome, WireRun, post_and_trim, run_wire};
 pub use witness_core::{Certificate, Claim, Dump, Need};

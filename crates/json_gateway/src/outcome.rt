@@ -1,5 +1,6 @@
 //! What a command, a request or a watch was answered.
 use gateway_text::{lost_text, memory_text};
+use kv_model::version::Rev;
 use witness_core::{Certificate, Dump};
 
 /// A reply: an HTTP status, and the bytes of a JSON body.
@@ -43,6 +44,22 @@ pub enum Message {
     Nothing,
     /// The bytes of a JSON text: events, or that it is cancelled.
     Text(Vec<u8>),
+}
+
+/// What a trimming step did.
+#[derive(Debug, Drop)]
+pub enum Trimmed {
+    /// The version at this revision was taken out.
+    Removed(Rev),
+    /// The version at this revision stays.
+    Kept(Rev),
+    /// No version was left to visit: the fewest versions are kept.
+    Done {
+        /// How many are kept, those above the compaction too.
+        count: u64,
+        /// Their certificate, which has passed its check. None where no memory was found for it.
+        certificate: Option<Certificate>,
+    },
 }
 
 /// What is kept, and its certificate.

@@ -12,17 +12,16 @@ ghost use Rattle.json_gateway.specs.Endings.{is_done};
 ghost use Rattle.trim_core.specs.Told.{told_of};
 ghost use Rattle.kv_model.specs.World.{World};
 
-use crate::certifying::{certificate_where, certified};
+use crate::certifying::{certified, trimmed};
 use crate::commands::post;
 use crate::messages::message;
-use crate::outcome::{Certified, Message, Outcome};
+use crate::outcome::{Certified, Message, Outcome, Trimmed};
 use kv_model::ids::Ids;
 use kv_model::refusal::Refusal;
 use range_view::tables::Trim;
 use request_core::answer::Expiry;
 use request_core::store::Core;
 use std::alloc::{AllocError, Global};
-use witness_core::Certificate;
 
 /// What happens to a store.
 #[derive(Clone, Copy, Debug)]
@@ -56,12 +55,8 @@ pub enum WireOutcome {
     Delivered(Result<Message, AllocError>),
     /// Whether a watch that had the number was closed.
     Closed(bool),
-    /// What a trimming step did. Where it is done, so that the fewest versions are kept, their
-    /// certificate, which has passed its check; or none where no memory was found for it.
-    Trimmed {
-        trim: Trim,
-        certificate: Option<Certificate>,
-    },
+    /// What a trimming step did.
+    Trimmed(Trimmed),
     /// What is kept, or that no memory was found to show it.
     Certified(Result<Certified, AllocError>),
 }
@@ -218,8 +213,7 @@ fn step_trim(alloc: Global, core: &mut Core) -> WireOutcome
         → Steps ids w model_trim (outcome_view result) core.old core.new }
 {
     let trim = core.trim_step();
-    let certificate = certificate_where(alloc, core, is_done(trim));
-    WireOutcome::Trimmed { trim, certificate }
+    WireOutcome::Trimmed(trimmed(alloc, core, trim))
 }
 
 /// What a core keeps, as an event of a run.

@@ -50,7 +50,7 @@ revisions_of-push k vs v =
     by false = append-nil (revisions_of k vs)
 
 -- what holds of each version's revision holds of those of a key
-each-revision : (P : Rev → Type 0) (k : List ℕ) (vs : List Version) → AllByRecursion (λ v. P v.rev) vs
+pub each-revision : (P : Rev → Type 0) (k : List ℕ) (vs : List Version) → AllByRecursion (λ v. P v.rev) vs
     → AllByRecursion P (revisions_of k vs)
 each-revision P k [] h = tt
 each-revision P k (v ∷ vs) h = subst (AllByRecursion P) (sym (revisions_of-cons k v vs)) (by (same_key v.key k) (each-revision P k vs h.1))

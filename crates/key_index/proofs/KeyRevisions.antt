@@ -1,6 +1,7 @@
 -- Rising revisions of one key.
 use Rattle.std.proofs.Common.{◌≡◌, ℕ, zero, suc, ◌<◌, ◌≤◌, ◌-◌, List, [], ◌∷◌, ◌++◌, length, Bool, true, false, not, ◌&&◌, ◌==◌}
 use Rattle.std.proofs.Common.{cond, drop, find, Option, None, Some, option_map, Bor, refl, sym, ◌∙◌, ap, subst, arith}
+use Rattle.std.proofs.lemmas.Bool.{ltb-true}
 use Rattle.std.proofs.lemmas.Bool.Decides.{nat_tests}
 use Rattle.std.proofs.lemmas.List.{append-nil}
 use Rattle.std.proofs.lemmas.Option.{slice_get_read}
@@ -13,9 +14,9 @@ use Rattle.kv_model.specs.declared.version.Rev.{Rev}
 use Rattle.kv_model.specs.Lists.{is_empty}
 use Rattle.kv_model.specs.History.{rev_lt, rev_le}
 use Rattle.store_laws.specs.Rising.{is_of}
-use Rattle.store_laws.proofs.RevOrder.{rev_lt-main, rev_lt-up_to, rev_lt-beyond, rev_lt-opposite, is_rev-same}
+use Rattle.store_laws.proofs.RevOrder.{rev_lt-main, rev_lt-mains, rev_lt-up_to, rev_lt-beyond, rev_lt-opposite, is_rev-same}
 use Rattle.store_laws.proofs.Rising as rising
-use Rattle.key_index.specs.KeyRevisions.{IsRising, newest, ends_in, after_place, at_place, second_after, undone, count_up_to}
+use Rattle.key_index.specs.KeyRevisions.{IsBehind, IsRising, newest, ends_in, after_place, at_place, second_after, undone, count_up_to, count_before}
 use Rattle.key_index.specs.KeyRevisions.{is_oldest, without}
 
 abbrev pub IsAbove : Rev → List Rev → Type 0
@@ -160,6 +161,18 @@ partitioned p = rising.partitioned (λ q. q) (λ q. rev_le q p) (λ q r h g. rev
 pub mains-partitioned : (main : ℕ) (qs : List Rev) → IsRising qs → IsPartitionedBy (λ q. nat_lt q.main main) qs
 mains-partitioned main =
     rising.partitioned (λ q. q) (λ q. nat_lt q.main main) (λ q r h g. let l : q.main ≤ r.main = rev_lt-main q r h in grind (arith, nat_tests))
+
+-- where none is left behind those of earlier main revisions, a revision of this one stands behind all
+pub behind-counted : (main sub : ℕ) (qs : List Rev) → slice_get qs (count_before main qs) ≡ None
+    → IsBehind (record { main = main; sub = sub }) qs
+behind-counted main sub [] e = tt
+behind-counted main sub (q ∷ qs) e = by (nat_lt q.main main) refl e (behind-counted main sub qs)
+  where
+    by : (b : Bool) → nat_lt q.main main ≡ b → slice_get (q ∷ qs) (cond b (suc (count_before main qs)) zero) ≡ None
+        → (slice_get qs (count_before main qs) ≡ None → IsBehind (record { main = main; sub = sub }) qs)
+        → IsBehind (record { main = main; sub = sub }) (q ∷ qs)
+    by true f g rest = (rev_lt-mains q (record { main = main; sub = sub }) (ltb-true q.main main f), rest g)
+    by false f g rest = cc
 
 -- ---- what is after a place
 

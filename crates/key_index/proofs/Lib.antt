@@ -4,3 +4,4 @@ pub mod Entries
 pub mod Bounds
 pub mod Agrees
 pub mod Walks
+pub mod Retracting

@@ -95,7 +95,7 @@ has_key-index q (e ∷ es) h = by (has q e.0) (eq-same q e.0) (has_key-index q e
     by true f rest = ap (λ c. c || has_key q (keys_of es)) (sym f) ∙ sym (some-revisions e.1 h.0)
     by false f rest = ap (λ c. c || has_key q (keys_of es)) (sym f) ∙ rest
 
-has-versions : (q : List ℕ) (vs : List Version) → list_any (λ v. same_key v.key q) vs ≡ not (is_empty (revisions_of q vs))
+pub has-versions : (q : List ℕ) (vs : List Version) → list_any (λ v. same_key v.key q) vs ≡ not (is_empty (revisions_of q vs))
 has-versions q [] = refl
 has-versions q (v ∷ vs) = by (same_key v.key q) (has-versions q vs)
   where

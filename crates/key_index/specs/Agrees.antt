@@ -1,6 +1,6 @@
 -- When an index is that of a list of versions, and what a read by it finds.
-use Rattle.std.specs.Prelude.{◌≡◌, ℕ, List, map, filter, Option, Some, option_and_then}
-use Rattle.std.specs.List.{find}
+use Rattle.std.specs.Prelude.{◌≡◌, ◌<◌, ◌==◌, ℕ, true, List, map, filter, Option, Some, option_and_then}
+use Rattle.std.specs.List.{AllByRecursion, find}
 use Rattle.kv_model.specs.declared.version.Rev.{Rev}
 use Rattle.kv_model.specs.declared.version.Version.{Version}
 use Rattle.kv_model.specs.Keys.{same_key}
@@ -16,6 +16,13 @@ revisions_of k vs = map (λ (v : Version). v.rev) (filter (λ v. same_key v.key 
 pub record Agrees (i : Index) (vs : List Version) : Type 0 where
   pub sound : IsIndex i
   pub each : (k : List ℕ) → revisions k i ≡ revisions_of k vs
+
+-- every version is of an earlier main revision than this one, or of this one
+abbrev pub IsBelow : ℕ → List Version → Type 0
+IsBelow main vs = AllByRecursion (λ v. v.rev.main < main) vs
+
+abbrev pub AreOf : ℕ → List Version → Type 0
+AreOf main vs = AllByRecursion (λ v. (v.rev.main == main) ≡ true) vs
 
 -- the last version of a key at a place is the one found by its revision, as where versions rise
 abbrev pub FindsLatest : List Version → Type 0

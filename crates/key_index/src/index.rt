@@ -1,6 +1,7 @@
 //! From each key to its revisions (etcd: the tree index of keys).
-ghost use Rattle.std.specs.Prelude.{◌≡◌, ◌↔◌, [], map, option_copied, OnOk, OnErr, IfOk};
-ghost use Rattle.std.specs.Prelude.{IsTrue};
+ghost use Rattle.std.specs.Prelude.{◌≡◌, List, [], ◌++◌, map, option_copied, OnOk, OnErr, IfOk};
+ghost use Rattle.kv_model.specs.declared.version.Version.{Version};
+ghost use Rattle.key_index.specs.Agrees.{Agrees, IsBelow, AreOf};
 ghost use Rattle.key_index.specs.KeyRevisions.{IsBehind, after_place, at_place};
 ghost use Rattle.key_index.specs.Index.{IsIndex, found, in_interval, is_up_to, revisions};
 ghost use Rattle.key_index.specs.Index.{retracted, retracted_newest, undone_at};
@@ -55,18 +56,8 @@ impl KeyIndex {
         }
     }
 
-    /// Whether `put` and `gone` take a revision of a key: it is above each one that the key has.
-    /// Takes no memory, and time logarithmic in the number of keys.
-    pub fn takes(&self, key: &Bytes, rev: Rev) -> bool
-        ensures { IsTrue result ↔ IsBehind rev (revisions key.now self.now) }
-    {
-        match self.keys.get(key) {
-            Some(revisions) => revisions.takes(rev),
-            None => true,
-        }
-    }
-
-    /// Adds the revision of a put of a key. It is above each one that the key has.
+    /// Adds a revision of a key, that of a put or of a tombstone: which of its revisions are
+    /// tombstones the versions say, and not the index. It is above each one that the key has.
     ///
     /// The error is want of memory, and the index is then as it was. The time is logarithmic in the
     /// number of keys.
@@ -80,35 +71,30 @@ impl KeyIndex {
         Ok(())
     }
 
-    /// Adds the revision of a tombstone of a key. It is above each one that the key has. Which of
-    /// its revisions are tombstones the versions say, and not the index.
-    ///
-    /// The error is want of memory, and the index is then as it was. The time is logarithmic in the
-    /// number of keys.
-    pub fn gone(&mut self, key: &Bytes, rev: Rev) -> Result<(), AllocError>
-        requires { IsBehind rev (revisions key.now self.old) }
-        ensures ok { OnOk result (self.new ≡ with_revision key.now rev self.old) }
-        ensures err { OnErr result (self.new ≡ self.old) }
-    {
-        self.put(key, rev)
-    }
-
-    /// Takes a main revision back, where no later one is there, and else changes nothing: for each
-    /// of the changes, drops what its key has of that revision at the end. With the changes of the
-    /// newest main revision nothing of it is left; a main revision that is not there leaves all as
-    /// it is. Takes no memory.
+    /// Takes a main revision back where no later one is in the index, and else changes nothing,
+    /// whatever the changes are. Where they are those of the main revision nothing of it is left;
+    /// those of its keys alone are looked at. What they have of that revision goes, and where they
+    /// have none, as where the revision is not in the index, nothing does. Takes no memory.
     ///
     /// The time is logarithmic in the number of keys for each change. Where a later revision was
     /// ever added, which need not be there any more, it is linear in the number of keys too: they
-    /// are walked until one has a later revision. The store makes no such call, for it takes back
-    /// just what it added last.
+    /// are walked until one has a later revision. What was added last is taken back without it.
     pub fn retract(&mut self, main: u64, changes: &[Version])
-        ensures { self.new ≡ retracted_newest main changes.now self.old }
+        ensures value { self.new ≡ retracted_newest main changes.now self.old }
+        ensures whole { (older : List Version) → IsBelow main older → AreOf main changes.now
+            → Agrees self.old (older ++ changes.now) → Agrees self.new older }
     {
-        if main < self.newest && !is_up_to(&self.keys, main) {
-            return;
+        if self.is_up_to(main) {
+            self.take_back(main, changes);
         }
-        self.take_back(main, changes);
+    }
+
+    /// Whether no key has a revision of a later main revision. Constant time where none was ever
+    /// added.
+    fn is_up_to(&self, main: u64) -> bool
+        ensures { result ≡ is_up_to main self.now }
+    {
+        main >= self.newest || is_up_to(&self.keys, main)
     }
 
     /// Drops what the keys of the changes have of a main revision at the end.

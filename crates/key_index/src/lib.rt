@@ -13,7 +13,6 @@
 //! ```text
 //! generations            {2.0, 3.0, 4.0(t)} {5.0, 6.0(t)}
 //! list                   2.0 3.0 4.0 5.0 6.0
-//! takes 6.0              no: 6.0 is not above itself; 6.1 and 7.0 are
 //! at 1.9                 none, which is before the first put
 //! at 3.7                 3.0, the last one that is not after it
 //! at 4.5                 4.0, whose version is a tombstone: foo holds nothing there
@@ -22,6 +21,7 @@
 //! get 2                  4.0, with two before it
 //! remove 2.0             3.0 4.0 5.0 6.0, as a trimming step does after a compaction at 3
 //! retract 6 of foo       3.0 4.0 5.0, since no key has a revision of a later main
+//! retract 4 of foo       3.0 4.0 5.0: 5.0 is of a later one
 //! drop_front             4.0 5.0
 //! ```
 //!

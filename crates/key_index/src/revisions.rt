@@ -1,6 +1,6 @@
 //! The revisions of one key, in order (etcd: data model, generations of a key).
-ghost use Rattle.std.specs.Prelude.{◌≡◌, ◌↔◌, List, [], ◌∷◌, ◌++◌, drop};
-ghost use Rattle.std.specs.Prelude.{◌<◌, ◌≤◌, ◌-◌, ◌^◌, length, IfOk, IfSome, OnOk, OnErr, IsTrue};
+ghost use Rattle.std.specs.Prelude.{◌≡◌, List, [], ◌∷◌, ◌++◌, drop};
+ghost use Rattle.std.specs.Prelude.{◌<◌, ◌≤◌, ◌-◌, ◌^◌, length, IfOk, IfSome, OnOk, OnErr};
 ghost use Rattle.std.specs.Prelude.{MatchOption};
 ghost use Rattle.std.specs.List.{slice_get};
 ghost use Rattle.kv_model.specs.Lists.{is_empty};
@@ -53,7 +53,7 @@ impl Revisions {
     }
 
     /// Whether there is no revision.
-    pub fn is_empty(&self) -> bool
+    pub(crate) fn is_empty(&self) -> bool
         ensures { result ≡ is_empty self.now }
     {
         match &self.held {
@@ -125,17 +125,6 @@ impl Revisions {
             Held::Nothing => None,
             Held::One(only) => { if index == 0 { Some(*only) } else { None } }
             Held::Many(revisions) => rev_at(revisions, index),
-        }
-    }
-
-    /// Whether a revision is above all of these.
-    pub(crate) fn takes(&self, rev: Rev) -> bool
-        ensures { IsTrue result ↔ IsBehind rev self.now }
-    {
-        match &self.held {
-            Held::Nothing => true,
-            Held::One(only) => is_before(*only, rev),
-            Held::Many(revisions) => takes(revisions, rev),
         }
     }
 
@@ -342,17 +331,6 @@ fn second_after(revisions: &VecDeque<Rev>, place: Rev) -> Option<Rev>
         Some(second)
     } else {
         None
-    }
-}
-
-/// Whether a revision is above all of the revisions.
-fn takes(revisions: &VecDeque<Rev>, rev: Rev) -> bool
-    requires { IsRising revisions.now.items }
-    ensures { IsTrue result ↔ IsBehind rev revisions.now.items }
-{
-    match newest(revisions) {
-        Some(newest) => is_before(newest, rev),
-        None => true,
     }
 }
 

@@ -1,4 +1,5 @@
 pub mod Sets
 pub mod Pairs
 pub mod Holding
+pub mod Just
 pub mod Live

@@ -1,5 +1,5 @@
 -- Which pairs an index has to have, so that the keys of a lease are found by it.
-use Rattle.std.specs.Prelude.{◌≡◌, ℕ, ℤ, pos, List, Bool, true, false, ◌&&◌, ◌||◌, not, Option, None, Some, is_none}
+use Rattle.std.specs.Prelude.{◌≡◌, ◌⊎◌, ℕ, ℤ, pos, List, Bool, true, false, ◌&&◌, ◌||◌, not, Option, None, Some, is_none}
 use Rattle.std.specs.Prelude.{if◌then◌else◌}
 use Rattle.std.specs.List.{list_any}
 use Rattle.std.specs.Ordering.{int_eq}
@@ -18,14 +18,6 @@ is_lease l = not (int_eq l (pos 0))
 abbrev pub Holds : Pairs → (List ℕ → Option KeyValue) → Type 0
 Holds ps held = (k : List ℕ) (kv : KeyValue) → held k ≡ Some kv → is_lease kv.lease ≡ true
     → has_pair kv.lease k ps ≡ true
-
--- no key holds what was put under the lease
-abbrev pub AreNotUnder : ℤ → (List ℕ → Option KeyValue) → Type 0
-AreNotUnder l held = (k : List ℕ) (kv : KeyValue) → held k ≡ Some kv → int_eq kv.lease l ≡ false
-
--- every pair of the first is one of the second
-abbrev pub IsWithin : Pairs → Pairs → Type 0
-IsWithin old new = (l : ℤ) (k : List ℕ) → has_pair l k old ≡ true → has_pair l k new ≡ true
 
 -- the lease that a put names
 abbrev pub lease_of : Body → Option ℤ
@@ -49,11 +41,35 @@ abbrev pub under : ℤ → Option KeyValue → Option KeyValue
 under l None = None
 under l (Some kv) = if int_eq kv.lease l then Some kv else None
 
--- the pair is the one that the version puts, and its key does not hold what was put under that lease
-abbrev pub is_unused : Version → (List ℕ → Option KeyValue) → ℤ → List ℕ → Bool
-is_unused v held l k = is_of l (lease_of v.body) && same_key v.key k && is_none (under l (held k))
+-- the lease that what a key holds was put under
+abbrev pub lease_held : Option KeyValue → Option ℤ
+lease_held None = None
+lease_held (Some kv) = if is_lease kv.lease then Some kv.lease else None
 
--- the pair of a version goes where it is unused, and each other pair stays
-abbrev pub IsUnusedDropped : Version → (List ℕ → Option KeyValue) → Pairs → Pairs → Type 0
-IsUnusedDropped v held old new = (l : ℤ) (k : List ℕ)
-    → has_pair l k new ≡ (has_pair l k old && not (is_unused v held l k))
+-- the pairs are just those of each key that holds something put under a lease, and that lease
+abbrev pub AreJust : Pairs → (List ℕ → Option KeyValue) → Type 0
+AreJust ps held = (l : ℤ) (k : List ℕ) → has_pair l k ps ≡ is_of l (lease_held (held k))
+
+-- of the pairs of the versions some are added: each pair is as it was, or it is one that they put, and is there
+abbrev pub ArePartlyPut : List Version → Pairs → Pairs → Type 0
+ArePartlyPut vs old new = (l : ℤ) (k : List ℕ)
+    → (has_pair l k new ≡ has_pair l k old) ⊎ ((puts_pair l k vs ≡ true) × (has_pair l k new ≡ true))
+
+-- the pair of a lease and a key goes where the key does not hold what was put under it, and each other pair stays
+abbrev pub IsUnusedDropped : Option ℤ → List ℕ → (List ℕ → Option KeyValue) → Pairs → Pairs → Type 0
+IsUnusedDropped o key held old new = (l : ℤ) (k : List ℕ)
+    → has_pair l k new ≡ (has_pair l k old && not (is_of l o && same_key key k && is_none (under l (held k))))
+
+-- so go the pairs that the versions put
+abbrev pub AreTakenBack : List Version → (List ℕ → Option KeyValue) → Pairs → Pairs → Type 0
+AreTakenBack vs held old new = (l : ℤ) (k : List ℕ)
+    → has_pair l k new ≡ (has_pair l k old && not (puts_pair l k vs && is_none (under l (held k))))
+
+-- some of the versions is of the key, and puts it under the lease, or the key held before what was put under that lease
+abbrev pub touches : ℤ → List ℕ → (List ℕ → Option KeyValue) → List Version → Bool
+touches l k before vs = list_any (λ v. same_key v.key k && (is_of l (lease_of v.body) || is_of l (lease_held (before k)))) vs
+
+-- and so go the pairs of the keys of the versions, those that they put and those that were there before
+abbrev pub AreSettled : List Version → (List ℕ → Option KeyValue) → (List ℕ → Option KeyValue) → Pairs → Pairs → Type 0
+AreSettled vs before now old new = (l : ℤ) (k : List ℕ)
+    → has_pair l k new ≡ (has_pair l k old && not (touches l k before vs && is_none (under l (now k))))

@@ -1,12 +1,14 @@
 //! From each lease to its keys.
-ghost use Rattle.std.specs.Prelude.{◌≡◌, ℕ, [], ◌∷◌, map, take, IfOk, OnOk, OnErr};
+ghost use Rattle.std.specs.Prelude.{◌≡◌, [], ◌∷◌, map, IfOk, OnOk, OnErr};
+ghost use Rattle.kv_model.specs.Lists.{is_empty};
 ghost use Rattle.store_laws.specs.Laws.{IsStrictlyAscending};
-ghost use Rattle.lease_keys.specs.Holding.{ArePut, lease_of};
+ghost use Rattle.lease_keys.specs.Holding.{ArePut, ArePartlyPut, lease_of};
 ghost use Rattle.lease_keys.specs.Pairs.{AreAdded, AreRemoved, HaveKeys, keys_at};
 
 use crate::set::KeySet;
 use bytes::Bytes;
 use kv_model::version::{Body, Version};
+use range_view::Versions;
 use std::alloc::{AllocError, Global};
 use std::collections::BTreeMap;
 use std::marker::Model;
@@ -30,8 +32,6 @@ impl Model for LeaseKeys {
 }
 
 impl LeaseKeys {
-    ghost use Rattle.lease_keys.specs.Pairs.{AreForgotten};
-
     /// No pair. What comes takes its memory from `alloc`.
     pub fn new(alloc: Global) -> Self
         ensures { result ≡ [] }
@@ -42,28 +42,21 @@ impl LeaseKeys {
         }
     }
 
-    /// Adds a key to those of a lease, where it is not there. The key's bytes are shared, not
-    /// copied.
+    /// Adds, of each of the versions that puts its key under a lease, that pair. 0 is no lease. The
+    /// keys' bytes are shared, not copied.
     ///
-    /// The error is want of memory, and all pairs are then as they were. The time is logarithmic in
-    /// the number of leases and in that of the lease's keys.
-    pub fn add(&mut self, lease: i64, key: &Bytes) -> Result<(), AllocError>
-        ensures ok { OnOk result (AreAdded lease key.now self.old self.new) }
-        ensures err { OnErr result (self.new ≡ self.old) }
+    /// The error is want of memory, and the pairs of some of the versions are then added. The time
+    /// is, for each of the versions, logarithmic in the number of leases and in that of the lease's
+    /// keys.
+    pub fn add_all(&mut self, versions: Versions<'_>) -> Result<(), AllocError>
+        ensures ok { OnOk result (ArePut versions.entry self.old self.new) }
+        ensures err { OnErr result (ArePartlyPut versions.entry self.old self.new) }
     {
-        add(self.alloc, &mut self.leases, lease, key)
-    }
-
-    /// Adds, of each of the versions that puts its key under a lease, that pair. 0 is no lease.
-    ///
-    /// The error is want of memory, and the pairs of some of the versions, the first ones, are then
-    /// added. The time is that of `add` for each of the versions.
-    pub fn add_all(&mut self, versions: &[Version]) -> Result<(), AllocError>
-        ensures ok { OnOk result (ArePut versions.now self.old self.new) }
-        ensures err { OnErr result ((n : ℕ) × ArePut (take n versions.now) self.old self.new) }
-    {
-        for version in versions {
-            self.add_version(version)?;
+        let mut versions = versions;
+        while let Some(version) = versions.next() {
+            if let Err(full) = self.add_version(version) {
+                return Err(full);
+            }
         }
         Ok(())
     }
@@ -79,23 +72,30 @@ impl LeaseKeys {
         }
     }
 
+    /// Adds a key to those of a lease, where it is not there.
+    fn add(&mut self, lease: i64, key: &Bytes) -> Result<(), AllocError>
+        ensures ok { OnOk result (AreAdded lease key.now self.old self.new) }
+        ensures err { OnErr result (self.new ≡ self.old) }
+    {
+        add(self.alloc, &mut self.leases, lease, key)
+    }
+
+    /// Whether there is no pair. Takes no memory, and constant time.
+    pub(crate) fn is_empty(&self) -> bool
+        ensures { result ≡ is_empty self.now }
+    {
+        self.leases.is_empty()
+    }
+
     /// Takes a key out of those of a lease, where it is there. A lease that is left without keys
     /// has no entry any more.
     ///
     /// Takes no memory. The time is logarithmic in the number of leases and in that of the lease's
     /// keys.
-    pub fn remove(&mut self, lease: i64, key: &Bytes)
+    pub(crate) fn remove(&mut self, lease: i64, key: &Bytes)
         ensures { AreRemoved lease key.now self.old self.new }
     {
         remove(self.alloc, &mut self.leases, lease, key);
-    }
-
-    /// Takes all keys of a lease out. Takes no memory. The time is logarithmic in the number of
-    /// leases, and linear in that of the lease's keys.
-    pub fn forget(&mut self, lease: i64)
-        ensures { AreForgotten lease self.old self.new }
-    {
-        let _keys = self.leases.remove(&lease);
     }
 
     /// The keys of a lease, ascending.

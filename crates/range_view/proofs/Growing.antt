@@ -17,12 +17,12 @@ use Rattle.store_laws.proofs.RevOrder.{rev_lt-mains, rev_lt-subs, rev_lt-trans}
 use Rattle.store_laws.proofs.Rising.{rising-filter, rising-parts}
 use Rattle.version_table.specs.Rising.{IsBehind, IsRising, rev_of, retracted}
 use Rattle.version_table.proofs.Changes.{retracted-append}
+use Rattle.version_table.proofs.Retracting.{below-not_of}
 use Rattle.trim_core.proofs.Stepping.{trimmed-keeps}
 use Rattle.key_index.specs.Index.{Index}
 use Rattle.key_index.specs.Agrees.{Agrees}
 use Rattle.key_index.proofs.Agrees.{agrees-nothing}
-use Rattle.range_view.specs.Stored.{AreTables, Stored, IsUpTo, IsBelow, AreOf, AreNotOf, IsStored, goes_on, is_next, appended, retracted_to}
-use Rattle.store_laws.proofs.StepLaws.{differs}
+use Rattle.range_view.specs.Stored.{AreTables, Stored, IsUpTo, IsBelow, AreOf, IsStored, goes_on, is_next, appended, retracted_to}
 
 -- ---- numbers
 
@@ -36,10 +36,6 @@ always-present r h =
     ap (λ b. b && nat_lt 1 (r + 1)) same ∙ more
 
 -- ---- main revisions
-
-pub below-not_of : (main : ℕ) (vs : List Version) → IsBelow main vs → AreNotOf main vs
-below-not_of main vs h =
-    each-map (λ (v : Version). v.rev.main < main) (λ v. (v.rev.main == main) ≡ false) (λ v less. differs v.rev.main main less) vs h
 
 pub upto-below : (main : ℕ) (vs us : List Version) → IsBelow main vs → AreOf main us → IsUpTo main (vs ++ us)
 upto-below main vs us h g =

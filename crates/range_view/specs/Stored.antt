@@ -9,6 +9,7 @@ use Rattle.store_laws.specs.Trimming.{TrimStep, oldest_place, trimmed}
 use Rattle.version_table.specs.Rising.{IsRising, retracted}
 use Rattle.key_index.specs.Index.{Index}
 use Rattle.key_index.specs.Agrees.{Agrees}
+pub use Rattle.key_index.specs.Agrees.{IsBelow, AreOf}
 
 -- what is kept, as clauses see it: the versions, the revision of the last compaction, the present revision, and the
 -- first place that trimming has not looked at
@@ -36,21 +37,9 @@ blank = blank_at 1
 abbrev pub IsUpTo : ℕ → List Version → Type 0
 IsUpTo main vs = AllByRecursion (λ v. v.rev.main ≤ main) vs
 
-abbrev pub IsBelow : ℕ → List Version → Type 0
-IsBelow main vs = AllByRecursion (λ v. v.rev.main < main) vs
-
--- every version is of this main revision, or none is
-abbrev pub AreOf : ℕ → List Version → Type 0
-AreOf main vs = AllByRecursion (λ v. (v.rev.main == main) ≡ true) vs
-
+-- none is of this main revision
 abbrev pub AreNotOf : ℕ → List Version → Type 0
 AreNotOf main vs = AllByRecursion (λ v. (v.rev.main == main) ≡ false) vs
-
--- the last version went, which was of the main revision
-pub record IsLast (main : ℕ) (old new : List Version) : Type 0 where
-  pub version : Version
-  pub split : old ≡ new ++ version ∷ []
-  pub of : (version.rev.main == main) ≡ true
 
 -- the versions rise, up to the present revision
 pub record IsStored (s : Stored) : Type 0 where

@@ -1,37 +1,31 @@
 //! How a table of versions and its index grow together, and shrink again where the growth fails.
-ghost use Rattle.std.specs.Prelude.{◌≡◌, ◌++◌, ◌∷◌, [], true, false, OnOk, OnErr};
-ghost use Rattle.version_table.specs.Rising.{IsBehind, IsRising, is_newest, retracted};
-ghost use Rattle.range_view.specs.Stored.{IsUpTo, IsBelow, IsLast, AreOf, AreTied};
+ghost use Rattle.std.specs.Prelude.{◌≡◌, ◌++◌, ◌∷◌, [], OnOk, OnErr};
+ghost use Rattle.version_table.specs.Rising.{IsBehind, IsRising, retracted};
+ghost use Rattle.key_index.specs.Agrees.{Agrees};
+ghost use Rattle.range_view.specs.Stored.{IsUpTo, IsBelow, AreOf, AreTied};
 
 use key_index::KeyIndex;
-use kv_model::version::Version;
+use kv_model::version::{Rev, Version};
 use std::alloc::AllocError;
 use version_table::VersionTable;
 
-/// Takes the last version out of the table and the index, where it is of a main revision. Tells
-/// whether it was.
-fn take_last(table: &mut VersionTable, index: &mut KeyIndex, main: u64) -> bool
-    requires { AreTied index.old table.old }
-    ensures taken { result ≡ true → IsLast main table.old table.new }
-    ensures left { result ≡ false → (table.new ≡ table.old)
-        × (is_newest main table.old ≡ false) }
-    ensures tied { AreTied index.new table.new }
+/// Takes the changes of the newest main revision out of the index, as many at a time as lie side by
+/// side in the table.
+fn unindex(table: &VersionTable, index: &mut KeyIndex, main: u64)
+    requires upto { IsUpTo main table.now }
+    requires tied { AreTied index.old table.now }
+    ensures { Agrees index.new (retracted main table.now) }
 {
-    match table.newest() {
-        Some(version) if version.rev.main == main => {
-            let last = version.rev;
-            index.remove(&version.key, last);
-            table.remove(last);
-            true
-        }
-        _ => false,
+    let mut changes = table.versions_from(Rev { main, sub: 0 });
+    while let Some(slice) = changes.next_slice() {
+        index.retract(main, slice);
     }
 }
 
-/// Takes the newest main revision back, one change after another. Takes no memory.
+/// Takes the newest main revision back, out of the index and out of the table. Takes no memory.
 ///
 /// For each of the changes the time is logarithmic in the number of versions and in that of the
-/// keys, but for the revisions of its key, which are walked where it is not the oldest.
+/// keys: no other key is walked, where no later main revision was ever added.
 pub fn take_back(table: &mut VersionTable, index: &mut KeyIndex, main: u64)
     requires upto { IsUpTo main table.old }
     requires tied { AreTied index.old table.old }
@@ -39,7 +33,8 @@ pub fn take_back(table: &mut VersionTable, index: &mut KeyIndex, main: u64)
     ensures older { IsBelow main table.new }
     ensures tied { AreTied index.new table.new }
 {
-    'taking: while take_last(table, index, main) {}
+    unindex(table, index, main);
+    table.retract(main);
 }
 
 /// Adds a version to the table and its revision to the index, or to none of the two. To the index

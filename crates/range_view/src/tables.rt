@@ -119,14 +119,6 @@ impl Tables {
         self.table.len()
     }
 
-    /// The number of pages that the versions stand in, which is never more than there are versions
-    /// (`version_table::VersionTable::pages`). Constant time.
-    pub fn pages(&self) -> usize
-        ensures { result ≤ length self.now.versions }
-    {
-        self.table.pages()
-    }
-
     /// The versions, rising, up to the present revision, lent one after another. Takes no memory,
     /// and constant time.
     pub fn versions(&self) -> Versions<'_>
@@ -171,13 +163,6 @@ impl Tables {
         ensures stored { IsStored self.now }
     {
         self.revision
-    }
-
-    /// The first place in the history that trimming has not looked at.
-    pub fn place(&self) -> Rev
-        ensures { result ≡ self.now.place }
-    {
-        self.trimmer.place()
     }
 
     /// What is kept, seen at a place.

@@ -1,7 +1,8 @@
 //! What is kept, read at a place (the etcd documentation's RangeRequest and RangeResponse).
-ghost use Rattle.std.specs.Prelude.{◌≡◌, IfOk, IfErr, MatchOption, option_map, filter_map, map};
-ghost use Rattle.kv_model.specs.Keys.{one_key};
-ghost use Rattle.kv_model.specs.History.{value_at};
+ghost use Rattle.std.specs.Prelude.{◌≡◌, ◌&&◌, IfOk, IfErr, MatchOption, option_map, filter_map};
+ghost use Rattle.std.specs.Prelude.{map, filter, length, nat_le};
+ghost use Rattle.kv_model.specs.Keys.{one_key, same_key};
+ghost use Rattle.kv_model.specs.History.{value_at, end_of};
 ghost use Rattle.kv_model.specs.Ranges.{range_reply, read_place, revision_refusal, live};
 ghost use Rattle.version_table.specs.Rising.{IsRising};
 ghost use Rattle.key_index.specs.Agrees.{read_at, read_entry};
@@ -10,8 +11,9 @@ ghost use Rattle.range_view.specs.Replies.{kv_view, reply_view};
 ghost use Rattle.range_view.specs.Selecting.{IsFound};
 ghost use Rattle.range_view.specs.Stored.{AreTied};
 
+use crate::key_versions::KeyVersions;
 use crate::reply::{KvRef, RangeReply, key_value_of};
-use crate::revision::{read_place, revision_refusal};
+use crate::revision::{end_of, read_place, revision_refusal};
 use crate::select::Found;
 use bytes::Bytes;
 use key_index::{Indexed, KeyIndex};
@@ -20,7 +22,7 @@ use kv_model::refusal::Refusal;
 use kv_model::version::{KeyRange, Rev};
 use std::alloc::{AllocError, Global};
 use std::marker::Model;
-use version_table::VersionTable;
+use version_table::{VersionTable, Versions};
 
 /// What is kept, seen at a place in the history: of each key its last version that is not after the
 /// place.
@@ -75,6 +77,19 @@ impl<'a> View<'a> {
         }
     }
 
+    /// The same, seen at the end of the view's revision. Takes no memory, and constant time.
+    pub fn at_end(&self) -> View<'a>
+        ensures { result ≡ record self.now { place = end_of self.now.revision } }
+    {
+        View::new(
+            self.table,
+            self.index,
+            self.compacted,
+            self.revision,
+            end_of(self.revision),
+        )
+    }
+
     /// The revision of the last compaction, 0 before the first.
     pub fn compacted(&self) -> u64
         ensures { result ≡ self.now.compacted }
@@ -87,6 +102,37 @@ impl<'a> View<'a> {
         ensures { result ≡ self.now.revision }
     {
         self.revision
+    }
+
+    /// The number of versions that are kept, those behind the view's place too. Takes no memory, and
+    /// constant time.
+    pub fn count(&self) -> usize
+        ensures { result ≡ length self.now.versions }
+    {
+        self.table.len()
+    }
+
+    /// The versions that are kept, rising, those behind the view's place too, lent one after
+    /// another. Takes no memory, and constant time.
+    pub fn versions(&self) -> Versions<'a>
+        ensures value { result ≡ self.now.versions }
+        ensures rising { IsRising self.now.versions }
+    {
+        self.table.versions()
+    }
+
+    /// The versions of a key from a revision on, the oldest first, those behind the view's place
+    /// too, lent one after another. It goes by the index of keys, and comes by no version of another
+    /// key. Takes no memory.
+    ///
+    /// The time is logarithmic in the number of keys and in that of the key's revisions, and that
+    /// of each step logarithmic in the number of versions.
+    pub fn versions_of(&self, key: &Bytes, next: u64) -> KeyVersions<'a>
+        ensures value { result ≡ filter
+            (λ v. nat_le next v.rev.main && same_key v.key key.now) self.now.versions }
+        ensures rising { IsRising self.now.versions }
+    {
+        KeyVersions::new(self.table, self.index, key, next)
     }
 
     /// What a key holds at the view's place, lent from the table: nothing where it was never put or

@@ -151,7 +151,7 @@ kept-newest n (v ∷ vs) h =
     ap (λ b. cond b (v ∷ filter (λ w. nat_le n w.rev.main) vs) (filter (λ w. nat_le n w.rev.main) vs)) most
     ∙ ap (λ us. v ∷ us) (kept-newest n vs h.1)
 
-newest-appended : (r : ℕ) (vs us : List Version) → IsUpTo r vs → AreOf (r + 1) us → filter (λ v. nat_le (r + 1) v.rev.main) (vs ++ us) ≡ us
+pub newest-appended : (r : ℕ) (vs us : List Version) → IsUpTo r vs → AreOf (r + 1) us → filter (λ v. nat_le (r + 1) v.rev.main) (vs ++ us) ≡ us
 newest-appended r vs us h g =
     filter-append (λ (v : Version). nat_le (r + 1) v.rev.main) vs us
     ∙ ap (λ ws. ws ++ filter (λ v. nat_le (r + 1) v.rev.main) us) (gone-older r vs h) ∙ kept-newest (r + 1) us g

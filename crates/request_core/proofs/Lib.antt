@@ -12,3 +12,4 @@ pub mod Txns
 pub mod Worlds
 pub mod Watching
 pub mod Noting
+pub mod Indexed

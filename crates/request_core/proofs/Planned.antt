@@ -1,20 +1,29 @@
 -- The versions that a planned path adds: those of the next revision, each as its key stood before all of them.
-use Rattle.std.proofs.Common.{◌≡◌, ◌≢◌, ◌≤◌, ◌<◌, ◌^◌, ℕ, suc, ◌+◌, ◌&&◌, List, [], ◌∷◌, ◌++◌, length, map, true, Option, refl, sym, ◌∙◌, ap, subst, arith, eq-eqb, lt-ltb}
+use Rattle.std.proofs.Common.{◌≡◌, ◌≢◌, ◌≤◌, ◌<◌, ◌^◌, ℕ, suc, ◌+◌, ◌&&◌, List, [], ◌∷◌, ◌++◌, length, map, true, refl, sym, ◌∙◌, ap, subst, arith, eq-eqb, lt-ltb}
+use Rattle.std.proofs.Common.{ℤ, ◌-◌, filter, Bool, None, cond}
+use Rattle.std.proofs.Math.Nat.{min-eq_left}
 use Rattle.std.specs.Prelude.{⊤}
 use Rattle.std.specs.List.{AllByRecursion}
-use Rattle.std.proofs.lemmas.List.{map-append}
 use Rattle.kv_model.specs.declared.version.Rev.{Rev}
 use Rattle.kv_model.specs.declared.version.Version.{Version}
+use Rattle.kv_model.specs.declared.version.Body.{Body}
+use Rattle.kv_model.specs.declared.version.Body.TheVariants.{Put, Gone}
 use Rattle.kv_model.specs.Keys.{same_key}
-use Rattle.kv_model.specs.History.{Mutation, Action, KeyValue, value_now, now_after}
+use Rattle.kv_model.specs.History.{Mutation, value_now, now_after, end_of, rev_le}
 use Rattle.kv_model.specs.Lists.{last_that}
-use Rattle.store_laws.specs.Plans.{path_touches, still_live, planned}
-use Rattle.kv_model.specs.Txns.{Path, next_body, next_version, extend, extend_all, added_by, put_change, deletes_of}
-use Rattle.store_laws.proofs.TouchLaws.{AreClear}
-use Rattle.store_laws.proofs.PlanLaws.{NoClash, held-put, put-clear, delete-clear, inner-clear, clear-front}
+use Rattle.store_laws.specs.Plans.{still_live, planned, planned_refusal}
+use Rattle.kv_model.specs.Calls.{Ops}
+use Rattle.kv_model.specs.Step.{last_main}
+use Rattle.kv_model.specs.Txns.{Path, path_of, next_version, extend_all, added_by, put_change, deletes_of, static_fault, effect}
+use Rattle.kv_model.specs.Txns.{run_refusal}
+use Rattle.store_laws.proofs.Planning.{plan_refuses}
+use Rattle.store_laws.proofs.PlaceLaws.{AreBy, rev_le-end}
+use Rattle.store_laws.proofs.PlanLaws.{NoClash}
 use Rattle.store_laws.proofs.BatchLaws.{extend_all-added}
-use Rattle.range_view.specs.Stored.{goes_on, is_next}
-use Rattle.txn_core.specs.KeyWrites.{IsCountedTo}
+use Rattle.range_view.specs.Stored.{goes_on, is_next, Viewed, IsUpTo}
+use Rattle.txn_core.specs.KeyWrites.{IsCountedTo, as_kept, number_after}
+use Rattle.txn_core.specs.Planning.{present}
+use Rattle.txn_core.proofs.Apart.{planned-apart, planned-added}
 use Rattle.txn_core.proofs.PutCounts.{last_that-holds}
 use Rattle.request_core.specs.Writing.{IsHeldTo, AreNext}
 use Rattle.request_core.proofs.Kept.{found-held, action-counted}
@@ -113,39 +122,49 @@ planned-next r vs q ws h e few some =
 
 -- ---- none of them hangs on another
 
--- each change makes behind those before it the version that it makes before them
-abbrev pub AreApart : List Version → List Mutation → Type 0
-AreApart vs us = added_by vs us ≡ map (next_version vs) us
-
-added-append : (vs : List Version) (us ws : List Mutation) → added_by vs (us ++ ws) ≡ added_by vs us ++ added_by (extend_all vs us) ws
-added-append vs [] ws = refl
-added-append vs (u ∷ us) ws = ap (λ t. next_version vs u ∷ t) (added-append (extend vs u) us ws)
-
-apart-append : (vs : List Version) (us ws : List Mutation) → AreApart vs us → added_by (extend_all vs us) ws ≡ map (next_version vs) ws → AreApart vs (us ++ ws)
-apart-append vs us ws h g = added-append vs us ws ∙ (λ i. h i ++ g i) ∙ sym (map-append (next_version vs) us ws)
-
-deletes-apart : (vs ws : List Version) (main sub : ℕ) (ks : List (List ℕ)) → added_by vs (deletes_of main sub ks) ≡ map (next_version ws) (deletes_of main sub ks)
-deletes-apart vs ws main sub [] = refl
-deletes-apart vs ws main sub (k ∷ ks) =
-    let m : Mutation = record { rev = record { main = main; sub = sub }; key = k; action = Action.delete } in
-    ap (λ t. next_version ws m ∷ t) (deletes-apart (extend vs m) ws main (suc sub) ks)
-
--- where nothing clashes, so it is of a path
-pub planned-apart : (vs : List Version) (main : ℕ) (us : List Mutation) (q : Path) → AreClear us (path_touches q) → NoClash q → AreApart vs us → AreApart vs (planned vs main us q)
-unfolding planned
-planned-apart vs main us Path.end j n h = h
-planned-apart vs main us (Path.range r rest) j n h = planned-apart vs main us rest j n h
-planned-apart vs main us (Path.put p rest) j n h =
-    let m : Mutation = put_change vs main (length us) p in
-    let one : added_by (extend_all vs us) (m ∷ []) ≡ next_version vs m ∷ []
-    = ap (λ (o : Option KeyValue). record { rev = m.rev; key = m.key; body = next_body m.rev.main m.action o } ∷ []) (held-put vs us p.key (path_touches rest) j) in
-    planned-apart vs main (us ++ m ∷ []) rest (put-clear vs main us p rest j n) n.1 (apart-append vs us (m ∷ []) h one)
-planned-apart vs main us (Path.delete d rest) j n h =
-    let ks : List (List ℕ) = still_live vs us d.range in
-    planned-apart vs main (us ++ deletes_of main (length us) ks) rest (delete-clear vs main us d rest j n) n.1
-    (apart-append vs us (deletes_of main (length us) ks) h (deletes-apart (extend_all vs us) vs main (length us) ks))
-planned-apart vs main us (Path.txn b inner rest) j n h =
-    planned-apart vs main (planned vs main us inner) rest (inner-clear vs main us b inner rest j n) n.2 (planned-apart vs main us inner (clear-front us (path_touches inner) (path_touches rest) j) n.1 h)
-
 pub planned-extends : (vs : List Version) (main : ℕ) (q : Path) → NoClash q → extend_all vs (planned vs main [] q) ≡ vs ++ map (next_version vs) (planned vs main [] q)
 planned-extends vs main q n = extend_all-added vs (planned vs main [] q) ∙ ap (λ t. vs ++ t) (planned-apart vs main [] q tt n refl)
+
+-- ---- they are what txn_core plans, of a transaction that passes its check
+
+each-present : (p : Rev) (vs : List Version) → AreBy p vs → filter (λ v. rev_le v.rev p) vs ≡ vs
+each-present p [] h = refl
+each-present p (v ∷ vs) h = λ i. cond (h.0 i) (v ∷ each-present p vs h.1 i) (each-present p vs h.1 i)
+
+all-by : (r : ℕ) (vs : List Version) → AllByRecursion (λ v. v.rev.main ≤ r) vs → AllByRecursion (λ v. v.rev.sub < 2 ^ 64) vs
+    → AreBy (end_of r) vs
+all-by r [] h s = tt
+all-by r (v ∷ vs) h s = (rev_le-end v.rev r h.0 s.0, all-by r vs h.1 s.1)
+
+pub all-present : (v : Viewed) → IsUpTo v.revision v.versions → AllByRecursion (λ w. w.rev.sub < 2 ^ 64) v.versions → present v ≡ v.versions
+all-present v upto places = each-present (end_of v.revision) v.versions (all-by v.revision v.versions upto places)
+
+kept-same : (n : ℕ) → n ≤ 2 ^ 64 - 1 → (rev : Rev) (k : List ℕ) (b : Body) → IsCountedTo n b
+    → as_kept (record { rev = rev; key = k; body = b }) ≡ record { rev = rev; key = k; body = b }
+kept-same n l rev k (Put create version lease value) h =
+    ap (λ m. record { rev = rev; key = k; body = Put create m lease value }) (min-eq_left (omega (arith, l, h)))
+kept-same n l rev k Gone h = refl
+
+all-kept : (n : ℕ) → n ≤ 2 ^ 64 - 1 → (ws : List Version) → AllByRecursion (λ w. IsCountedTo n w.body) ws → map as_kept ws ≡ ws
+all-kept n l [] h = refl
+all-kept n l (w ∷ ws) h = λ i. kept-same n l w.rev w.key w.body h.0 i ∷ all-kept n l ws h.1 i
+
+pub plan-versions : (v : Viewed) → present v ≡ v.versions → v.revision ≤ last_main → AllByRecursion (λ w. IsCountedTo v.revision w.body) v.versions
+    → (ops : Ops) → static_fault ops ≡ None
+    → map as_kept (added_by (present v) (effect (present v) (number_after v.revision) 0 (path_of (present v) v.revision ops)))
+    ≡ map (next_version v.versions) (planned v.versions (v.revision + 1) [] (path_of v.versions v.revision ops))
+plan-versions v same fits counted ops h =
+    let vs : List Version = v.versions in
+    let r : ℕ = v.revision in
+    let us : List Mutation = planned vs (r + 1) [] (path_of vs r ops) in
+    let next : number_after r ≡ r + 1 = min-eq_left (omega (arith, fits)) in
+    (λ i. map as_kept (added_by (same i) (effect (same i) (next i) 0 (path_of (same i) r ops))))
+    ∙ ap (map as_kept) (sym (planned-added vs r (r + 1) ops h))
+    ∙ all-kept (r + 1) (omega (arith, fits)) (map (next_version vs) us) (versions-counted r vs us counted)
+
+pub plan-refusal : (v : Viewed) → present v ≡ v.versions → (granted : ℤ → Bool) (ops : Ops) → static_fault ops ≡ None
+    → run_refusal granted v.compacted v.revision (present v) 0 (path_of (present v) v.revision ops)
+    ≡ planned_refusal granted v.compacted v.revision v.versions (path_of v.versions v.revision ops)
+plan-refusal v same granted ops h =
+    ap (λ vs. run_refusal granted v.compacted v.revision vs 0 (path_of vs v.revision ops)) same
+    ∙ sym (plan_refuses granted v.compacted v.revision v.versions ops h)

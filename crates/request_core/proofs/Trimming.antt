@@ -2,7 +2,7 @@
 use Rattle.std.proofs.Common.{◌≡◌, ◌≤◌, ◌<◌, ℕ, ◌^◌, List, true, Option, None, Some, refl, sym, ◌∙◌, ap, subst, arith}
 use Rattle.std.specs.List.{AllByRecursion}
 use Rattle.kv_model.specs.declared.version.Version.{Version}
-use Rattle.kv_model.specs.History.{value_at, value_now, end_of, rev_le}
+use Rattle.kv_model.specs.History.{value_now, end_of, rev_le}
 use Rattle.kv_model.specs.Headline.{Trims}
 use Rattle.kv_model.specs.Told.{Trimmed}
 use Rattle.store_laws.specs.Trimming.{trimmed, IsTrimmedTo}
@@ -15,7 +15,7 @@ use Rattle.store_laws.proofs.PlaceLaws.{each-part, value_at-by}
 use Rattle.store_laws.proofs.RuleLaws.{steps-well}
 use Rattle.store_laws.proofs.Visits.{IsOrderly, Leaves, step_leaves}
 use Rattle.lease_keys.specs.Pairs.{Pairs}
-use Rattle.lease_keys.specs.Holding.{Holds}
+use Rattle.lease_keys.specs.Holding.{AreJust}
 use Rattle.range_view.specs.Stored.{Stored, IsStored, trim_of as trim_of_tables, trimmed_once}
 use Rattle.txn_core.specs.KeyWrites.{IsCountedTo}
 use Rattle.trim_core.specs.declared.trimmer.Trim.{Trim}
@@ -24,7 +24,7 @@ use Rattle.request_core.specs.Commands.{LeavesBy, MayTrim, TrimsOnce}
 use Rattle.lease_book.specs.Book.{Book}
 use Rattle.watch_hub.specs.Hub.{Hub}
 use Rattle.request_core.specs.State.{CoreState, IsSound, core_state, counted, has_removed, keeping_of, trim_of, trimmed_by}
-use Rattle.request_core.proofs.Leased.{all-reached, holds-seen}
+use Rattle.request_core.proofs.Leased.{all-reached, just-same}
 
 -- ---- what a step leaves
 
@@ -59,15 +59,11 @@ trimmed-now t stored sound k =
     ∙ l.values t.revision k sound.floor
     ∙ value_at-by t.versions (end_of t.revision) k reached
 
--- so the index of leases has what it must have
-pub trimmed-holds : (t : Stored) (ps : Pairs) → IsStored t → IsSound t → Holds ps (value_now t.versions)
-    → Holds ps (value_now (trimmed_once t).versions)
-trimmed-holds t ps stored sound h k kv e = h k kv (sym (trimmed-now t stored sound k) ∙ e)
-
--- and so it has where it has what is seen at the end of the present revision
-pub holds-last : (ps : Pairs) (t : Stored) → IsStored t → IsSound t → Holds ps (value_at t.versions (end_of t.revision))
-    → Holds ps (value_now t.versions)
-holds-last ps t stored sound h k kv e = h k kv (value_at-by t.versions (end_of t.revision) k (all-reached t stored sound) ∙ e)
+-- so the index of leases has just what it must have
+pub trimmed-just : (t : Stored) (ps : Pairs) → IsStored t → IsSound t → AreJust ps (value_now t.versions)
+    → AreJust ps (value_now (trimmed_once t).versions)
+trimmed-just t ps stored sound just = just-same ps (value_now t.versions) (value_now (trimmed_once t).versions)
+    (λ k. sym (trimmed-now t stored sound k)) just
 
 -- ---- what a step does
 
@@ -112,13 +108,12 @@ tables_leave t new b h stamp s told stored sound is e f =
     (tables-leave t b h stamp stored sound)))
 
 -- and in the form that the whole step cites
-pub trims_once : (old mid stepped new : CoreState) (t : Trim) → mid ≡ old → LeavesBy mid stepped (told_of t)
+pub trims_once : (old stepped new : CoreState) (t : Trim) → LeavesBy old stepped (told_of t)
     → new ≡ counted (has_removed (told_of t)) stepped → TrimsOnce old new t
-trims_once old mid stepped new t same l counts =
-    subst (λ (s : CoreState). TrimsOnce s new t) same (record {
-      told = l.told;
-      left = counts ∙ ap (counted (has_removed (told_of t))) l.left;
-      visit = subst (λ (s : CoreState). IsVisit (told_of t) (keeping_of mid).ahead (keeping_of s).ahead) (sym counts) l.visit;
-      trims = λ w h. let m = l.trims w h in subst (λ (s : CoreState). MayTrim w mid s (told_of t)) (sym counts)
-          (record { stands = m.stands; may = m.may });
-    })
+trims_once old stepped new t l counts = record {
+  told = l.told;
+  left = counts ∙ ap (counted (has_removed (told_of t))) l.left;
+  visit = subst (λ (s : CoreState). IsVisit (told_of t) (keeping_of old).ahead (keeping_of s).ahead) (sym counts) l.visit;
+  trims = λ w h. let m = l.trims w h in subst (λ (s : CoreState). MayTrim w old s (told_of t)) (sym counts)
+      (record { stands = m.stands; may = m.may });
+}

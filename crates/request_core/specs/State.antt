@@ -22,7 +22,7 @@ use Rattle.kv_model.specs.Lists.{is_empty}
 use Rattle.kv_model.specs.Ranges.{live, refuse_if}
 use Rattle.kv_model.specs.Txns.{put_fault, static_fault}
 use Rattle.kv_model.specs.Txns as txns
-use Rattle.kv_model.specs.History.{KeyValue, value_at, end_of, rev_le}
+use Rattle.kv_model.specs.History.{KeyValue, value_at, end_of}
 use Rattle.kv_model.specs.Step.{last_main, at_least_zero}
 use Rattle.kv_model.specs.Headline.{Keeping}
 use Rattle.kv_model.specs.Told.{Trimmed}
@@ -64,6 +64,10 @@ core_state t b h stamp = record { store = store_kept t b h; place = t.place; sta
 abbrev pub no_watches : Hub
 no_watches = record { watches = []; made = 0 }
 
+-- the versions of the present revision
+abbrev pub newest : Stored → List Version
+newest t = filter (λ v. nat_le t.revision v.rev.main) t.versions
+
 -- what is true of the fields of every core
 pub record IsSound (t : Stored) : Type 0 where
   pub fits : t.revision ≤ last_main
@@ -83,10 +87,6 @@ live_in s r = live s.versions (end_of s.revision) r
 -- the live keys whose last put names the lease, and what they hold
 abbrev pub leased_in : Store → ℤ → List KeyValue
 leased_in s id = filter (λ kv. int_eq kv.lease id) (live_in s all_keys)
-
--- no version stands after the store's revision
-abbrev pub AreReached : Store → Type 0
-AreReached s = AllByRecursion (λ v. rev_le v.rev (end_of s.revision) ≡ true) s.versions
 
 -- no revision comes after this one
 abbrev pub is_spent : ℕ → Bool

@@ -27,7 +27,8 @@
 //! at revision 9
 //! ```
 //!
-//! The tests stand in the crate `store_tests`, in `src/cores.rt`.
+//! The tests stand in the crate `store_tests`, in `src/cores.rt`; that of the last revisions, which
+//! needs a core made near them, in `src/store/spent.rt`.
 #![tactic(auto)]
 
 pub mod answer;

@@ -15,6 +15,8 @@ mod putting;
 mod ranging;
 mod receipts;
 mod revoking;
+#[cfg(test)]
+mod spent;
 mod transacting;
 mod trimming;
 mod watching;
@@ -49,14 +51,14 @@ pub struct Core {
 
 impl Model for Core {
     ghost use Rattle.kv_model.specs.History.{value_now};
-    ghost use Rattle.lease_keys.specs.Holding.{Holds};
+    ghost use Rattle.lease_keys.specs.Holding.{AreJust};
     ghost use Rattle.request_core.specs.State.{CoreState, IsSound, core_state};
 
     ghost Value = { CoreState };
 
     ghost view = { λ c. core_state c.tables c.book c.hub c.stamp };
 
-    ghost invariant = { λ c. IsSound c.tables × Holds c.keys (value_now c.tables.versions) };
+    ghost invariant = { λ c. IsSound c.tables × AreJust c.keys (value_now c.tables.versions) };
 }
 
 impl Core {
@@ -102,12 +104,13 @@ impl Core {
         self.stamp
     }
 
-    /// The store's numbers. Takes no memory.
+    /// The store's numbers. The revision is at most 2^63 - 1. Takes no memory.
     pub fn status(&self) -> Status
         ensures revision { result.revision ≡ self.now.store.revision }
         ensures compacted { result.compacted ≡ self.now.store.compacted }
         ensures clock { result.clock ≡ self.now.store.clock }
         ensures versions { result.versions ≡ length self.now.store.versions }
+        ensures fits { self.now.store.revision ≤ last_main }
     {
         Status {
             revision: self.tables.revision(),

@@ -6,7 +6,7 @@ use kv_model::call::{DeleteRequest, Operand, Operation, Txn};
 use kv_model::refusal::Refusal;
 use kv_model::version::KeyRange;
 use std::alloc::Global;
-use txn_core::{check, walk_fault};
+use txn_core::check;
 
 /// A transaction as the only operation on success of another, so many times.
 fn nested(alloc: Global, times: u8) -> Txn {
@@ -53,7 +53,7 @@ fn transaction(alloc: Global, walked: Walked) -> Txn {
 
 fn fault(alloc: Global, walked: Walked) -> Option<Refusal> {
     let txn = transaction(alloc, walked);
-    let fault = walk_fault(&txn);
+    let fault = check(alloc, &txn).err();
     drop(txn);
     fault
 }

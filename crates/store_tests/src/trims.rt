@@ -4,7 +4,7 @@ use crate::fixtures::{append, tombstone, version};
 use kv_model::version::Rev;
 use range_view::Tables;
 use std::alloc::Global;
-use trim_core::{Trim, Trimmer};
+use trim_core::Trim;
 
 /// What is done with tables, and what they are to answer.
 #[derive(Clone, Copy)]
@@ -19,8 +19,8 @@ enum Row {
     Step(Trim),
     /// So many steps, and the last of them.
     Steps(u64, Trim),
-    /// How many versions and pages there are.
-    Kept(usize, usize),
+    /// How many versions there are.
+    Count(usize),
 }
 
 fn put(alloc: Global, tables: &mut Tables, main: u64, key: &'static [u8]) {
@@ -49,7 +49,7 @@ fn is_so(alloc: Global, tables: &mut Tables, row: Row) -> bool {
         Row::Compact(revision) => tables.compact(revision),
         Row::Step(expected) => return tables.trim_step() == expected,
         Row::Steps(count, expected) => return last_of(tables, count) == expected,
-        Row::Kept(count, pages) => return (tables.count(), tables.pages()) == (count, pages),
+        Row::Count(expected) => return tables.count() == expected,
     }
     true
 }
@@ -137,29 +137,18 @@ fn begins_again_at_a_later_compaction(rt: HostRuntime) {
     );
 }
 
-#[test]
-fn begins_at_the_oldest_place(rt: HostRuntime) {
-    let mut trimmer = Trimmer::new();
-    let first = trimmer.place();
-    trimmer.restart();
-    let again = trimmer.place();
-    drop(trimmer);
-    let oldest = Rev { main: 0, sub: 0 };
-    assert_eq!(rt; [first, again], [oldest, oldest]);
-}
-
-/// 1,024 puts of a, at the revisions from 2 to 1025, and one of b fill five pages. The last put of
-/// each is left, on two.
-static PAGES: [Row; 6] = [
+/// 1,024 puts of a, at the revisions from 2 to 1025, and one of b, which fill five pages. The last
+/// put of each is left.
+static MANY: [Row; 6] = [
     Row::PutsBelow(1_026),
     Row::Put(1_026, b"b"),
-    Row::Kept(1_025, 5),
+    Row::Count(1_025),
     Row::Compact(1_026),
     Row::Steps(1_026, Trim::Done(2)),
-    Row::Kept(2, 2),
+    Row::Count(2),
 ];
 
 #[test]
-fn frees_the_pages_that_it_empties(rt: HostRuntime) {
-    assert_eq!(rt; first_wrong_of_fresh(rt.alloc(), PAGES.as_slice()), None);
+fn leaves_the_last_put_of_each_key(rt: HostRuntime) {
+    assert_eq!(rt; first_wrong_of_fresh(rt.alloc(), MANY.as_slice()), None);
 }

@@ -1,8 +1,12 @@
 //! What several tests are made on.
+ghost use Rattle.std.specs.Prelude.{◌≡◌};
+
 use bytes::Bytes;
 use kv_model::version::{Body, Rev, Version};
 
-pub(crate) fn tombstone(main: u64, sub: u64, key: &'static [u8]) -> Version {
+pub(crate) fn tombstone(main: u64, sub: u64, key: &'static [u8]) -> Version
+    ensures { result.rev ≡ record { main = main; sub = sub } }
+{
     Version {
         rev: Rev { main, sub },
         key: Bytes::from_static(key),

@@ -1,20 +1,34 @@
 //! Each call once, on three keys. A test is a table of what is done with an index: no function that
 //! owns one asserts, and one function does all rows.
+ghost use Rattle.std.specs.Prelude.{ℕ, IsTrue};
+ghost use Rattle.key_index.specs.Index.{revisions};
+ghost use Rattle.key_index.specs.KeyRevisions.{IsBehind};
+
 use crate::fixtures::{pair, tombstone};
 use bytes::Bytes;
 use key_index::{Indexed, KeyIndex};
 use kv_model::version::{KeyRange, Rev};
 use std::alloc::Global;
 
-/// Notes the put or the delete of a key, where the index takes it.
-fn note(index: &mut KeyIndex, letter: &'static [u8], is_put: bool, rev: Rev) {
+/// Whether each revision that a key has is of an earlier main revision.
+fn is_below(index: &KeyIndex, key: &Bytes, main: u64) -> bool
+    ensures { (sub : ℕ) → IsTrue result
+        → IsBehind (record { main = main; sub = sub }) (revisions key.now index.now) }
+{
+    match index.get(key) {
+        Some(revisions) => match revisions.get(revisions.count_before(main)) {
+            Some(_) => false,
+            None => true,
+        },
+        None => true,
+    }
+}
+
+/// Notes a change of a key, where those that it has are of earlier main revisions.
+fn note(index: &mut KeyIndex, letter: &'static [u8], rev: Rev) {
     let key = Bytes::from_static(letter);
-    if index.takes(&key, rev) {
-        let _ = if is_put {
-            index.put(&key, rev)
-        } else {
-            index.gone(&key, rev)
-        };
+    if is_below(index, &key, rev.main) {
+        let _ = index.put(&key, rev);
     }
     drop(key);
 }
@@ -102,7 +116,6 @@ fn remove(index: &mut KeyIndex, letter: &'static [u8], rev: Rev) {
 #[derive(Clone, Copy)]
 enum Row {
     Put(&'static [u8], u64, u64),
-    Gone(&'static [u8], u64, u64),
     /// The last revision at a place.
     At(&'static [u8], u64, u64, Option<(u64, u64)>),
     /// The first revision after a place.
@@ -118,11 +131,7 @@ enum Row {
 fn is_so(index: &mut KeyIndex, row: Row) -> bool {
     match row {
         Row::Put(key, main, sub) => {
-            note(index, key, true, Rev { main, sub });
-            true
-        }
-        Row::Gone(key, main, sub) => {
-            note(index, key, false, Rev { main, sub });
+            note(index, key, Rev { main, sub });
             true
         }
         Row::At(key, main, sub, expected) => at(index, key, Rev { main, sub }) == expected,
@@ -158,7 +167,7 @@ static FILLED: [Row; 8] = [
     Row::Put(b"a", 2, 0),
     Row::Put(b"a", 3, 0),
     Row::Put(b"a", 3, 0),
-    Row::Gone(b"a", 4, 0),
+    Row::Put(b"a", 4, 0),
     Row::Put(b"b", 5, 0),
     Row::Put(b"b", 6, 0),
     Row::Put(b"a", 6, 1),

@@ -4,7 +4,7 @@ use crate::table::{Row, first_wrong_of_fresh};
 // 1,024 puts of one key, at the revisions from 2 to 1025, and one of another make 5 pages. A
 // compaction at the last one leaves the last put of each key: the one at the end of the fourth
 // page, and the one on the fifth.
-static PAGES: [Row; 14] = [
+static PAGES: [Row; 13] = [
     Row::PushBelow(1_027),
     Row::Len(1_025),
     Row::Pages(5),
@@ -18,10 +18,28 @@ static PAGES: [Row; 14] = [
     Row::Get(1_026, 0, Some((1_026, 0))),
     Row::Get(2, 0, None),
     Row::NextFrom(3, 0, Some((1_025, 0))),
-    Row::IsEmpty(false),
 ];
 
 #[test]
 fn fills_pages_and_frees_them(rt: HostRuntime) {
     assert_eq!(rt; first_wrong_of_fresh(rt.alloc(), PAGES.as_slice()), None);
+}
+
+// 600 changes of the last main revision stand on four pages; they go, and what is before them stays.
+static TAKEN_BACK: [Row; 7] = [
+    Row::PushBelow(202),
+    Row::PushOf(202, 600),
+    Row::Len(800),
+    Row::Pages(4),
+    Row::Retract(202),
+    Row::Len(200),
+    Row::Pages(1),
+];
+
+#[test]
+fn takes_back_what_stands_on_several_pages(rt: HostRuntime) {
+    assert_eq!(rt;
+        first_wrong_of_fresh(rt.alloc(), TAKEN_BACK.as_slice()),
+        None
+    );
 }

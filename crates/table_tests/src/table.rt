@@ -5,11 +5,13 @@ use kv_model::version::{Rev, Version};
 use std::alloc::Global;
 use version_table::{VersionTable, Versions};
 
-/// Adds a tombstone, where the table takes it.
+/// Adds a tombstone, where each version in the table is before it.
 fn push(table: &mut VersionTable, rev: Rev) {
-    let version = tombstone(rev.main, rev.sub, b"a");
-    if table.takes(version.rev) {
-        let _ = table.push(version);
+    match table.next_from(rev) {
+        Some(_) => {}
+        None => {
+            let _ = table.push(tombstone(rev.main, rev.sub, b"a"));
+        }
     }
 }
 
@@ -17,6 +19,13 @@ fn push(table: &mut VersionTable, rev: Rev) {
 fn push_below(table: &mut VersionTable, end: u64) {
     for main in 2..end {
         push(table, Rev { main, sub: 0 });
+    }
+}
+
+/// Adds so many tombstones of a main revision.
+fn push_of(table: &mut VersionTable, main: u64, count: u64) {
+    for sub in 0..count {
+        push(table, Rev { main, sub });
     }
 }
 
@@ -63,13 +72,13 @@ fn slices(walk: Versions<'_>) -> usize {
 pub(crate) enum Row {
     Push(u64, u64),
     PushBelow(u64),
+    /// So many changes of a main revision.
+    PushOf(u64, u64),
     Remove(u64, u64),
     RemoveBelow(u64),
-    Takes(u64, u64, bool),
+    Retract(u64),
     Get(u64, u64, Option<(u64, u64)>),
     NextFrom(u64, u64, Option<(u64, u64)>),
-    Newest(Option<(u64, u64)>),
-    IsEmpty(bool),
     /// How many versions there are.
     Len(usize),
     Pages(usize),
@@ -83,8 +92,10 @@ fn is_so(table: &mut VersionTable, row: Row) -> bool {
     match row {
         Row::Push(main, sub) => push(table, Rev { main, sub }),
         Row::PushBelow(end) => push_below(table, end),
+        Row::PushOf(main, count) => push_of(table, main, count),
         Row::Remove(main, sub) => table.remove(Rev { main, sub }),
         Row::RemoveBelow(end) => remove_below(table, end),
+        Row::Retract(main) => table.retract(main),
         _ => return is_told(table, row),
     }
     true
@@ -92,11 +103,8 @@ fn is_so(table: &mut VersionTable, row: Row) -> bool {
 
 fn is_told(table: &VersionTable, row: Row) -> bool {
     match row {
-        Row::Takes(main, sub, expected) => table.takes(Rev { main, sub }) == expected,
         Row::Get(main, sub, expected) => place(table.get(Rev { main, sub })) == expected,
         Row::NextFrom(main, sub, expected) => pair(table.next_from(Rev { main, sub })) == expected,
-        Row::Newest(expected) => place(table.newest()) == expected,
-        Row::IsEmpty(expected) => table.is_empty() == expected,
         Row::Len(expected) => table.len() == expected,
         Row::Pages(expected) => table.pages() == expected,
         Row::Walk(all, most) => {
@@ -126,8 +134,8 @@ pub(crate) fn first_wrong_of_fresh(alloc: Global, rows: &[Row]) -> Option<usize>
     wrong
 }
 
-static GROWN: [Row; 13] = [
-    Row::IsEmpty(true),
+static GROWN: [Row; 12] = [
+    Row::Len(0),
     Row::Push(2, 0),
     Row::Push(2, 0),
     Row::Push(3, 0),
@@ -135,11 +143,10 @@ static GROWN: [Row; 13] = [
     Row::Push(3, 1),
     Row::Push(5, 0),
     Row::Push(5, 1),
-    Row::IsEmpty(false),
-    Row::Takes(5, 2, true),
-    Row::Takes(5, 1, false),
     Row::Len(5),
-    Row::Newest(Some((5, 1))),
+    Row::NextFrom(5, 1, Some((5, 1))),
+    Row::NextFrom(5, 2, None),
+    Row::Pages(1),
 ];
 
 #[test]
@@ -186,13 +193,37 @@ static TAKEN_OUT: [Row; 15] = [
     Row::Remove(3, 1),
     Row::Remove(5, 0),
     Row::Remove(5, 1),
-    Row::IsEmpty(true),
+    Row::Len(0),
 ];
 
 #[test]
 fn takes_out(rt: HostRuntime) {
     assert_eq!(rt;
         first_wrong_of_fresh(rt.alloc(), TAKEN_OUT.as_slice()),
+        None
+    );
+}
+
+static TAKEN_BACK: [Row; 13] = [
+    Row::Push(2, 0),
+    Row::Push(3, 0),
+    Row::Push(3, 1),
+    Row::Push(5, 0),
+    Row::Push(5, 1),
+    Row::Push(5, 2),
+    Row::Retract(3),
+    Row::Retract(4),
+    Row::Len(6),
+    Row::Retract(5),
+    Row::Len(3),
+    Row::Retract(3),
+    Row::NextFrom(0, 0, Some((2, 0))),
+];
+
+#[test]
+fn takes_the_newest_main_revision_back(rt: HostRuntime) {
+    assert_eq!(rt;
+        first_wrong_of_fresh(rt.alloc(), TAKEN_BACK.as_slice()),
         None
     );
 }

@@ -47,13 +47,6 @@ impl Trimmer {
         }
     }
 
-    /// The first place in the history that trimming has not looked at.
-    pub fn place(&self) -> Rev
-        ensures { result ≡ self.now }
-    {
-        self.place
-    }
-
     /// Begins again at the oldest version, as after each compaction. Takes no memory.
     pub fn restart(&mut self)
         ensures { self.new ≡ oldest_place }

@@ -1,7 +1,10 @@
+pub mod Apart
 pub mod Elements
 pub mod Clashing
 pub mod Counting
 pub mod Making
+pub mod Models
+pub mod Present
 pub mod PutCounts
 pub mod Running
 pub mod StaticFaults

@@ -1,8 +1,7 @@
 -- What a transaction makes, in terms of the changes that the definitions plan.
-use Rattle.std.proofs.Common.{◌≡◌, ℕ, suc, ◌<◌, ◌≤◌, ◌^◌, ℤ, List, [], ◌∷◌, ◌++◌, length, map, filter, Bool, true, false, not, ◌&&◌, ◌||◌}
+use Rattle.std.proofs.Common.{◌≡◌, ℕ, suc, ℤ, List, [], ◌∷◌, ◌++◌, length, map, filter, Bool, true, false, not, ◌&&◌, ◌||◌}
 use Rattle.std.proofs.Common.{cond, Option, None, Some, refl, sym, ◌∙◌, ap, add-one, append_assoc, length-append}
 use Rattle.std.specs.Option.{option_or}
-use Rattle.std.specs.List.{AllByRecursion}
 use Rattle.std.specs.declared.cmp.Ordering.{Ordering}
 use Rattle.std.specs.declared.cmp.Ordering.TheVariants.{Less, Equal, Greater}
 use Rattle.std.specs.Ordering.{is_eq}
@@ -17,14 +16,13 @@ use Rattle.kv_model.specs.History.{Mutation, Action, KeyValue, deletes_key, is_p
 use Rattle.kv_model.specs.Ranges.{keys_of, live_now, revision_refusal}
 use Rattle.kv_model.specs.Txns.{Path, next_body, next_version, put_change, deletes_of}
 use Rattle.store_laws.specs.Plans.{is_deleted, still_live, planned, planned_refusal}
-use Rattle.kv_model.specs.History as history
-use Rattle.store_laws.proofs.PlaceLaws.{AreBy, value_at-by, rev_le-end}
+use Rattle.store_laws.proofs.PlaceLaws.{AreBy, value_at-by}
 use Rattle.store_laws.proofs.GoodLaws.{live_now-by}
 use Rattle.store_laws.proofs.KeyLaws.{IsAscending, AllAbove, cmp-refl}
 use Rattle.store_laws.proofs.HistoryLaws.{same_key-eq}
 use Rattle.store_laws.proofs.TouchLaws.{live_now-ascends}
 use Rattle.kv_model.specs.History.{is_tombstone}
-use Rattle.txn_core.specs.KeyWrites.{held_refusal, put_version, tombstone}
+use Rattle.txn_core.specs.KeyWrites.{held_refusal, put_version, tombstone, body_kept, as_kept}
 use Rattle.txn_core.specs.Planning.{buries, is_gone, with_grave, with_graves, made, refusal_of}
 
 -- ---- tombstones
@@ -54,17 +52,21 @@ cond-or false false = refl
 
 -- ---- the changes and their versions
 
-buries-next : (vs : List Version) (u : Mutation) (k : List ℕ) → buries k (next_version vs u) ≡ deletes_key k u
+-- the version of a change, as it is kept
+abbrev pub version_kept : List Version → Mutation → Version
+version_kept vs u = as_kept (next_version vs u)
+
+buries-next : (vs : List Version) (u : Mutation) (k : List ℕ) → buries k (version_kept vs u) ≡ deletes_key k u
 buries-next vs u k = by u.action (value_now vs u.key)
   where
-    by : (a : Action) (held : Option KeyValue) → (is_tombstone (next_body u.rev.main a held) && same_key u.key k)
+    by : (a : Action) (held : Option KeyValue) → (is_tombstone (body_kept (next_body u.rev.main a held)) && same_key u.key k)
         ≡ cond (is_put a) false (same_key u.key k)
     by (Action.put value lease) None = refl
     by (Action.put value lease) (Some kv) = refl
     by Action.delete None = refl
     by Action.delete (Some kv) = refl
 
-is_gone-next : (vs : List Version) (us : List Mutation) (k : List ℕ) → is_gone (map (next_version vs) us) k ≡ is_deleted us k
+is_gone-next : (vs : List Version) (us : List Mutation) (k : List ℕ) → is_gone (map (version_kept vs) us) k ≡ is_deleted us k
 is_gone-next vs [] k = refl
 is_gone-next vs (u ∷ us) k = λ i. buries-next vs u k i || is_gone-next vs us k i
 
@@ -97,8 +99,8 @@ still-above main us k (l ∷ ls) h =
     λ i. cond (not (same i)) (l ∷ still-above main us k ls h.1 i) (still-above main us k ls h.1 i)
 
 pub graves-planned : (vs : List Version) (main : ℕ) (us : List Mutation) (ks : List (List ℕ)) → IsAscending ks
-    → with_graves main (map (next_version vs) us) ks ≡ map (next_version vs) (us ++ deletes_of main (length us) (still us ks))
-graves-planned vs main us [] a = ap (map (next_version vs)) (sym (append-nil us))
+    → with_graves main (map (version_kept vs) us) ks ≡ map (version_kept vs) (us ++ deletes_of main (length us) (still us ks))
+graves-planned vs main us [] a = ap (map (version_kept vs)) (sym (append-nil us))
   where
     append-nil : (xs : List Mutation) → xs ++ [] ≡ xs
     append-nil [] = refl
@@ -107,56 +109,50 @@ graves-planned vs main us (k ∷ ks) a = by (is_deleted us k) refl (graves-plann
     (graves-planned vs main (us ++ grave_of main us k ∷ []) ks a.1)
   where
     ws : List Version
-    ws = map (next_version vs) us
+    ws = map (version_kept vs) us
 
     u : Mutation
     u = grave_of main us k
 
-    more : ws ++ tombstone main (length ws) k ∷ [] ≡ map (next_version vs) (us ++ u ∷ [])
-    more = ap (λ n. ws ++ tombstone main n k ∷ []) (length-map us (next_version vs)) ∙ sym (map-append (next_version vs) us (u ∷ []))
+    more : ws ++ tombstone main (length ws) k ∷ [] ≡ map (version_kept vs) (us ++ u ∷ [])
+    more = ap (λ n. ws ++ tombstone main n k ∷ []) (length-map us (version_kept vs)) ∙ sym (map-append (version_kept vs) us (u ∷ []))
 
     len : length (us ++ u ∷ []) ≡ suc (length us)
     len = length-append us (u ∷ []) ∙ add-one (length us)
 
     by : (b : Bool) → is_deleted us k ≡ b
-        → with_graves main ws ks ≡ map (next_version vs) (us ++ deletes_of main (length us) (still us ks))
-        → with_graves main (map (next_version vs) (us ++ u ∷ [])) ks
-        ≡ map (next_version vs) ((us ++ u ∷ []) ++ deletes_of main (length (us ++ u ∷ [])) (still (us ++ u ∷ []) ks))
-        → with_graves main (with_grave main ws k) ks ≡ map (next_version vs) (us ++ deletes_of main (length us) (still us (k ∷ ks)))
+        → with_graves main ws ks ≡ map (version_kept vs) (us ++ deletes_of main (length us) (still us ks))
+        → with_graves main (map (version_kept vs) (us ++ u ∷ [])) ks
+        ≡ map (version_kept vs) ((us ++ u ∷ []) ++ deletes_of main (length (us ++ u ∷ [])) (still (us ++ u ∷ []) ks))
+        → with_graves main (with_grave main ws k) ks ≡ map (version_kept vs) (us ++ deletes_of main (length us) (still us (k ∷ ks)))
     by true e same more_of =
         ap (λ b. with_graves main (cond b ws (ws ++ tombstone main (length ws) k ∷ [])) ks) (is_gone-next vs us k ∙ e)
         ∙ same
-        ∙ ap (λ b. map (next_version vs) (us ++ deletes_of main (length us) (cond (not b) (k ∷ still us ks) (still us ks)))) (sym e)
+        ∙ ap (λ b. map (version_kept vs) (us ++ deletes_of main (length us) (cond (not b) (k ∷ still us ks) (still us ks)))) (sym e)
     by false e same more_of =
         ap (λ b. with_graves main (cond b ws (ws ++ tombstone main (length ws) k ∷ [])) ks) (is_gone-next vs us k ∙ e)
         ∙ ap (λ xs. with_graves main xs ks) more
         ∙ more_of
-        ∙ (λ i. map (next_version vs) ((us ++ u ∷ []) ++ deletes_of main (len i) (still-above main us k ks a.0 i)))
-        ∙ ap (map (next_version vs)) (append_assoc us (u ∷ []) (deletes_of main (suc (length us)) (still us ks)))
-        ∙ ap (λ b. map (next_version vs) (us ++ deletes_of main (length us) (cond (not b) (k ∷ still us ks) (still us ks)))) (sym e)
-
--- no version is behind the end of the revision
-pub by-end : (r : ℕ) (vs : List Version) → AllByRecursion (λ v. v.rev.main ≤ r) vs → AllByRecursion (λ v. v.rev.sub < 2 ^ 64) vs
-    → AreBy (history.end_of r) vs
-by-end r [] h s = tt
-by-end r (v ∷ vs) h s = (rev_le-end v.rev r h.0 s.0, by-end r vs h.1 s.1)
+        ∙ (λ i. map (version_kept vs) ((us ++ u ∷ []) ++ deletes_of main (len i) (still-above main us k ks a.0 i)))
+        ∙ ap (map (version_kept vs)) (append_assoc us (u ∷ []) (deletes_of main (suc (length us)) (still us ks)))
+        ∙ ap (λ b. map (version_kept vs) (us ++ deletes_of main (length us) (cond (not b) (k ∷ still us ks) (still us ks)))) (sym e)
 
 -- ---- the versions that are made are those of the changes that are planned, where no version is behind the place
 
 pub made-planned : (vs : List Version) (p : Rev) (main : ℕ) (us : List Mutation) (q : Path) → AreBy p vs
-    → made vs p main (map (next_version vs) us) q ≡ map (next_version vs) (planned vs main us q)
+    → made vs p main (map (version_kept vs) us) q ≡ map (version_kept vs) (planned vs main us q)
 unfolding made planned
 made-planned vs p main us Path.end h = refl
 made-planned vs p main us (Path.range r rest) h = made-planned vs p main us rest h
 made-planned vs p main us (Path.put r rest) h =
     let u : Mutation = put_change vs main (length us) r in
-    let more : map (next_version vs) us ++ put_version (record { main = main; sub = length (map (next_version vs) us) }) r
-    (value_at vs p r.key) ∷ [] ≡ map (next_version vs) (us ++ u ∷ []) =
-    (λ i. map (next_version vs) us ++ put_version (record { main = main; sub = length-map us (next_version vs) i }) r
-    (value_at-by vs p r.key h i) ∷ []) ∙ sym (map-append (next_version vs) us (u ∷ [])) in
+    let more : map (version_kept vs) us ++ as_kept (put_version (record { main = main; sub = length (map (version_kept vs) us) }) r
+    (value_at vs p r.key)) ∷ [] ≡ map (version_kept vs) (us ++ u ∷ []) =
+    (λ i. map (version_kept vs) us ++ as_kept (put_version (record { main = main; sub = length-map us (version_kept vs) i }) r
+    (value_at-by vs p r.key h i)) ∷ []) ∙ sym (map-append (version_kept vs) us (u ∷ [])) in
     ap (λ ws. made vs p main ws rest) more ∙ made-planned vs p main (us ++ u ∷ []) rest h
 made-planned vs p main us (Path.delete d rest) h =
-    ap (λ kvs. made vs p main (with_graves main (map (next_version vs) us) (keys_of kvs)) rest) (sym (live_now-by vs p d.range h))
+    ap (λ kvs. made vs p main (with_graves main (map (version_kept vs) us) (keys_of kvs)) rest) (sym (live_now-by vs p d.range h))
     ∙ ap (λ ws. made vs p main ws rest) (graves-planned vs main us (keys_of (live_now vs d.range)) (live_now-ascends vs d.range))
     ∙ made-planned vs p main (us ++ deletes_of main (length us) (still_live vs us d.range)) rest h
 made-planned vs p main us (Path.txn b inner rest) h =

@@ -1,18 +1,15 @@
--- A key that a view shows can be put once more.
-use Rattle.std.proofs.Common.{ℕ, ◌≤◌, ◌&&◌, List, [], ◌∷◌, Bool, true, false, cond, Option, None, Some, option_and_then, arith}
+-- Counts of puts: those that 64 bits hold are kept as they are.
+use Rattle.std.proofs.Common.{◌≡◌, ℕ, ◌+◌, ◌-◌, ◌≤◌, ◌^◌, ℤ, List, [], ◌∷◌, Bool, true, false, cond, Option, None, Some, ap, arith}
 use Rattle.std.specs.Prelude.{MatchOption}
 use Rattle.std.specs.Option.{option_or}
 use Rattle.std.specs.List.{AllByRecursion}
-use Rattle.kv_model.specs.declared.version.Version.{Version}
-use Rattle.kv_model.specs.declared.version.Body.{Body}
-use Rattle.kv_model.specs.declared.version.Body.TheVariants.{Put, Gone}
+use Rattle.std.proofs.Math.Nat.{min-eq_left}
+use Rattle.kv_model.specs.declared.version.Rev.{Rev}
+use Rattle.kv_model.specs.declared.version.Body.TheVariants.{Put}
+use Rattle.kv_model.specs.declared.call.PutRequest.{PutRequest}
+use Rattle.kv_model.specs.History.{KeyValue}
 use Rattle.kv_model.specs.Lists.{last_that}
-use Rattle.kv_model.specs.Keys.{same_key}
-use Rattle.kv_model.specs.History.{key_value, shown, value_at, rev_le}
-use Rattle.kv_model.specs.Step.{last_main}
-use Rattle.range_view.specs.Stored.{Viewed}
-use Rattle.txn_core.specs.KeyWrites.{CanCount, IsCountedTo}
-use Rattle.txn_core.specs.Planning.{IsPresent}
+use Rattle.txn_core.specs.KeyWrites.{CanCount, as_kept, put_version}
 
 -- what holds of each element holds of the last that passes a test
 pub last_that-holds : {X : Type 0} (P : X → Type 0) (p : X → Bool) (xs : List X) → AllByRecursion P xs
@@ -25,17 +22,13 @@ last_that-holds {X} P p (x ∷ xs) h = by (last_that p xs) (p x) (last_that-hold
     by None false e = tt
     by (Some y) b e = e
 
-shown-counted : (r m : ℕ) (k : List ℕ) (b : Body) → r ≤ last_main → IsCountedTo r b → CanCount (shown m k b)
-shown-counted r m k (Put create version lease value) l h = omega arith
-shown-counted r m k Gone l h = tt
+count-kept : (rev : Rev) (k : List ℕ) (create n : ℕ) (lease : ℤ) (value : List ℕ) → n ≤ 2 ^ 64 - 1
+    → as_kept (record { rev = rev; key = k; body = Put create n lease value })
+    ≡ record { rev = rev; key = k; body = Put create n lease value }
+count-kept rev k create n lease value h = ap (λ m. record { rev = rev; key = k; body = Put create m lease value }) (min-eq_left h)
 
-found-counted : (r : ℕ) (o : Option Version) → r ≤ last_main → MatchOption o (Unit {0}) (λ v. IsCountedTo r v.body)
-    → CanCount (option_and_then key_value o)
-found-counted r None l h = tt
-found-counted r (Some v) l h = shown-counted r v.rev.main v.key v.body l h
-
-pub held-counted : (v : Viewed) (k : List ℕ) → IsPresent v → CanCount (value_at v.versions v.place k)
-unfolding value_at
-held-counted v k h = found-counted v.revision (last_that (λ (w : Version). same_key w.key k && rev_le w.rev v.place) v.versions) h.countable
-    (last_that-holds (λ (w : Version). IsCountedTo v.revision w.body)
-    (λ (w : Version). same_key w.key k && rev_le w.rev v.place) v.versions h.counted)
+-- what a put makes of a key that can be counted once more is kept as it is
+pub put-kept : (rev : Rev) (p : PutRequest) (held : Option KeyValue) → CanCount held
+    → as_kept (put_version rev p held) ≡ put_version rev p held
+put-kept rev p None h = count-kept rev p.key rev.main 1 _ _ (omega arith)
+put-kept rev p (Some kv) h = count-kept rev p.key kv.create (kv.version + 1) _ _ (omega (arith, h))

@@ -1,5 +1,5 @@
 -- What a put and a delete write at a key.
-use Rattle.std.specs.Prelude.{ℕ, ◌+◌, ◌<◌, ◌≤◌, ◌^◌, ℤ, List, Bool, ◌&&◌, ◌||◌, is_none, Option, MatchOption, ⊤}
+use Rattle.std.specs.Prelude.{ℕ, ◌+◌, ◌-◌, ◌<◌, ◌≤◌, ◌^◌, min, ℤ, List, Bool, ◌&&◌, ◌||◌, is_none, Option, MatchOption, ⊤}
 use Rattle.std.specs.Option.{option_or}
 use Rattle.kv_model.specs.declared.version.Rev.{Rev}
 use Rattle.kv_model.specs.declared.version.Version.{Version}
@@ -27,6 +27,21 @@ put_version rev p held = record { rev = rev; key = p.key; body = next_body rev.m
 
 abbrev pub tombstone : ℕ → ℕ → List ℕ → Version
 tombstone main sub k = record { rev = record { main = main; sub = sub }; key = k; body = Gone }
+
+-- ---- numbers of 64 bits
+
+-- the number after this one, and the greatest of 64 bits where there is none
+abbrev pub number_after : ℕ → ℕ
+number_after n = min (n + 1) (2 ^ 64 - 1)
+
+-- a body as it is kept: where 64 bits do not hold the count of its puts, the greatest number that they hold is in its place
+abbrev pub body_kept : Body → Body
+body_kept (Put create version lease value) = Put create (min version (2 ^ 64 - 1)) lease value
+body_kept Gone = Gone
+
+-- and the version of it
+abbrev pub as_kept : Version → Version
+as_kept v = record { rev = v.rev; key = v.key; body = body_kept v.body }
 
 -- ---- how often a key was put
 

@@ -1,21 +1,20 @@
 -- The versions that a transaction makes, and its first refusal, told from what is seen at a place before it.
-use Rattle.std.specs.Prelude.{◌≡◌, ℕ, ◌+◌, ◌≤◌, ℤ, List, [], ◌∷◌, ◌++◌, length, Bool, true, false, ◌&&◌, if◌then◌else◌}
+use Rattle.std.specs.Prelude.{◌≡◌, ℕ, ℤ, List, [], ◌∷◌, ◌++◌, length, filter, Bool, true, false, ◌&&◌, if◌then◌else◌}
 use Rattle.std.specs.Prelude.{Option, None, Some, MatchBool, ⊤}
 use Rattle.std.specs.Option.{option_or}
-use Rattle.std.specs.List.{list_any, AllByRecursion}
+use Rattle.std.specs.List.{list_any}
 use Rattle.kv_model.specs.declared.version.Rev.{Rev}
 use Rattle.kv_model.specs.declared.version.Version.{Version}
 use Rattle.kv_model.specs.declared.refusal.Refusal.{Refusal}
 use Rattle.kv_model.specs.declared.refusal.Refusal.TheVariants.{Memory}
 use Rattle.kv_model.specs.Keys.{same_key}
-use Rattle.kv_model.specs.History.{value_at, end_of, is_tombstone}
+use Rattle.kv_model.specs.History.{value_at, end_of, is_tombstone, rev_le}
 use Rattle.kv_model.specs.Ranges.{keys_of, live, revision_refusal}
-use Rattle.kv_model.specs.Step.{last_main}
 use Rattle.kv_model.specs.Txns.{Path, path_of}
 use Rattle.kv_model.specs.Calls.{Ops}
 use Rattle.kv_model.specs.Leases.{Lease, is_granted}
 use Rattle.range_view.specs.Stored.{Viewed}
-use Rattle.txn_core.specs.KeyWrites.{held_refusal, put_version, tombstone, IsCountedTo}
+use Rattle.txn_core.specs.KeyWrites.{held_refusal, put_version, tombstone, number_after, as_kept}
 
 -- ---- what is deleted so far
 
@@ -43,7 +42,7 @@ unfoldable pub made : List Version → Rev → ℕ → List Version → Path →
 made vs p main ws Path.end = ws
 made vs p main ws (Path.range q rest) = made vs p main ws rest
 made vs p main ws (Path.put r rest) = made vs p main
-    (ws ++ put_version (record { main = main; sub = length ws }) r (value_at vs p r.key) ∷ []) rest
+    (ws ++ as_kept (put_version (record { main = main; sub = length ws }) r (value_at vs p r.key)) ∷ []) rest
 made vs p main ws (Path.delete d rest) = made vs p main (with_graves main ws (keys_of (live vs p d.range))) rest
 made vs p main ws (Path.txn b inner rest) = made vs p main (made vs p main ws inner) rest
 
@@ -73,15 +72,17 @@ path_in v ops = path_of v.versions v.revision ops
 
 -- the versions that a path adds to those that are made already
 abbrev pub versions_made_in : Viewed → List Version → Path → List Version
-versions_made_in v ws q = made v.versions v.place (v.revision + 1) ws q
+versions_made_in v ws q = made v.versions v.place (number_after v.revision) ws q
 
 abbrev pub refusal_in : Viewed → List Lease → Path → Option Refusal
 refusal_in v ls q = refusal_of (is_granted ls) v.compacted v.revision v.versions v.place q
 
--- ---- what a transaction may be planned on
+-- the view is of the end of its revision
+abbrev pub IsPresent : Viewed → Type 0
+IsPresent v = v.place ≡ end_of v.revision
 
--- the view is of the end of its revision, one more can be counted, and so can one put more of each key
-pub record IsPresent (v : Viewed) : Type 0 where
-  pub present : v.place ≡ end_of v.revision
-  pub countable : v.revision ≤ last_main
-  pub counted : AllByRecursion (λ w. IsCountedTo v.revision w.body) v.versions
+-- ---- what a transaction is planned on
+
+-- the versions that stand at the end of the view's revision: all, where it is the present one
+abbrev pub present : Viewed → List Version
+present v = filter (λ w. rev_le w.rev (end_of v.revision)) v.versions

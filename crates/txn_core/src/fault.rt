@@ -29,7 +29,7 @@ const MOST_OPERATIONS: usize = 128;
 /// not looked for here.
 ///
 /// Linear in the number of compares and operations. Takes no memory.
-pub fn walk_fault(txn: &Txn) -> Option<Refusal>
+pub(crate) fn walk_fault(txn: &Txn) -> Option<Refusal>
     ensures { result ≡ txns.walk_fault 0 (txn_view txn.now) }
 {
     txn_fault(txn, 0)

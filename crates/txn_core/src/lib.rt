@@ -43,7 +43,6 @@ mod touched;
 pub use checking::check;
 pub use clash::{opposite_branches_do_not_clash, puts_are_alone};
 pub use delete::tombstone;
-pub use fault::walk_fault;
 pub use planning::plan;
 pub use put::{held_refusal, put_fault, put_version};
 pub use reply::replies;

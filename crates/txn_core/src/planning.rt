@@ -1,24 +1,21 @@
 //! What a transaction does, decided on the state before it (etcd: the apply of a TxnRequest).
-ghost use Rattle.std.specs.Prelude.{◌≡◌, ◌⊎◌, ◌+◌, ◌<◌, ◌≤◌, ◌^◌, ◌∷◌, ◌++◌, [], length, map, None};
-ghost use Rattle.std.specs.Prelude.{Some, IfOk, IfErr, OnOk};
-ghost use Rattle.std.specs.List.{AllByRecursion};
+ghost use Rattle.std.specs.Prelude.{◌≡◌, ◌⊎◌, ◌∷◌, ◌++◌, [], length, map, None, Some};
+ghost use Rattle.std.specs.Prelude.{IfOk, IfErr, OnOk};
 ghost use Rattle.kv_model.specs.Calls.{Ops, then};
 ghost use Rattle.kv_model.specs.Commands.{op_view, ops_view, txn_view};
 ghost use Rattle.kv_model.specs.History as history;
 ghost use Rattle.kv_model.specs.Leases.{is_granted};
 ghost use Rattle.kv_model.specs.Ranges as ranges;
-ghost use Rattle.store_laws.specs.Plans.{planned, planned_refusal};
-ghost use Rattle.kv_model.specs.Step.{last_main};
-ghost use Rattle.kv_model.specs.Txns.{Path, path_of, next_version};
-ghost use Rattle.range_view.specs.Stored.{IsUpTo};
-ghost use Rattle.txn_core.specs.KeyWrites.{IsCountedTo};
+ghost use Rattle.kv_model.specs.Txns.{Path, path_of, static_fault, run_refusal, effect, added_by};
+ghost use Rattle.txn_core.specs.KeyWrites.{number_after, as_kept};
 ghost use Rattle.txn_core.specs.KeyWrites as writes;
+ghost use Rattle.txn_core.specs.Planning.{present};
 ghost use Rattle.txn_core.specs.Planning as planning;
 ghost use Rattle.txn_core.specs.Steps.{step_view, steps_view};
 
 use crate::changes::Changes;
 use crate::compare::all_hold;
-use crate::put::{held_refusal, put_version};
+use crate::put::{held_refusal, number_after, version_put};
 use crate::step::{Plan, Step};
 use kv_model::call::{DeleteRequest, Operation, PutRequest, RangeQuery, Txn};
 use kv_model::refusal::Refusal;
@@ -34,15 +31,20 @@ struct Branch<'t> {
     steps: Vec<Step<'t>>,
 }
 
-/// What a transaction does at the revision after the view's, decided on the view alone: which
-/// branches run, and the versions that their operations make, numbered in the order of the
-/// document. A key that several deletes take is deleted by the first. The caller has checked that
-/// no two operations change one key in another way.
+/// What a transaction does at the revision after the view's, decided on the end of the view's
+/// revision alone, whatever place the view is of: which branches run, and the versions that their
+/// operations make, numbered in the order of the document. The branches are right for every
+/// transaction; the versions and the refusals for one that `check` allows, in which no two
+/// operations change one key but that deletes may meet: a key that several take is deleted by the
+/// first.
 ///
 /// The first refusal of the operations that run, in their order, is answered: `Compacted` or
 /// `Future` of a Range whose own revision is not kept or not there, `KeyMissing` of a put that
 /// keeps what is not there, `LeaseMissing` of one that names a lease that is not granted. `Memory`
 /// comes where there is none for the steps, the versions or what a range holds.
+///
+/// A revision or a count of puts that 64 bits do not hold is given as the greatest number that they
+/// hold. No store comes to either, whose revisions end at 2^63 - 1.
 ///
 /// Each compare and each delete walks the keys of its range, up to the first compare of a
 /// transaction that does not hold; each key that is put or deleted takes time logarithmic in the
@@ -54,25 +56,47 @@ pub fn plan<'t>(
     txn: &'t Txn,
     leases: &LeaseBook,
 ) -> Result<Plan<'t>, Refusal>
-    requires at { view.now.place ≡ history.end_of view.now.revision }
-    requires upto { IsUpTo view.now.revision view.now.versions }
-    requires places { AllByRecursion (λ v. v.rev.sub < 2 ^ 64) view.now.versions }
-    requires fits { view.now.revision ≤ last_main }
-    requires counted { AllByRecursion (λ v.
-        IsCountedTo view.now.revision v.body) view.now.versions }
     ensures path { IfOk result (λ p. Path.txn p.succeeded (steps_view p.steps.items) Path.end
-        ≡ path_of view.now.versions view.now.revision (txn_view txn.now)) }
-    ensures clear { OnOk result
-        (planned_refusal
-        (is_granted leases.now.leases) view.now.compacted view.now.revision view.now.versions
-        (path_of view.now.versions view.now.revision (txn_view txn.now)) ≡ None) }
-    ensures versions { IfOk result (λ p. p.versions.items ≡ map (next_version view.now.versions)
-        (planned view.now.versions (view.now.revision + 1) []
-        (path_of view.now.versions view.now.revision (txn_view txn.now)))) }
-    ensures refused { IfErr result (λ e. (e ≡ Refusal.Memory)
-        ⊎ (planned_refusal
-        (is_granted leases.now.leases) view.now.compacted view.now.revision view.now.versions
-        (path_of view.now.versions view.now.revision (txn_view txn.now)) ≡ Some e)) }
+        ≡ path_of (present view.now) view.now.revision (txn_view txn.now)) }
+    ensures clear { OnOk result (static_fault (txn_view txn.now) ≡ None
+        → run_refusal (is_granted leases.now.leases) view.now.compacted view.now.revision
+        (present view.now) 0
+        (path_of (present view.now) view.now.revision (txn_view txn.now)) ≡ None) }
+    ensures versions { IfOk result (λ p. static_fault (txn_view txn.now) ≡ None
+        → p.versions.items ≡ map as_kept (added_by (present view.now)
+        (effect (present view.now) (number_after view.now.revision) 0
+        (path_of (present view.now) view.now.revision (txn_view txn.now))))) }
+    ensures refused { IfErr result (λ e. static_fault (txn_view txn.now) ≡ None
+        → (e ≡ Refusal.Memory)
+        ⊎ (run_refusal (is_granted leases.now.leases) view.now.compacted view.now.revision
+        (present view.now) 0
+        (path_of (present view.now) view.now.revision (txn_view txn.now)) ≡ Some e)) }
+{
+    let view = view.at_end();
+    match plan_at(alloc, &view, txn, leases) {
+        Ok(plan) => Ok(plan),
+        Err(refusal) => Err(refusal),
+    }
+}
+
+/// What a transaction does at the revision after that of a view of its end.
+fn plan_at<'t>(
+    alloc: Global,
+    view: &View<'_>,
+    txn: &'t Txn,
+    leases: &LeaseBook,
+) -> Result<Plan<'t>, Refusal>
+    requires { planning.IsPresent view.now }
+    ensures path { IfOk result (λ p. Path.txn p.succeeded (steps_view p.steps.items) Path.end
+        ≡ planning.path_in view.now (txn_view txn.now)) }
+    ensures made { IfOk result (λ p. p.versions.items
+        ≡ planning.versions_made_in view.now [] (planning.path_in view.now (txn_view txn.now))) }
+    ensures fine { OnOk result (planning.refusal_in view.now leases.now.leases
+        (planning.path_in view.now (txn_view txn.now)) ≡ None) }
+    ensures refused { IfErr result (λ e.
+        planning.IsRefusal e
+        (planning.refusal_in view.now leases.now.leases
+        (planning.path_in view.now (txn_view txn.now)))) }
 {
     let mut changes = Changes::new(alloc);
     match run_txn(alloc, view, leases, &mut changes, txn) {
@@ -221,11 +245,10 @@ fn run_put<'a>(
     changes: &mut Changes<'a>,
     request: &PutRequest,
 ) -> Result<(), Refusal>
-    requires { planning.IsPresent view.now }
     ensures made { OnOk result (changes.new ≡ changes.old
-        ++ writes.put_version
-        (record { main = view.now.revision + 1; sub = length changes.old }) request.now
-        (history.value_at view.now.versions view.now.place request.now.key) ∷ []) }
+        ++ as_kept (writes.put_version
+        (record { main = number_after view.now.revision; sub = length changes.old }) request.now
+        (history.value_at view.now.versions view.now.place request.now.key)) ∷ []) }
     ensures fine { OnOk result
         (writes.held_refusal (is_granted leases.now.leases) request.now
         (history.value_at view.now.versions view.now.place request.now.key) ≡ None) }
@@ -237,8 +260,8 @@ fn run_put<'a>(
     if let Some(refusal) = held_refusal(request, held, leases.is_granted(request.lease)) {
         return Err(refusal);
     }
-    let rev = changes.next_rev(view.revision() + 1);
-    match put_version(alloc, rev, request, held) {
+    let rev = changes.next_rev(number_after(view.revision()));
+    match version_put(alloc, rev, request, held) {
         Ok(version) => match changes.push(version) {
             Ok(()) => Ok(()),
             Err(_) => Err(Refusal::Memory),
@@ -255,10 +278,9 @@ fn run_delete<'a>(
     changes: &mut Changes<'a>,
     request: &DeleteRequest,
 ) -> Result<(), AllocError>
-    requires { planning.IsPresent view.now }
-    ensures { OnOk result (changes.new ≡ planning.with_graves (view.now.revision + 1) changes.old
+    ensures { OnOk result (changes.new ≡ planning.with_graves (number_after view.now.revision) changes.old
         (ranges.keys_of (ranges.live view.now.versions view.now.place request.now.range))) }
 {
     let live = view.live(alloc, &request.range)?;
-    changes.delete(view.revision() + 1, &live)
+    changes.delete(number_after(view.revision()), &live)
 }

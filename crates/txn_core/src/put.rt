@@ -68,6 +68,23 @@ pub fn put_version(
     ensures { IfOk result (λ v. v
         ≡ writes.put_version rev request.now (option_map kv_view held.entry)) }
 {
+    match version_put(alloc, rev, request, held) {
+        Ok(version) => Ok(version),
+        Err(error) => Err(error),
+    }
+}
+
+/// The same, where the count of the key's puts may be the greatest number of 64 bits: then it stays
+/// that.
+pub(crate) fn version_put(
+    alloc: Global,
+    rev: Rev,
+    request: &PutRequest,
+    held: Option<KvRef<'_>>,
+) -> Result<Version, AllocError>
+    ensures { IfOk result (λ v. v
+        ≡ writes.as_kept (writes.put_version rev request.now (option_map kv_view held.entry))) }
+{
     let body = match held {
         Some(kv) => body_after(alloc, request, kv)?,
         None => first_body(rev.main, request)?,
@@ -79,16 +96,23 @@ pub fn put_version(
     })
 }
 
+/// The number after one, and the greatest where there is none.
+pub(crate) fn number_after(number: u64) -> u64
+    ensures { result ≡ writes.number_after number }
+{
+    number.saturating_add(1)
+}
+
 /// What a put makes of a key that holds something.
 fn body_after(alloc: Global, request: &PutRequest, kv: KvRef<'_>) -> Result<Body, AllocError>
-    requires { writes.CanCount (Some (kv_view kv)) }
     ensures { IfOk result (λ b. b
-        ≡ txns.next_body kv.entry.modified (txns.put_action request.now (Some (kv_view kv.entry)))
-        (Some (kv_view kv.entry))) }
+        ≡ writes.body_kept
+        (txns.next_body kv.entry.modified (txns.put_action request.now (Some (kv_view kv.entry)))
+        (Some (kv_view kv.entry)))) }
 {
     Ok(Body::Put {
         create: kv.create,
-        version: kv.version + 1,
+        version: number_after(kv.version),
         lease: if request.ignore_lease {
             kv.lease
         } else {

@@ -1,5 +1,6 @@
 pub mod Rising
 pub mod Changes
+pub mod Retracting
 pub mod PageLookups
 pub mod PageChanges
 pub mod PageParts

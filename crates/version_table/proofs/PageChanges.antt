@@ -1,6 +1,6 @@
 -- What a change of one page makes of the versions of all.
 use Rattle.std.proofs.Common.{◌≡◌, ℕ, zero, suc, ◌+◌, ◌-◌, ◌<◌, ◌≤◌, List, [], ◌∷◌, ◌++◌, length, get_or, set, Bool, true, false}
-use Rattle.std.proofs.Common.{not, cond, IsTrue, ◌↔◌, Some, filter, refl, sym, ◌∙◌, ap, append_assoc}
+use Rattle.std.proofs.Common.{not, cond, IsTrue, ◌↔◌, Some, filter, refl, sym, ◌∙◌, ap, subst, append_assoc}
 use Rattle.std.proofs.Common.{Result, Ok, Err, OnOk, arith, length-append}
 use Rattle.std.proofs.lemmas.List.{append-nil, length_push}
 use Rattle.std.proofs.lemmas.List.Elements.{filter-append}
@@ -15,9 +15,9 @@ use Rattle.kv_model.specs.declared.version.Version.{Version}
 use Rattle.kv_model.specs.History.{is_at, without_rev}
 use Rattle.store_laws.proofs.PlaceLaws.{each-append}
 use Rattle.store_laws.proofs.RevOrder.{is_rev-before}
-use Rattle.store_laws.proofs.Rising.{others-above, slice_get-newest}
+use Rattle.store_laws.proofs.Rising.{newest-cons, others-above, slice_get-newest}
 use Rattle.version_table.specs.Rising.{IsBehind, IsRising, newest, rev_of}
-use Rattle.version_table.specs.Paged.{Places, HaveVersions, change_at, flat, freed, fresh, has_room, is_past, is_void, pages_before}
+use Rattle.version_table.specs.Paged.{Places, Fit, HaveVersions, change_at, flat, freed, fresh, has_room, is_past, is_void, pages_before}
 use Rattle.version_table.specs.Paged.{pushed, room_in, used_in, versions_in, with_version, without_version}
 use Rattle.version_table.proofs.PageLookups.{parted, past-behind, unpast-above}
 
@@ -92,6 +92,34 @@ held-freed f (suc i) (p ∷ ps) h = by (is_void (slice_get (change_at f i ps) i)
         → HaveVersions (cond b (remove (p ∷ change_at f i ps) (suc i)) (p ∷ change_at f i ps))
     by true rest = (h.0, rest)
     by false rest = (h.0, rest)
+
+-- a page that fits still does with fewer versions
+fit-freed : (f : Places → Places) (i : ℕ) (ps : List Places)
+    → ((p : Places) → (length p.versions ≤ p.used) × (p.used ≤ 256) → (length (versions_in (f p)) ≤ used_in (f p)) × (used_in (f p) ≤ 256))
+    → Fit ps → Fit (freed i (change_at f i ps))
+fit-freed f i [] g h = tt
+fit-freed f zero (p ∷ ps) g h = by (is_empty (versions_in (f p)))
+  where
+    by : (b : Bool) → Fit (cond b (remove (f p ∷ ps) zero) (f p ∷ ps))
+    by true = h.1
+    by false = (g p h.0, h.1)
+fit-freed f (suc i) (p ∷ ps) g h = by (is_void (slice_get (change_at f i ps) i)) (fit-freed f i ps g h.1)
+  where
+    by : (b : Bool) → Fit (cond b (remove (change_at f i ps) i) (change_at f i ps))
+        → Fit (cond b (remove (p ∷ change_at f i ps) (suc i)) (p ∷ change_at f i ps))
+    by true rest = (h.0, rest)
+    by false rest = (h.0, rest)
+
+shorter : (t : Version → Bool) (vs : List Version) → length (filter t vs) ≤ length vs
+shorter t [] = omega arith
+shorter t (v ∷ vs) = let rest : length (filter t vs) ≤ length vs = shorter t vs in by (t v) rest
+  where
+    by : (b : Bool) → length (filter t vs) ≤ length vs → length (cond b (v ∷ filter t vs) (filter t vs)) ≤ suc (length vs)
+    by true h = omega arith
+    by false h = omega arith
+
+pub fit-without : (r : Rev) (i : ℕ) (ps : List Places) → Fit ps → Fit (freed i (change_at (without_version r) i ps))
+fit-without r i ps h = fit-freed (without_version r) i ps (λ p g. (omega (arith, g.0, shorter (λ v. not (is_at r v)) p.versions), g.1)) h
 
 -- ---- a version is taken out
 
@@ -173,3 +201,24 @@ held-pushed v ps h = by (has_room ps)
     by : (b : Bool) → HaveVersions (cond b (change_at (with_version v) (length ps - 1) ps) (ps ++ fresh v ∷ []))
     by true = held-grown v (length ps - 1) ps h
     by false = each-append (λ (p : Places). 0 < length p.versions) ps (fresh v ∷ []) h (omega arith, tt)
+
+fit-grown : (v : Version) (p : Places) (ps : List Places) → room_in (newest (p ∷ ps)) ≡ true → Fit (p ∷ ps)
+    → Fit (change_at (with_version v) (length ps) (p ∷ ps))
+fit-grown v p [] e h =
+    let less : p.used < 256 = room-number p.used e in
+    ((omega (arith, h.0.0, length_push p.versions v), omega arith), tt)
+fit-grown v p (q ∷ qs) e h = (h.0, fit-grown v q qs (ap room_in (newest-cons p q qs) ∙ e) h.1)
+
+fit-last : (v : Version) (ps : List Places) → has_room ps ≡ true → Fit ps → Fit (change_at (with_version v) (length ps - 1) ps)
+fit-last v [] e h = tt
+fit-last v (p ∷ ps) e h =
+    let same : length ps ≡ suc (length ps) - 1 = omega arith in
+    subst (λ i. Fit (change_at (with_version v) i (p ∷ ps))) same (fit-grown v p ps e h)
+
+pub fit-pushed : (v : Version) (ps : List Places) → Fit ps → Fit (pushed v ps)
+fit-pushed v ps h = by (has_room ps) refl
+  where
+    by : (b : Bool) → has_room ps ≡ b → Fit (cond b (change_at (with_version v) (length ps - 1) ps) (ps ++ fresh v ∷ []))
+    by true e = fit-last v ps e h
+    by false e =
+        each-append (λ (p : Places). (length p.versions ≤ p.used) × (p.used ≤ 256)) ps (fresh v ∷ []) h ((omega arith, omega arith), tt)

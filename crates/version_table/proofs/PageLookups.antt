@@ -1,5 +1,5 @@
 -- In which page of rising pages a place is looked for.
-use Rattle.std.proofs.Common.{◌≡◌, ℕ, zero, suc, ◌<◌, ◌≤◌, List, [], ◌∷◌, ◌++◌, length, get_or, drop, Bool, true, false, not, cond}
+use Rattle.std.proofs.Common.{◌≡◌, ℕ, zero, suc, ◌<◌, ◌≤◌, ◌*◌, List, [], ◌∷◌, ◌++◌, length, length-append, get_or, drop, Bool, true, false, not, cond}
 use Rattle.std.proofs.Common.{Option, None, Some, filter, find, refl, sym, ◌∙◌, ap, subst, arith}
 use Rattle.std.proofs.lemmas.List.{append-nil}
 use Rattle.std.proofs.lemmas.List.Elements.{filter-append}
@@ -15,7 +15,7 @@ use Rattle.store_laws.proofs.PlaceLaws.{each-map}
 use Rattle.store_laws.proofs.RevOrder.{rev_lt-trans, rev_lt-turn, is_rev-same, is_rev-before}
 use Rattle.store_laws.proofs.Rising.{newest-cons, newest-none, newest-behind, behind-newest, behind-none, each-at}
 use Rattle.version_table.specs.Rising.{IsBehind, IsRising, count_before, newest, rev_of}
-use Rattle.version_table.specs.Paged.{Places, HaveVersions, ends_before, flat, is_past, pages_before, versions_in}
+use Rattle.version_table.specs.Paged.{Places, Fit, HaveVersions, ends_before, flat, is_past, pages_before, versions_in}
 use Rattle.version_table.proofs.Rising.{IsAbove, above-not, none-above}
 use Rattle.store_laws.proofs.HistoryLaws.{option_or-none, option_or-assoc}
 
@@ -325,3 +325,10 @@ pages-fit (p ∷ ps) h = let rest : length ps ≤ length (flat ps) = pages-fit p
         longer : (us : List Version) → length (flat ps) ≤ length (us ++ flat ps)
         longer [] = omega arith
         longer (u ∷ us) = let m : length (flat ps) ≤ length (us ++ flat ps) = longer us in omega arith
+
+-- and no fewer than the versions fill
+pub pages-filled : (ps : List Places) → Fit ps → length (flat ps) ≤ 256 * length ps
+pages-filled [] h = omega arith
+pages-filled (p ∷ ps) h =
+    let rest : length (flat ps) ≤ 256 * length ps = pages-filled ps h.1 in
+    omega (arith, rest, h.0.0, h.0.1, length-append p.versions (flat ps))

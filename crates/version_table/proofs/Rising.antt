@@ -8,7 +8,7 @@ use Rattle.kv_model.specs.History.{rev_lt, is_at}
 use Rattle.store_laws.proofs.PlaceLaws.{each-map}
 use Rattle.store_laws.proofs.RevOrder.{rev_lt-main, rev_lt-not, is_rev-same, is_rev-before, is_rev-behind}
 use Rattle.store_laws.proofs.Rising as rising
-use Rattle.version_table.specs.Rising.{IsRising, count_before, newest, rev_of}
+use Rattle.version_table.specs.Rising.{IsBehind, IsRising, count_before, newest, rev_of}
 
 abbrev pub IsAbove : Rev → List Version → Type 0
 IsAbove p vs = rising.IsAbove rev_of p vs
@@ -125,3 +125,14 @@ up_to-newest main (v ∷ w ∷ ws) l r e h =
     let least : v.rev.main ≤ w.rev.main = rev_lt-main v.rev w.rev r.0.0 in
     let next : w.rev.main ≤ main = rest.0 in
     (omega arith, rest)
+
+-- ---- no version from a place on
+
+pub behind-none_from : (p : Rev) (vs : List Version) → find (λ v. not (rev_lt v.rev p)) vs ≡ None → IsBehind p vs
+behind-none_from p [] e = tt
+behind-none_from p (v ∷ vs) e = by (rev_lt v.rev p) refl e (behind-none_from p vs)
+  where
+    by : (b : Bool) → rev_lt v.rev p ≡ b → cond (not b) (Some v) (find (λ w. not (rev_lt w.rev p)) vs) ≡ None
+        → (find (λ w. not (rev_lt w.rev p)) vs ≡ None → IsBehind p vs) → IsBehind p (v ∷ vs)
+    by true f g rest = (f, rest g)
+    by false f g rest = cc

@@ -1,5 +1,5 @@
 -- Versions in pages: each page has 256 places, filled one after another.
-use Rattle.std.specs.Prelude.{◌≡◌, ℕ, suc, zero, ◌<◌, ◌+◌, ◌-◌, List, [], ◌∷◌, ◌++◌, Bool, true, false}
+use Rattle.std.specs.Prelude.{◌≡◌, ℕ, suc, zero, ◌<◌, ◌≤◌, ◌+◌, ◌-◌, List, [], ◌∷◌, ◌++◌, Bool, true, false}
 use Rattle.std.specs.Prelude.{Option, None, Some, if◌then◌else◌, length, nat_lt}
 use Rattle.std.specs.List.{AllByRecursion, flat_map, slice_get, remove}
 use Rattle.kv_model.specs.Lists.{is_empty, last_that}
@@ -29,10 +29,15 @@ flat ps = flat_map versions_in ps
 abbrev pub HaveVersions : List Places → Type 0
 HaveVersions ps = AllByRecursion (λ (p : Places). 0 < length p.versions) ps
 
+-- each page has no more versions than places that were ever used, and no more of these than 256
+abbrev pub Fit : List Places → Type 0
+Fit ps = AllByRecursion (λ (p : Places). (length p.versions ≤ p.used) × (p.used ≤ 256)) ps
+
 -- the pages of a table, and the number of their versions
 pub record ArePages (ps : List Places) (n : ℕ) : Type 0 where
   pub rising : IsRising (flat ps)
   pub held : HaveVersions ps
+  pub fit : Fit ps
   pub counted : n ≡ length (flat ps)
 
 -- the last version, if there is one, stands before a place

@@ -2,7 +2,7 @@
 ghost use Rattle.std.specs.Prelude.{◌≡◌, ◌+◌, ◌<◌, length, true, Some, OnOk, OnErr};
 ghost use Rattle.std.specs.List.{slice_get};
 ghost use Rattle.kv_model.specs.History.{without_rev};
-ghost use Rattle.version_table.specs.Paged.{HaveVersions, change_at, flat, freed, has_room};
+ghost use Rattle.version_table.specs.Paged.{Fit, HaveVersions, change_at, flat, freed, has_room};
 ghost use Rattle.version_table.specs.Paged.{is_void, pushed, without_version};
 ghost use Rattle.version_table.specs.Rising.{IsRising};
 
@@ -78,8 +78,10 @@ fn free(pages: &mut Vec<Page>, index: usize)
 pub(crate) fn remove(pages: &mut Vec<Page>, rev: Rev) -> usize
     requires rising { IsRising (flat pages.old.items) }
     requires held { HaveVersions pages.old.items }
+    requires fit { Fit pages.old.items }
     ensures value { flat pages.new.items ≡ without_rev (Some rev) (flat pages.old.items) }
     ensures held { HaveVersions pages.new.items }
+    ensures fit { Fit pages.new.items }
     ensures count { result + length (flat pages.new.items) ≡ length (flat pages.old.items) }
 {
     let index = pages_before(pages, rev);

@@ -12,12 +12,13 @@
 //!
 //! ```text
 //! push 2.0, 3.0, 3.1, 5.0, 6.0, 7.0   [2.0 3.0 3.1 5.0] [6.0 7.0]    each is above those before it
-//! takes 7.0                           no: 7.0 is not above itself; 7.1 and 8.0 are
 //! get 3.1                             its page is found by galloping, and its place by halving
 //! next_from 4.0                       5.0, the first revision that is not before 4.0
 //! remove 3.0                          [2.0 3.1 5.0] [6.0 7.0]: its place is not used again
 //! next_from 5.1                       6.0: the last version of the first page is before 5.1
-//! remove 2.0, 3.1, 5.0                [6.0 7.0]
+//! retract 6                           nothing goes: 7 is newer
+//! retract 7                           [2.0 3.1 5.0] [6.0]
+//! remove 2.0, 3.1, 5.0                [6.0]
 //! ```
 //!
 //! The tests stand in the crate `table_tests`, in `src/table.rt` and `src/pages.rt`.

@@ -1,12 +1,11 @@
 //! A table of versions in pages, rising by revision (etcd: data model): what is taken out moves no
 //! version but those on its own page.
-ghost use Rattle.std.specs.Prelude.{◌≡◌, ◌↔◌, ◌≤◌, [], ◌∷◌, ◌++◌, length, filter, not, option_map};
-ghost use Rattle.std.specs.Prelude.{option_copied, OnOk, OnErr, IsTrue, Some};
+ghost use Rattle.std.specs.Prelude.{◌≡◌, ◌≤◌, ◌<◌, ◌*◌, [], ◌∷◌, ◌++◌, length, filter, not, option_map};
+ghost use Rattle.std.specs.Prelude.{option_copied, OnOk, OnErr, Some, true, false};
 ghost use Rattle.std.specs.List.{find};
 ghost use Rattle.kv_model.specs.History.{rev_lt, is_at, without_rev};
-ghost use Rattle.version_table.specs.Rising.{IsBehind, IsRising, newest};
+ghost use Rattle.version_table.specs.Rising.{IsBehind, IsRising, is_newest, newest, retracted};
 
-use crate::halving::is_before;
 use crate::page::Page;
 use crate::walk::Versions;
 use crate::{growth, pages};
@@ -53,38 +52,13 @@ impl VersionTable {
         self.len
     }
 
-    /// Whether there is no version. Constant time.
-    pub fn is_empty(&self) -> bool
-        ensures { IsTrue result ↔ (self.now ≡ []) }
-    {
-        self.len == 0
-    }
-
     /// The number of pages: never more than there are versions, since one without versions is
-    /// freed. Constant time.
+    /// freed, and never fewer than the versions fill, 256 to a page. Constant time.
     pub fn pages(&self) -> usize
-        ensures { result ≤ length self.now }
+        ensures most { result ≤ length self.now }
+        ensures least { length self.now ≤ 256 * result }
     {
         self.pages.len()
-    }
-
-    /// Whether `push` takes a version at this revision: it is above each one in the table. Constant
-    /// time.
-    pub fn takes(&self, rev: Rev) -> bool
-        ensures { IsTrue result ↔ IsBehind rev self.now }
-    {
-        match self.newest() {
-            Some(newest) => is_before(newest.rev, rev),
-            None => true,
-        }
-    }
-
-    /// The last version. Constant time.
-    pub fn newest(&self) -> Option<&Version>
-        ensures value { option_copied result ≡ newest self.now }
-        ensures rising { IsRising self.now }
-    {
-        pages::newest(&self.pages)
     }
 
     /// Adds a version at the end. Its revision is above each one in the table.
@@ -154,5 +128,40 @@ impl VersionTable {
     {
         let gone = growth::remove(&mut self.pages, rev);
         self.len -= gone;
+    }
+
+    /// Takes a main revision back where it is the newest: all versions of it go, and of any other
+    /// none. Takes no memory.
+    ///
+    /// The time is logarithmic in the number of versions for each of those that go.
+    pub fn retract(&mut self, main: u64)
+        ensures { self.new ≡ retracted main self.old }
+    {
+        'taking: while self.take_last(main) {}
+    }
+
+    /// Takes out the last version where it is of a main revision. Tells whether it was.
+    fn take_last(&mut self, main: u64) -> bool
+        ensures taken { result ≡ true → retracted main self.new ≡ retracted main self.old }
+        ensures fewer { result ≡ true → length self.new < length self.old }
+        ensures left { result ≡ false → (self.new ≡ self.old)
+            × (is_newest main self.old ≡ false) }
+    {
+        match self.newest() {
+            Some(version) if version.rev.main == main => {
+                let last = version.rev;
+                self.remove(last);
+                true
+            }
+            _ => false,
+        }
+    }
+
+    /// The last version. Constant time.
+    fn newest(&self) -> Option<&Version>
+        ensures value { option_copied result ≡ newest self.now }
+        ensures rising { IsRising self.now }
+    {
+        pages::newest(&self.pages)
     }
 }

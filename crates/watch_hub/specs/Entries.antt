@@ -1,6 +1,6 @@
 -- Watches at the places of a slab, by number.
-use Rattle.std.specs.Prelude.{◌≡◌, ℕ, suc, ◌<◌, ◌≤◌, pos, List, [], ◌∷◌, length, map, Bool, false, ◌==◌, Option, None}
-use Rattle.std.specs.Prelude.{Some}
+use Rattle.std.specs.Prelude.{◌≡◌, ℕ, suc, ◌<◌, ◌≤◌, pos, List, [], ◌∷◌, length, map, Bool, true, false, ◌==◌, Option, None}
+use Rattle.std.specs.Prelude.{Some, is_some}
 use Rattle.std.specs.Prelude.{option_map, option_and_then, unwrap_or, if◌then◌else◌, ⊤}
 use Rattle.std.specs.List.{AllByRecursion}
 use Rattle.slab.specs.Slab.{Slab, get, slab_len}
@@ -50,6 +50,10 @@ AreGuarded seen gs = (place : ℕ) → range_at place gs ≡ option_map (λ t. t
 -- no watch waits for a revision above the next one
 abbrev pub AreReached : (ℕ → Option Tracked) → Type 0
 AreReached seen = (place : ℕ) → option_and_then (λ t. t.ahead) (seen place) ≡ None
+
+-- some watch does
+abbrev pub IsAnyAhead : (ℕ → Option Tracked) → Type 0
+IsAnyAhead seen = (place : ℕ) × (is_some (option_and_then (λ t. t.ahead) (seen place)) ≡ true)
 
 -- the places have the watches of their numbers, the slab has no watch beside them, and the guards have their ranges
 pub record AreAll (s : Slab Entry) (ps : List Place) (gs : List Guard) (waiting : Bool) : Type 0 where

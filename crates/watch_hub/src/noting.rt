@@ -3,7 +3,7 @@ ghost use Rattle.std.specs.Prelude.{◌≡◌, ◌≢◌, ℕ, ◌∷◌, [], tr
 ghost use Rattle.std.specs.Prelude.{option_and_then};
 ghost use Rattle.slab.specs.Slab.{get, slab_len};
 ghost use Rattle.store_laws.specs.Stands.{noted};
-ghost use Rattle.watch_hub.specs.Entries.{seen_in, AreGuarded, AreReached};
+ghost use Rattle.watch_hub.specs.Entries.{seen_in, AreGuarded, AreReached, IsAnyAhead};
 
 use crate::entry::Entry;
 use crate::guards::Guards;
@@ -13,7 +13,7 @@ use std::slice;
 
 /// Each watch takes note of the versions of a new revision, which is now the present one. Where one
 /// may wait for a later revision, all are walked. Else a version is noted by the watches that have
-/// its key in their range, which the guards find. The answer is whether a watch waits.
+/// its key in their range, which the guards find. The answer is whether a watch waits then.
 pub(crate) fn note_each(
     slab: &mut Slab<Entry>,
     guards: &Guards,
@@ -27,6 +27,7 @@ pub(crate) fn note_each(
         ≡ option_map (noted versions.now now) (seen_in slab.old place) }
     ensures count { slab_len slab.new ≡ slab_len slab.old }
     ensures reached { result ≡ false → AreReached (seen_in slab.new) }
+    ensures ahead { result ≡ true → IsAnyAhead (seen_in slab.new) }
 {
     if waiting {
         note_all(slab, versions, now);
@@ -72,7 +73,8 @@ fn is_ahead(slab: &Slab<Entry>, place: usize) -> bool
 
 /// Whether a watch waits for a revision above the next one.
 fn is_any_ahead(slab: &Slab<Entry>) -> bool
-    ensures { result ≡ false → AreReached (seen_in slab.now) }
+    ensures reached { result ≡ false → AreReached (seen_in slab.now) }
+    ensures ahead { result ≡ true → IsAnyAhead (seen_in slab.now) }
 {
     for place in 0..slab.capacity() {
         if is_ahead(slab, place) {

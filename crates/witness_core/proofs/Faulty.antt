@@ -1,6 +1,6 @@
 -- The first fault of a certificate stands in it.
 use Rattle.std.proofs.Common.{◌≡◌, ◌<◌, inl, inr, ℕ, length, List, [], ◌∷◌, ◌++◌, Bool, true, false, cond}
-use Rattle.std.proofs.Common.{Option, None, Some, option_map, refl, sym, ◌∙◌, ap, subst, arith}
+use Rattle.std.proofs.Common.{Result, Ok, Err, IfErr, Option, None, Some, option_map, refl, sym, ◌∙◌, ap, subst, arith}
 use Rattle.std.specs.Option.{option_or}
 use Rattle.std.proofs.lemmas.Bool.{eqb-true}
 use Rattle.std.proofs.lemmas.List.{append_assoc, append-nil, length-append}
@@ -12,6 +12,7 @@ use Rattle.kv_model.specs.History.{rev_lt, is_at}
 use Rattle.kv_model.specs.Certificates.{Dump, Claim}
 use Rattle.kv_model.specs.Certificates.{NeedFault, is_met, fall_after, first_fall, first_double, claims_fault, first_fault}
 use Rattle.store_laws.proofs.HistoryLaws.{same_key-eq}
+use Rattle.witness_core.specs.declared.checking.Least.{Least}
 use Rattle.witness_core.specs.declared.fault.NeedFault as declared
 use Rattle.witness_core.specs.declared.fault.NeedFault.TheVariants.{NotRising, DoubleKey, NoNeed, NeedUnmet, Extra, Memory}
 use Rattle.witness_core.specs.Faults.{IsFirst}
@@ -174,3 +175,7 @@ module _ (d : Dump) (claims : List Claim) where
   there (NeedUnmet p) e = stands (NeedFault.need_unmet p) e
   there Extra e = stands NeedFault.extra e
   there Memory e = tt
+
+  pub all-there : (r : Result Least declared.NeedFault) → IfErr r (IsFirst d claims) → IfErr r (IsThere d claims)
+  all-there (Ok l) h = tt
+  all-there (Err e) h = there e h

@@ -1,6 +1,6 @@
 -- The walk over the claims finds the first fault of a certificate.
 use Rattle.std.proofs.Common.{◌≡◌, ◌<◌, ℕ, ◌^◌, List, [], ◌∷◌, ◌++◌, Bool, true, false, not, ◌&&◌, cond}
-use Rattle.std.proofs.Common.{Option, None, Some, option_map, refl, sym, ◌∙◌, ap, subst}
+use Rattle.std.proofs.Common.{length, Result, Ok, Err, OnOk, IfOk, IfErr, Option, None, Some, option_map, refl, sym, ◌∙◌, ap, subst}
 use Rattle.std.specs.Prelude.{nat_le}
 use Rattle.std.specs.Option.{option_or}
 use Rattle.std.specs.List.{AllByRecursion}
@@ -10,14 +10,16 @@ use Rattle.kv_model.specs.declared.version.Version.{Version}
 use Rattle.kv_model.specs.Watches.{before_is_kept}
 use Rattle.kv_model.specs.Certificates.{Dump, Claim, Need}
 use Rattle.kv_model.specs.History.{is_at, is_tombstone, is_superseded}
-use Rattle.kv_model.specs.Certificates.{NeedFault, is_asked, is_met, first_fall, first_double, claims_fault, first_fault}
+use Rattle.kv_model.specs.Certificates.{NeedFault, is_asked, is_met, first_fall, first_double, claims_fault, first_fault, AreNeedsOf}
+use Rattle.kv_model.specs.Questions.{IsLeastOf}
 use Rattle.version_table.specs.Rising.{IsRising}
 use Rattle.store_laws.specs.TrimmingLaws.{IsLeastOfItself}
 use Rattle.store_laws.proofs.PassingLaws.{passing-least}
 use Rattle.witness_core.specs.declared.fault.NeedFault as declared
 use Rattle.witness_core.specs.declared.fault.NeedFault.TheVariants.{NotRising, DoubleKey, NoNeed, NeedUnmet, Extra, Memory}
-use Rattle.witness_core.specs.Faults.{IsFault, IsFirst, IsListFault, IsSound}
-use Rattle.witness_core.specs.Walks.{first_twin, next_main, next_mains, is_next_by, is_met_by, walked}
+use Rattle.witness_core.specs.Faults.{IsFault, IsFirst, Judges, fault_by}
+use Rattle.witness_core.specs.declared.checking.Least.{Least}
+use Rattle.witness_core.specs.Walks.{next_main, next_mains, is_next_by, is_met_by, walked}
 use Rattle.witness_core.proofs.Following.{superseded-next, rises, twin-double}
 
 met : (d : Dump) (before : List Version) (v : Version) (vs : List Version) (n : Need) → d.versions ≡ before ++ v ∷ vs → IsRising d.versions
@@ -55,54 +57,54 @@ unfolding first_fault
 falls d claims p e = ap (λ o. option_or (option_map NeedFault.not_rising o)
     (option_or (option_map NeedFault.double_key (first_double d.versions)) (claims_fault d d.versions claims))) (sym e)
 
-pub doubles : (d : Dump) (claims : List Claim) (p : Rev) → None ≡ first_fall d.versions → Some p ≡ first_double d.versions
-    → first_fault d claims ≡ Some (NeedFault.double_key p)
+-- where the list rises, the walk finds it by the next versions
+by-nexts : (d : Dump) (claims : List Claim) (ns : List (Option ℕ)) → None ≡ first_fall d.versions → ns ≡ next_mains d.versions
+    → fault_by d ns claims ≡ first_fault d claims
 unfolding first_fault
-doubles d claims p e f =
-    ap (λ x. option_or (option_map NeedFault.not_rising x)
-    (option_or (option_map NeedFault.double_key (first_double d.versions)) (claims_fault d d.versions claims))) (sym e)
-    ∙ ap (λ x. option_or (option_map NeedFault.double_key x) (claims_fault d d.versions claims)) (sym f)
+by-nexts d claims ns e n =
+    let rising = rises d.versions (sym e) in
+    ap (λ ms. fault_by d ms claims) n
+    ∙ ap (λ o. option_or (option_map NeedFault.double_key o) (walked d d.versions (next_mains d.versions) claims))
+    (twin-double d.versions rising)
+    ∙ ap (option_or (option_map NeedFault.double_key (first_double d.versions))) (walk-claims d [] d.versions claims refl rising)
+    ∙ ap (λ o. option_or (option_map NeedFault.not_rising o)
+    (option_or (option_map NeedFault.double_key (first_double d.versions)) (claims_fault d d.versions claims))) e
 
-pub twin-of : (vs : List Version) (ns : List (Option ℕ)) (o : Option Rev) → None ≡ first_fall vs → ns ≡ next_mains vs
-    → o ≡ first_twin vs ns → o ≡ first_double vs
-twin-of vs ns o e n f =
-    f ∙ ap (first_twin vs) n ∙ twin-double vs (rises vs (sym e))
+-- what is said of a list that rises is said of the first fault
+pub judges : (d : Dump) (claims cs : List Claim) (us vs : List Version) (ms ns : List (Option ℕ)) (r : Result Least declared.NeedFault)
+    → us ≡ d.versions → None ≡ first_fall us → vs ≡ d.versions → ns ≡ next_mains vs → ms ≡ ns → cs ≡ claims
+    → Judges r d (fault_by d ms cs) → Judges r d (first_fault d claims)
+judges d claims cs us vs ms ns r e rising f n m g =
+    subst (Judges r d) (ap (fault_by d ms) g ∙ by-nexts d claims ms (rising ∙ ap first_fall e) (m ∙ n ∙ ap next_mains f))
 
-pub remains : (d : Dump) (claims : List Claim) (ns : List (Option ℕ)) → None ≡ first_fall d.versions → ns ≡ next_mains d.versions
-    → None ≡ first_double d.versions → first_fault d claims ≡ walked d d.versions ns claims
-unfolding first_fault
-remains d claims ns e n f =
-    ap (λ x. option_or (option_map NeedFault.not_rising x)
-    (option_or (option_map NeedFault.double_key (first_double d.versions)) (claims_fault d d.versions claims))) (sym e)
-    ∙ ap (λ x. option_or (option_map NeedFault.double_key x) (claims_fault d d.versions claims)) (sym f)
-    ∙ sym (walk-claims d [] d.versions claims refl (rises d.versions (sym e)))
-    ∙ sym (ap (λ m. walked d d.versions m claims) n)
+pub passed : (d : Dump) (f : Option NeedFault) (r : Result Least declared.NeedFault) → Judges r d f → OnOk r (f ≡ None)
+passed d f (Ok l) h = h.1
+passed d f (Err e) h = tt
 
-pub found : (d : Dump) (claims : List Claim) (f : declared.NeedFault) → IsListFault d.versions f → IsFirst d claims f
-found d claims (NotRising p) h = falls d claims p h
-found d claims (DoubleKey p) h = doubles d claims p h.rising h.double
-found d claims (NoNeed p) h = absurd h
-found d claims (NeedUnmet p) h = absurd h
-found d claims Extra h = absurd h
-found d claims Memory h = sym h
+found : (d : Dump) (claims : List Claim) (e : declared.NeedFault) → IsFault e (first_fault d claims) → IsFirst d claims e
+found d claims (NotRising p) h = h
+found d claims (DoubleKey p) h = h
+found d claims (NoNeed p) h = h
+found d claims (NeedUnmet p) h = h
+found d claims Extra h = h
+found d claims Memory h = absurd h
 
-pub claimed : (d : Dump) (claims : List Claim) (ns : List (Option ℕ)) (f : declared.NeedFault) → IsSound d.versions ns
-    → IsFault f (walked d d.versions ns claims) → IsFirst d claims f
-claimed d claims ns (NotRising p) s h = remains d claims ns s.rising s.nexts s.single ∙ h
-claimed d claims ns (DoubleKey p) s h = remains d claims ns s.rising s.nexts s.single ∙ h
-claimed d claims ns (NoNeed p) s h = remains d claims ns s.rising s.nexts s.single ∙ h
-claimed d claims ns (NeedUnmet p) s h = remains d claims ns s.rising s.nexts s.single ∙ h
-claimed d claims ns Extra s h = remains d claims ns s.rising s.nexts s.single ∙ h
-claimed d claims ns Memory s h = absurd h
-
-pub passed : (d : Dump) (claims : List Claim) (ns : List (Option ℕ)) → IsSound d.versions ns → walked d d.versions ns claims ≡ None
-    → first_fault d claims ≡ None
-passed d claims ns s h = remains d claims ns s.rising s.nexts s.single ∙ h
+pub first : (d : Dump) (claims : List Claim) (r : Result Least declared.NeedFault) → Judges r d (first_fault d claims)
+    → IfErr r (IsFirst d claims)
+first d claims (Ok l) h = tt
+first d claims (Err e) h = found d claims e h
 
 -- what a certificate that passes says
 pub least : (d : Dump) (claims : List Claim) → AllByRecursion (λ v. v.rev.sub < 2 ^ 64) d.versions → first_fault d claims ≡ None
     → IsLeastOfItself before_is_kept d claims
 least d claims places e = passing-least before_is_kept d claims places e
 
-pub moved : {us vs : List Version} {ms ns : List (Option ℕ)} → us ≡ vs → ms ≡ ns → IsSound us ns → IsSound vs ms
-moved e f s = record { rising = s.rising ∙ ap first_fall e; single = s.single ∙ ap first_double e; nexts = f ∙ s.nexts ∙ ap next_mains e }
+pub needed : (d : Dump) (claims : List Claim) (r : Result Least declared.NeedFault) → AllByRecursion (λ v. v.rev.sub < 2 ^ 64) d.versions
+    → Judges r d (first_fault d claims) → OnOk r (AreNeedsOf d.floor d.revision d.versions d.versions claims)
+needed d claims (Ok l) places h = (least d claims places h.1).needs
+needed d claims (Err e) places h = tt
+
+pub fewest : (d : Dump) (claims : List Claim) (r : Result Least declared.NeedFault) → AllByRecursion (λ v. v.rev.sub < 2 ^ 64) d.versions
+    → Judges r d (first_fault d claims) → OnOk r (IsLeastOf d.versions d.floor d.revision d.versions)
+fewest d claims (Ok l) places h = (least d claims places h.1).least
+fewest d claims (Err e) places h = tt

@@ -1,5 +1,6 @@
 -- How the program's faults are seen as the model's.
-use Rattle.std.specs.Prelude.{◌≡◌, ℕ, List, Option, None, Some}
+use Rattle.std.specs.Prelude.{◌≡◌, ℕ, List, length, Option, None, Some, option_map, Result, Ok, Err}
+use Rattle.std.specs.Option.{option_or}
 use Rattle.kv_model.specs.declared.version.Rev.{Rev}
 use Rattle.kv_model.specs.declared.version.Version.{Version}
 use Rattle.kv_model.specs.Certificates.{Dump, Claim}
@@ -7,7 +8,8 @@ use Rattle.kv_model.specs.Certificates as model
 use Rattle.witness_core.specs.declared.fault.NeedFault.{NeedFault}
 use Rattle.witness_core.specs.declared.fault.NeedFault.TheVariants.{NotRising, DoubleKey, NoNeed, NeedUnmet, Extra}
 use Rattle.witness_core.specs.declared.fault.NeedFault.TheVariants.{Memory}
-use Rattle.witness_core.specs.Walks.{next_mains}
+use Rattle.witness_core.specs.declared.checking.Least.{Least}
+use Rattle.witness_core.specs.Walks.{first_twin, walked}
 
 abbrev pub number_of : NeedFault → ℕ
 number_of (NotRising p) = 1
@@ -40,22 +42,14 @@ IsFirst d claims (NeedUnmet p) = model.first_fault d claims ≡ Some (model.Need
 IsFirst d claims Extra = model.first_fault d claims ≡ Some model.NeedFault.extra
 IsFirst d claims Memory = model.first_fall d.versions ≡ None
 
--- ---- of the list by itself
+-- ---- without memory
 
--- the list has no fault of its own, and these are the main revisions of its versions' next ones
-pub record IsSound (vs : List Version) (ns : List (Option ℕ)) : Type 0 where
-  pub rising : None ≡ model.first_fall vs
-  pub single : None ≡ model.first_double vs
-  pub nexts : ns ≡ next_mains vs
+-- the first fault of a list that rises and its claims, by the main revision of each version's next one
+abbrev pub fault_by : Dump → List (Option ℕ) → List Claim → Option model.NeedFault
+fault_by d ns claims = option_or (option_map model.NeedFault.double_key (first_twin d.versions ns))
+    (walked d d.versions ns claims)
 
-pub record IsDouble (vs : List Version) (p : Rev) : Type 0 where
-  pub rising : None ≡ model.first_fall vs
-  pub double : Some p ≡ model.first_double vs
-
-abbrev pub IsListFault : List Version → NeedFault → Type 0
-IsListFault vs (NotRising p) = Some p ≡ model.first_fall vs
-IsListFault vs (DoubleKey p) = IsDouble vs p
-IsListFault vs Memory = None ≡ model.first_fall vs
-IsListFault vs (NoNeed p) = ⊥
-IsListFault vs (NeedUnmet p) = ⊥
-IsListFault vs Extra = ⊥
+-- the number of versions where there is no fault, and else the fault; want of memory is never said
+abbrev pub Judges : Result Least NeedFault → Dump → Option model.NeedFault → Type 0
+Judges (Ok least) d f = (least.count ≡ length d.versions) × (f ≡ None)
+Judges (Err fault) d f = IsFault fault f

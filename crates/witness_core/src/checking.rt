@@ -3,7 +3,7 @@ ghost use Rattle.std.specs.Prelude.{◌≡◌, length, None, option_copied, IfOk
 ghost use Rattle.kv_model.specs.Certificates.{is_asked, first_fault, AreNeedsOf};
 ghost use Rattle.kv_model.specs.Questions.{IsLeastOf};
 ghost use Rattle.kv_model.specs.History.{is_tombstone};
-ghost use Rattle.witness_core.specs.Faults.{Finds, IsFirst, IsListFault, IsSound};
+ghost use Rattle.witness_core.specs.Faults.{Finds, IsFirst, Judges, fault_by};
 ghost use Rattle.witness_core.specs.Seen.{seen_need};
 ghost use Rattle.witness_core.specs.Standing.{IsThere};
 ghost use Rattle.witness_core.specs.Walks.{claim_fault, is_met_by, is_next_by, walked};
@@ -106,22 +106,21 @@ fn claims_fault(dump: &Dump, nexts: &[Option<u64>], claims: &[Claim]) -> Option<
     }
 }
 
-/// For each version the main revision of the next one of its key, where the list has no fault of
-/// its own.
-fn nexts_of(alloc: Global, versions: &[Version]) -> Result<Vec<Option<u64>>, NeedFault>
-    ensures ok { IfOk result (λ nexts. IsSound versions.now nexts.items) }
-    ensures err { IfErr result (IsListFault versions.now) }
+/// What a check says of a list that rises, where each version has the main revision of the next one
+/// of its key: the first key that stands twice at its main revision, then the first fault of the
+/// claims. Takes no memory.
+fn judged(dump: &Dump, nexts: &[Option<u64>], claims: &[Claim]) -> Result<Least, NeedFault>
+    ensures { Judges result dump.now (fault_by dump.now nexts.now claims.now) }
 {
-    if let Some(rev) = first_fall(versions) {
-        return Err(NeedFault::NotRising(rev));
-    }
-    let Ok(nexts) = next_mains(alloc, versions) else {
-        return Err(NeedFault::Memory);
-    };
-    if let Some(rev) = first_twin(versions, &nexts) {
+    if let Some(rev) = first_twin(&dump.versions, nexts) {
         return Err(NeedFault::DoubleKey(rev));
     }
-    Ok(nexts)
+    match claims_fault(dump, nexts, claims) {
+        Some(fault) => Err(fault),
+        None => Ok(Least {
+            count: dump.versions.len() as u64,
+        }),
+    }
 }
 
 /// Checks the certificate of a dump, which may be any list, and any claims.
@@ -145,14 +144,11 @@ pub fn check(alloc: Global, dump: &Dump, certificate: &Certificate) -> Result<Le
     ensures stands { IfErr result (IsThere dump.now certificate.now) }
 {
     are_places(&dump.versions);
-    let nexts = match nexts_of(alloc, &dump.versions) {
-        Ok(nexts) => nexts,
-        Err(fault) => return Err(fault),
-    };
-    match claims_fault(dump, &nexts, &certificate.claims) {
-        Some(fault) => Err(fault),
-        None => Ok(Least {
-            count: dump.versions.len() as u64,
-        }),
+    if let Some(rev) = first_fall(&dump.versions) {
+        return Err(NeedFault::NotRising(rev));
+    }
+    match next_mains(alloc, &dump.versions) {
+        Ok(nexts) => judged(dump, &nexts, &certificate.claims),
+        Err(_) => Err(NeedFault::Memory),
     }
 }

@@ -3,7 +3,7 @@ ghost use Rattle.std.specs.Prelude.{◌≡◌, IfOk};
 ghost use Rattle.witness_core.specs.Making.{dump_of};
 
 use kv_model::version::Version;
-use range_view::Tables;
+use range_view::View;
 use std::alloc::{AllocError, Global};
 use std::marker::Model;
 
@@ -32,11 +32,11 @@ impl Model for Dump {
 }
 
 /// The versions that a store keeps, once more.
-fn copies(alloc: Global, tables: &Tables) -> Result<Vec<Version>, AllocError>
-    ensures { IfOk result (λ copies. copies.items ≡ tables.now.versions) }
+fn copies(alloc: Global, view: &View<'_>) -> Result<Vec<Version>, AllocError>
+    ensures { IfOk result (λ copies. copies.items ≡ view.now.versions) }
 {
-    let mut copies = Vec::with_capacity(alloc, tables.count())?;
-    let mut versions = tables.versions();
+    let mut copies = Vec::with_capacity(alloc, view.count())?;
+    let mut versions = view.versions();
     while let Some(version) = versions.next() {
         copies.push(version.clone()?)?;
     }
@@ -44,17 +44,17 @@ fn copies(alloc: Global, tables: &Tables) -> Result<Vec<Version>, AllocError>
 }
 
 impl Dump {
-    /// What a store keeps, just as it is: its versions, which share their keys and values with it,
-    /// the revision of its last compaction and the present one.
+    /// What a store keeps, just as it is, whatever the view's place: its versions, which share
+    /// their keys and values with it, the revision of its last compaction and the present one.
     ///
     /// The error is want of memory. The time is linear in the number of versions.
-    pub fn of(alloc: Global, tables: &Tables) -> Result<Dump, AllocError>
-        ensures { IfOk result (λ dump. dump ≡ dump_of tables.now) }
+    pub fn of(alloc: Global, view: &View<'_>) -> Result<Dump, AllocError>
+        ensures { IfOk result (λ dump. dump ≡ dump_of view.now) }
     {
-        let versions = copies(alloc, tables)?;
+        let versions = copies(alloc, view)?;
         Ok(Dump {
-            floor: tables.compacted(),
-            revision: tables.revision(),
+            floor: view.compacted(),
+            revision: view.revision(),
             versions,
         })
     }

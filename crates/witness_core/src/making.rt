@@ -9,7 +9,7 @@ ghost use Rattle.witness_core.specs.Seen.{seen_need};
 use crate::certificate::{Certificate, Claim, Need};
 use crate::nexts::is_before;
 use kv_model::version::{Body, Rev, Version};
-use range_view::{KeyVersions, Tables};
+use range_view::{KeyVersions, View};
 use std::alloc::{AllocError, Global};
 
 /// Whether the first of these versions behind a place is at or below a revision.
@@ -29,29 +29,29 @@ fn is_first_by(place: Rev, revision: u64, versions: KeyVersions<'_>) -> bool
 ///
 /// The time is logarithmic in the number of keys and in that of the key's revisions, where a key
 /// has one version of a main revision.
-fn is_superseded(tables: &Tables, version: &Version, revision: u64) -> bool
-    ensures { result ≡ is_superseded tables.now.versions revision version.now }
+fn is_superseded(view: &View<'_>, version: &Version, revision: u64) -> bool
+    ensures { result ≡ is_superseded view.now.versions revision version.now }
 {
-    let versions = tables.versions_of(&version.key, version.rev.main);
+    let versions = view.versions_of(&version.key, version.rev.main);
     is_first_by(version.rev, revision, versions)
 }
 
 /// What a version that is kept is needed for.
-fn need_of(tables: &Tables, version: &Version) -> Option<Need>
+fn need_of(view: &View<'_>, version: &Version) -> Option<Need>
     ensures { option_map seen_need result
-        ≡ need_of (dump_of tables.now) version.now version.now.body }
+        ≡ need_of (dump_of view.now) version.now version.now.body }
 {
     match version.body {
         Body::Put { .. } => {
-            let revision = version.rev.main.max(tables.compacted());
-            if is_superseded(tables, version, revision) {
+            let revision = version.rev.main.max(view.compacted());
+            if is_superseded(view, version, revision) {
                 None
             } else {
                 Some(Need::Range(revision))
             }
         }
         Body::Gone => {
-            if tables.compacted() <= version.rev.main {
+            if view.compacted() <= version.rev.main {
                 Some(Need::Watch(version.rev.main))
             } else {
                 None
@@ -61,10 +61,10 @@ fn need_of(tables: &Tables, version: &Version) -> Option<Need>
 }
 
 /// The claim of a version that is kept.
-fn claim_of(tables: &Tables, version: &Version) -> Option<Claim>
-    ensures { result ≡ claim_of (dump_of tables.now) version.now }
+fn claim_of(view: &View<'_>, version: &Version) -> Option<Claim>
+    ensures { result ≡ claim_of (dump_of view.now) version.now }
 {
-    match need_of(tables, version) {
+    match need_of(view, version) {
         Some(need) => Some(Claim {
             rev: version.rev,
             need,
@@ -84,20 +84,20 @@ fn add(claims: &mut Vec<Claim>, claim: Option<Claim>) -> Result<(), AllocError>
     Ok(())
 }
 
-/// The certificate of what a store keeps: in the order of the versions, each put that is the last
+/// The certificate of what a view shows, behind its place too: in the order of the versions, each put that is the last
 /// version of its key at or below the last compaction, or at or below its own revision where that
 /// is above, has the need of a Range of that revision; each tombstone from the last compaction on
 /// has the need of a watch of its revision; other versions have none.
 ///
 /// The error is want of memory. The time is linear in the number of versions, and for each of them
 /// logarithmic in the number of keys and in that of its key's revisions.
-pub fn make(alloc: Global, tables: &Tables) -> Result<Certificate, AllocError>
-    ensures { IfOk result (λ certificate. certificate ≡ claims_of (dump_of tables.now)) }
+pub fn make(alloc: Global, view: &View<'_>) -> Result<Certificate, AllocError>
+    ensures { IfOk result (λ certificate. certificate ≡ claims_of (dump_of view.now)) }
 {
     let mut claims = Vec::new(alloc);
-    let mut versions = tables.versions();
+    let mut versions = view.versions();
     while let Some(version) = versions.next() {
-        add(&mut claims, claim_of(tables, version))?;
+        add(&mut claims, claim_of(view, version))?;
     }
     Ok(Certificate { claims })
 }

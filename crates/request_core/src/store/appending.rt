@@ -4,12 +4,19 @@ ghost use Rattle.store_laws.specs.Stands.{noted};
 ghost use Rattle.range_view.specs.Stored.{AreOf, IsUpTo};
 ghost use Rattle.kv_model.specs.Step.{last_main};
 ghost use Rattle.request_core.specs.Writing.{AreNext};
-ghost use Rattle.std.specs.Prelude.{◌≡◌, ◌≢◌, ◌+◌, ◌<◌, [], map, IfOk, OnOk, OnErr};
+ghost use Rattle.kv_model.specs.History.{end_of, value_at};
+ghost use Rattle.lease_keys.specs.Holding.{ArePut, ArePartlyPut, AreSettled, AreTakenBack};
+ghost use Rattle.range_view.specs.Stored.{IsStored};
+ghost use Rattle.request_core.specs.State.{newest};
+ghost use Rattle.std.specs.Prelude.{◌≡◌, ◌≢◌, ◌+◌, ◌-◌, ◌<◌, [], map, IfOk, OnOk, OnErr};
 
 use super::Core;
 use kv_model::feed::{Op, Sink};
 use kv_model::version::Version;
+use lease_keys::LeaseKeys;
 use range_view::Versions;
+use range_view::revision::end_of;
+use range_view::tables::Tables;
 use std::alloc::{AllocError, Global};
 use watch_hub::WatchHub;
 
@@ -59,8 +66,8 @@ impl Core {
         }
     }
 
-    /// Appends the versions of the next revision, once the sink has taken them. Where that fails,
-    /// the index of leases may have some pairs more.
+    /// Appends the versions of the next revision, once the sink has taken them. The index of leases
+    /// then has what the keys hold now; where that fails, what they held before.
     fn append_unnoted<S: Sink>(
         &mut self,
         versions: Vec<Version>,
@@ -73,13 +80,14 @@ impl Core {
         ensures err { OnErr result ((self.new ≡ self.old) × (sink.new ≡ sink.old)) }
     {
         let main = self.tables.revision() + 1;
-        self.keys.add_all(&versions)?;
         let batch = batch_of(self.alloc, &versions)?;
         self.tables.append(versions)?;
-        if let Err(full) = sink.take(batch) {
+        if let Err(full) = take_newest(&mut self.keys, &self.tables, batch, sink) {
+            take_back(&mut self.keys, &self.tables);
             self.tables.retract(main);
             return Err(full);
         }
+        settle(&mut self.keys, &self.tables);
         Ok(())
     }
 
@@ -100,6 +108,52 @@ impl Core {
         let now = self.tables.revision();
         note_all(&mut self.hub, self.tables.versions_from(now), before, now);
     }
+}
+
+/// Adds the pairs of the versions of the present revision to the index of leases, and then has the
+/// sink take their batch.
+fn take_newest<S: Sink>(
+    keys: &mut LeaseKeys,
+    tables: &Tables,
+    batch: Op,
+    sink: &mut S,
+) -> Result<(), AllocError>
+    ensures ok { OnOk result (ArePut (newest tables.now) keys.old keys.new) }
+    ensures told { OnOk result (S.takes sink.old (published batch) sink.new) }
+    ensures err { OnErr result
+        (ArePartlyPut (newest tables.now) keys.old keys.new × (sink.new ≡ sink.old)) }
+{
+    if let Err(full) = keys.add_all(tables.versions_from(tables.revision())) {
+        return Err(full);
+    }
+    sink.take(batch)
+}
+
+/// The index of leases loses what it has only for versions of the present revision, which are to
+/// go.
+fn take_back(keys: &mut LeaseKeys, tables: &Tables)
+    ensures { AreTakenBack (newest tables.now)
+        (value_at tables.now.versions (end_of (tables.now.revision - 1))) keys.old keys.new }
+{
+    let revision = tables.revision();
+    let place = end_of(revision.saturating_sub(1));
+    keys.take_back(&tables.view_at(place), tables.versions_from(revision));
+}
+
+/// The index of leases loses what the versions of the present revision replaced.
+fn settle(keys: &mut LeaseKeys, tables: &Tables)
+    ensures settled { AreSettled (newest tables.now)
+        (value_at tables.now.versions (end_of (tables.now.revision - 1)))
+        (value_at tables.now.versions (end_of tables.now.revision)) keys.old keys.new }
+    ensures stored { IsStored tables.now }
+{
+    let revision = tables.revision();
+    let place = end_of(revision.saturating_sub(1));
+    keys.settle(
+        &tables.view_at(place),
+        &tables.view(),
+        tables.versions_from(revision),
+    );
 }
 
 /// The watches take note of the versions of the present revision, so many at a time as lie side by

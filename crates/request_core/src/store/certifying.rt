@@ -15,7 +15,7 @@ impl Core {
     pub fn dump(&self) -> Result<Dump, AllocError>
         ensures { IfOk result (λ dump. dump ≡ dump_kept self.now.store) }
     {
-        Dump::of(self.alloc, &self.tables)
+        Dump::of(self.alloc, &self.tables.view())
     }
 
     /// The certificate of what is kept: in order, for each version that has one, a question that no
@@ -24,6 +24,6 @@ impl Core {
     pub fn certificate(&self) -> Result<Certificate, AllocError>
         ensures { IfOk result (λ claims. claims ≡ claims_of (dump_kept self.now.store)) }
     {
-        make(self.alloc, &self.tables)
+        make(self.alloc, &self.tables.view())
     }
 }

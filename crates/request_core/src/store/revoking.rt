@@ -1,7 +1,5 @@
 //! The keys of a lease, and its revoke.
-ghost use Rattle.kv_model.specs.History.{value_now};
 ghost use Rattle.kv_model.specs.Leases.{without_lease};
-ghost use Rattle.lease_keys.specs.Holding.{AreNotUnder};
 ghost use Rattle.range_view.specs.Replies.{kv_view};
 ghost use Rattle.std.specs.Prelude.{◌≡◌, ◌+◌, map, [], length, IfOk, IfErr, OnOk, OnErr, None};
 
@@ -17,7 +15,7 @@ use std::alloc::AllocError;
 
 impl Core {
     ghost use Rattle.kv_model.specs.Calls.{Call};
-    ghost use Rattle.request_core.specs.State.{AreReached, IsTold, added_by, added_by_revoke};
+    ghost use Rattle.request_core.specs.State.{IsTold, added_by, added_by_revoke};
     ghost use Rattle.request_core.specs.State.{after_revoke, fault_of_revoke, leased, leased_in};
     ghost use Rattle.request_core.specs.Answers.{IsRefusal};
     ghost use Rattle.request_core.specs.Commands.{CarriesOut, Refuses};
@@ -70,10 +68,9 @@ impl Core {
         ensures made { IfOk result
             (λ vs. (fault_of_revoke self.now.store id ≡ None)
             × (vs.items ≡ added_by_revoke self.now.store id)) }
-        ensures reached { AreReached self.now.store }
         ensures refused { IfErr result (λ e. IsRefusal e (fault_of_revoke self.now.store id)) }
     {
-        let main = self.next_main();
+        let main = self.tables.revision() + 1;
         if !self.book.is_granted(id) {
             return Err(Refusal::LeaseMissing);
         }
@@ -89,19 +86,11 @@ impl Core {
         }
     }
 
-    /// The main revision after the present one.
-    fn next_main(&self) -> u64
-        ensures value { result ≡ self.now.store.revision + 1 }
-        ensures reached { AreReached self.now.store }
-    {
-        self.tables.revision() + 1
-    }
-
     /// The live keys whose last put names the lease, in the order of the keys, lent from the
     /// versions.
     ///
-    /// `AllocError` comes where a list found no memory. The keys that were put under the lease are
-    /// looked up, each in time logarithmic in the keys and the versions; no other key is.
+    /// `AllocError` comes where a list found no memory. They are found by the index, and looked up
+    /// each in time logarithmic in the keys and the versions; no other key is.
     pub(crate) fn keys_of_lease(&self, id: i64) -> Result<Vec<KvRef<'_>>, AllocError>
         ensures { IfOk result (λ kvs. map kv_view kvs.items ≡ leased_in self.now.store id) }
     {
@@ -109,12 +98,10 @@ impl Core {
         self.keys.live(self.alloc, &self.tables.view_at(place), id)
     }
 
-    /// Takes a lease, under which no key is any more, out of the book and the index.
+    /// Takes a lease out of the book.
     fn take_lease(&mut self, id: i64)
-        requires { AreNotUnder id (value_now self.old.store.versions) }
         ensures { self.new ≡ leased self.old (without_lease id self.old.store.leases) }
     {
         let _found = self.book.revoke(id);
-        self.keys.forget(id);
     }
 }

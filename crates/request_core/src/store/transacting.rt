@@ -5,8 +5,13 @@ ghost use Rattle.kv_model.specs.Txns.{Path, replies_of};
 ghost use Rattle.range_view.specs.Replies.{replies_view};
 ghost use Rattle.range_view.specs.Stored.{IsUpTo};
 ghost use Rattle.std.specs.List.{AllByRecursion};
-ghost use Rattle.std.specs.Prelude.{◌≡◌, ◌<◌, ◌≤◌, ◌^◌, [], length, None};
+ghost use Rattle.std.specs.Prelude.{◌≡◌, ◌⊎◌, ◌+◌, ◌<◌, ◌≤◌, ◌^◌, [], length, map, None, Some};
 ghost use Rattle.std.specs.Prelude.{IfOk, IfErr, OnOk, OnErr};
+ghost use Rattle.kv_model.specs.Commands as commands;
+ghost use Rattle.kv_model.specs.History as history;
+ghost use Rattle.kv_model.specs.Leases.{is_granted};
+ghost use Rattle.kv_model.specs.Txns as txns;
+ghost use Rattle.store_laws.specs.Plans.{planned, planned_refusal};
 ghost use Rattle.txn_core.specs.KeyWrites.{IsCountedTo};
 ghost use Rattle.txn_core.specs.Steps.{steps_view};
 
@@ -15,10 +20,11 @@ use crate::answer::Todo;
 use kv_model::call::Txn;
 use kv_model::feed::Sink;
 use kv_model::refusal::Refusal;
+use lease_book::LeaseBook;
 use range_view::reply::OpReply;
 use range_view::revision::end_of;
 use range_view::view::View;
-use std::alloc::AllocError;
+use std::alloc::{AllocError, Global};
 use txn_core::step::{Plan, Step};
 use txn_core::{check, plan};
 
@@ -120,7 +126,7 @@ impl Core {
         if let Err(refusal) = check(self.alloc, txn) {
             return Err(refusal);
         }
-        let made = match plan(self.alloc, &view, txn, &self.book) {
+        let made = match plan_on(self.alloc, &view, txn, &self.book) {
             Ok(made) => made,
             Err(refusal) => return Err(refusal),
         };
@@ -161,5 +167,40 @@ impl Core {
             (steps_view steps.now)) }
     {
         txn_core::replies(self.alloc, &self.tables, before, steps)
+    }
+}
+
+/// What a transaction that passed its check is to do on a view of the present revision, or its
+/// first refusal but that of spent revisions.
+fn plan_on<'c>(
+    alloc: Global,
+    view: &View<'_>,
+    txn: &'c Txn,
+    leases: &LeaseBook,
+) -> Result<Plan<'c>, Refusal>
+    requires at { view.now.place ≡ history.end_of view.now.revision }
+    requires upto { IsUpTo view.now.revision view.now.versions }
+    requires places { AllByRecursion (λ v. v.rev.sub < 2 ^ 64) view.now.versions }
+    requires fits { view.now.revision ≤ last_main }
+    requires counted { AllByRecursion (λ v.
+        IsCountedTo view.now.revision v.body) view.now.versions }
+    requires checked { txns.static_fault (commands.txn_view txn.now) ≡ None }
+    ensures path { IfOk result (λ p. Path.txn p.succeeded (steps_view p.steps.items) Path.end
+        ≡ txns.path_of view.now.versions view.now.revision (commands.txn_view txn.now)) }
+    ensures clear { OnOk result
+        (planned_refusal
+        (is_granted leases.now.leases) view.now.compacted view.now.revision view.now.versions
+        (txns.path_of view.now.versions view.now.revision (commands.txn_view txn.now)) ≡ None) }
+    ensures versions { IfOk result (λ p. p.versions.items ≡ map (txns.next_version view.now.versions)
+        (planned view.now.versions (view.now.revision + 1) []
+        (txns.path_of view.now.versions view.now.revision (commands.txn_view txn.now)))) }
+    ensures refused { IfErr result (λ e. (e ≡ Refusal.Memory)
+        ⊎ (planned_refusal
+        (is_granted leases.now.leases) view.now.compacted view.now.revision view.now.versions
+        (txns.path_of view.now.versions view.now.revision (commands.txn_view txn.now)) ≡ Some e)) }
+{
+    match plan(alloc, view, txn, leases) {
+        Ok(made) => Ok(made),
+        Err(refusal) => Err(refusal),
     }
 }

@@ -26,20 +26,9 @@ impl Core {
     pub fn trim_step(&mut self) -> Trim
         ensures { TrimsOnce self.old self.new result }
     {
-        self.drop_pair();
         let trim = self.trim_tables();
         self.count_trim(trim);
         trim
-    }
-
-    /// The pair of the index of leases that the version to visit made is dropped, where its key
-    /// holds nothing under that lease any more.
-    fn drop_pair(&mut self)
-        ensures { self.new ≡ self.old }
-    {
-        if let Some(version) = self.tables.next_visited() {
-            self.keys.drop_unused(&self.tables.view(), version);
-        }
     }
 
     /// The step, before it is counted.

@@ -5,7 +5,8 @@ use Rattle.kv_model.specs.declared.version.Version.{Version}
 use Rattle.version_table.specs.Rising.{retracted}
 use Rattle.version_table.proofs.Changes.{retracted-append}
 use Rattle.range_view.specs.Stored.{AreOf}
-use Rattle.range_view.proofs.Growing.{all-yielded, ready, front-of, upto-below, below-not_of}
+use Rattle.version_table.proofs.Retracting.{below-not_of}
+use Rattle.range_view.proofs.Growing.{all-yielded, ready, front-of, upto-below}
 use Rattle.range_view.proofs.growth.add_all.Goals as goal
 
 pub add-requires-clause-behind : goal.add-requires-clause-behind

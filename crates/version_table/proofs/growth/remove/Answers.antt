@@ -1,8 +1,8 @@
 -- The page changes on which the version stands, if there is such a page.
 use Rattle.std.proofs.Common.{◌≡◌, ◌+◌, ◌<◌, ◌≤◌, List, length, sym, ◌∙◌, ap, subst, arith, rules}
 use Rattle.kv_model.specs.declared.version.Version.{Version}
-use Rattle.version_table.specs.Paged.{HaveVersions, change_at, flat, freed, pages_before, without_version}
-use Rattle.version_table.proofs.PageChanges.{change-past, flat-freed, flat-without, held-freed, length-change}
+use Rattle.version_table.specs.Paged.{Fit, HaveVersions, change_at, flat, freed, pages_before, without_version}
+use Rattle.version_table.proofs.PageChanges.{change-past, fit-without, flat-freed, flat-without, held-freed, length-change}
 use Rattle.version_table.proofs.growth.remove.Goals as goal
 
 pub returns-then-index-len-clause-value : goal.returns-then-index-len-clause-value
@@ -44,3 +44,9 @@ returns-clause-count c =
     ap (λ (vs : List Version). c.remove_in-gone.result + length vs)
     (ap flat c.free.ensures ∙ flat-freed c.pages_before-index.result c.remove_in-gone.new.pages.items)
     ∙ c.remove_in-gone.ensures.count
+
+pub returns-clause-fit : goal.returns-clause-fit
+returns-clause-fit c =
+    let i = c.pages_before-index.result in
+    subst Fit (sym (c.free.ensures ∙ ap (freed i) c.remove_in-gone.ensures.value))
+    (fit-without c.args.rev i c.args.pages.now.items c.requires.fit)

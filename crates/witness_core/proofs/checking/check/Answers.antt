@@ -1,70 +1,53 @@
--- The list has no fault of its own, and then the claims are walked.
-use Rattle.std.proofs.Common.{◌≡◌, ◌<◌, ◌^◌, ◌∙◌, ap, subst, List, None}
+-- The list rises, and then it is judged without memory.
+use Rattle.std.proofs.Common.{◌≡◌, ◌<◌, ◌^◌, ◌∙◌, ap, subst, List}
 use Rattle.std.specs.List.{AllByRecursion}
 use Rattle.kv_model.specs.declared.version.Version.{Version}
-use Rattle.kv_model.specs.Certificates.{Dump, Claim}
-use Rattle.witness_core.specs.Faults.{IsFault, IsListFault}
-use Rattle.witness_core.specs.Walks.{walked}
-use Rattle.witness_core.proofs.Faulty.{there}
-use Rattle.witness_core.proofs.Passing.{found, claimed, passed, least, moved}
+use Rattle.kv_model.specs.Certificates.{Dump, first_fall, first_fault}
+use Rattle.witness_core.specs.declared.fault.NeedFault.TheVariants.{NotRising}
+use Rattle.witness_core.specs.Faults.{Judges}
+use Rattle.witness_core.proofs.Faulty.{there, all-there}
+use Rattle.witness_core.proofs.Passing.{falls, judges, passed, needed, fewest, first}
 use Rattle.witness_core.proofs.checking.check.Goals as goal
-
-pub returns-in-Err-clause-first : goal.returns-in-Err-clause-first
-returns-in-Err-clause-first c =
-    found c.args.dump.now c.args.certificate.now c.in-Err.fault
-    (subst (λ (vs : List Version). IsListFault vs c.in-Err.fault) (c.deref-2.ensures.value ∙ ap (λ (d : Dump). d.versions) c.dump.view_is)
-    c.in-Err.ensures.err)
+use Rattle.witness_core.proofs.checking.check.Goals.{After-drop-nexts}
 
 pub returns-in-Some-clause-first : goal.returns-in-Some-clause-first
 returns-in-Some-clause-first c =
-    let d = c.args.dump.now in
-    claimed d c.args.certificate.now c.deref-3.result.now c.in-Some.fault
-    (moved (c.deref-2.ensures.value ∙ ap (λ (d : Dump). d.versions) c.dump.view_is) c.deref-3.ensures.value c.in-Ok.ensures.ok)
-    (subst (λ (claims : List Claim). IsFault c.in-Some.fault (walked d d.versions c.deref-3.result.now claims))
-    (c.deref-4.ensures.value ∙ c.certificate.view_is) c.in-Some.ensures)
-
-pub returns-in-Err-clause-stands : goal.returns-in-Err-clause-stands
-returns-in-Err-clause-stands c =
-    there c.args.dump.now c.args.certificate.now c.in-Err.fault
-    (found c.args.dump.now c.args.certificate.now c.in-Err.fault
-    (subst (λ (vs : List Version). IsListFault vs c.in-Err.fault) (c.deref-2.ensures.value ∙ ap (λ (d : Dump). d.versions) c.dump.view_is)
-    c.in-Err.ensures.err))
+    falls c.args.dump.now c.args.certificate.now c.in-Some.rev
+    (c.in-Some.ensures ∙ ap first_fall (c.deref-2.ensures.value ∙ ap (λ (d : Dump). d.versions) c.dump.view_is))
 
 pub returns-in-Some-clause-stands : goal.returns-in-Some-clause-stands
 returns-in-Some-clause-stands c =
-    let d = c.args.dump.now in
-    there d c.args.certificate.now c.in-Some.fault
-    (claimed d c.args.certificate.now c.deref-3.result.now c.in-Some.fault
-    (moved (c.deref-2.ensures.value ∙ ap (λ (d : Dump). d.versions) c.dump.view_is) c.deref-3.ensures.value c.in-Ok.ensures.ok)
-    (subst (λ (claims : List Claim). IsFault c.in-Some.fault (walked d d.versions c.deref-3.result.now claims))
-    (c.deref-4.ensures.value ∙ c.certificate.view_is) c.in-Some.ensures))
+    there c.args.dump.now c.args.certificate.now (NotRising c.in-Some.rev)
+    (falls c.args.dump.now c.args.certificate.now c.in-Some.rev
+    (c.in-Some.ensures ∙ ap first_fall (c.deref-2.ensures.value ∙ ap (λ (d : Dump). d.versions) c.dump.view_is)))
 
-pub returns-clause-passes : goal.returns-clause-passes
-returns-clause-passes c =
-    let d = c.args.dump.now in
-    passed d c.args.certificate.now c.deref-3.result.now
-    (moved (c.deref-2.ensures.value ∙ ap (λ (d : Dump). d.versions) c.dump.view_is) c.deref-3.ensures.value c.in-Ok.ensures.ok)
-    (subst (λ (claims : List Claim). walked d d.versions c.deref-3.result.now claims ≡ None)
-    (c.deref-4.ensures.value ∙ c.certificate.view_is) c.in-None.ensures)
+said : (c : After-drop-nexts) → Judges c.judged.result c.args.dump.now (first_fault c.args.dump.now c.args.certificate.now)
+said c =
+    judges c.args.dump.now c.args.certificate.now c.deref-in-Ok-2.result.now c.deref-2.result.now c.deref-3.result.now
+    c.deref-in-Ok.result.now c.in-Ok.nexts.items c.judged.result
+    (c.deref-2.ensures.value ∙ ap (λ (d : Dump). d.versions) c.dump.view_is) c.in_default.ensures
+    (c.deref-3.ensures.value ∙ ap (λ (d : Dump). d.versions) c.dump.view_is) c.in-Ok.ensures c.deref-in-Ok.ensures.value
+    (c.deref-in-Ok-2.ensures.value ∙ c.certificate.view_is) c.judged.ensures
 
-pub returns-clause-needs : goal.returns-clause-needs
-returns-clause-needs c =
-    let d = c.args.dump.now in
-    (least d c.args.certificate.now
-    (subst (λ (vs : List Version). AllByRecursion (λ v. v.rev.sub < 2 ^ 64) vs)
-    (c.deref.ensures.value ∙ ap (λ (d : Dump). d.versions) c.dump.view_is) c.are_places.ensures)
-    (passed d c.args.certificate.now c.deref-3.result.now
-    (moved (c.deref-2.ensures.value ∙ ap (λ (d : Dump). d.versions) c.dump.view_is) c.deref-3.ensures.value c.in-Ok.ensures.ok)
-    (subst (λ (claims : List Claim). walked d d.versions c.deref-3.result.now claims ≡ None)
-    (c.deref-4.ensures.value ∙ c.certificate.view_is) c.in-None.ensures))).needs
+places : (c : After-drop-nexts) → AllByRecursion (λ v. v.rev.sub < 2 ^ 64) c.args.dump.now.versions
+places c =
+    subst (λ (vs : List Version). AllByRecursion (λ v. v.rev.sub < 2 ^ 64) vs)
+    (c.deref.ensures.value ∙ ap (λ (d : Dump). d.versions) c.dump.view_is) c.are_places.ensures
 
-pub returns-clause-least : goal.returns-clause-least
-returns-clause-least c =
-    let d = c.args.dump.now in
-    (least d c.args.certificate.now
-    (subst (λ (vs : List Version). AllByRecursion (λ v. v.rev.sub < 2 ^ 64) vs)
-    (c.deref.ensures.value ∙ ap (λ (d : Dump). d.versions) c.dump.view_is) c.are_places.ensures)
-    (passed d c.args.certificate.now c.deref-3.result.now
-    (moved (c.deref-2.ensures.value ∙ ap (λ (d : Dump). d.versions) c.dump.view_is) c.deref-3.ensures.value c.in-Ok.ensures.ok)
-    (subst (λ (claims : List Claim). walked d d.versions c.deref-3.result.now claims ≡ None)
-    (c.deref-4.ensures.value ∙ c.certificate.view_is) c.in-None.ensures))).least
+pub returns-in-Ok-clause-passes : goal.returns-in-Ok-clause-passes
+returns-in-Ok-clause-passes c =
+    passed c.args.dump.now (first_fault c.args.dump.now c.args.certificate.now) c.judged.result (said c)
+
+pub returns-in-Ok-clause-needs : goal.returns-in-Ok-clause-needs
+returns-in-Ok-clause-needs c = needed c.args.dump.now c.args.certificate.now c.judged.result (places c) (said c)
+
+pub returns-in-Ok-clause-least : goal.returns-in-Ok-clause-least
+returns-in-Ok-clause-least c = fewest c.args.dump.now c.args.certificate.now c.judged.result (places c) (said c)
+
+pub returns-in-Ok-clause-first : goal.returns-in-Ok-clause-first
+returns-in-Ok-clause-first c = first c.args.dump.now c.args.certificate.now c.judged.result (said c)
+
+pub returns-in-Ok-clause-stands : goal.returns-in-Ok-clause-stands
+returns-in-Ok-clause-stands c =
+    all-there c.args.dump.now c.args.certificate.now c.judged.result
+    (first c.args.dump.now c.args.certificate.now c.judged.result (said c))

@@ -5,5 +5,5 @@ use Rattle.witness_core.proofs.making.make.Goals as goal
 
 pub returns : goal.returns
 returns c =
-    all-claimed (dump_of c.args.tables.now) c.loop-version.versions c.loop-version.claims.items c.in_default.ensures.0
+    all-claimed (dump_of c.args.view.now) c.loop-version.versions c.loop-version.claims.items c.in_default.ensures.0
     c.loop-version.invariant

@@ -5,8 +5,8 @@ use Rattle.witness_core.proofs.making.make.Given as goal
 
 abbrev pub invariant-loop-version : goal.invariant-loop-version
 invariant-loop-version l =
-    l.claims.items ++ filter_map (claim_of (dump_of l.fn.tables)) l.versions
-    ≡ filter_map (claim_of (dump_of l.fn.tables)) l.fn.tables.versions
+    l.claims.items ++ filter_map (claim_of (dump_of l.fn.view)) l.versions
+    ≡ filter_map (claim_of (dump_of l.fn.view)) l.fn.view.versions
 
 abbrev pub decreases-loop-version : goal.decreases-loop-version
 decreases-loop-version l = length l.versions

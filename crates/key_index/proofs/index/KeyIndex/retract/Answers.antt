@@ -1,16 +1,27 @@
--- Where the walk finds a later main revision nothing changes; where none was added there is none.
-use Rattle.std.proofs.Common.{◌≡◌, true, sym, ◌∙◌, ap}
-use Rattle.key_index.specs.Index.{is_up_to}
-use Rattle.key_index.proofs.Bounds.{bound-up_to, taken_back}
+-- Where a later main revision is there nothing changes; else what the keys of the changes have of this one goes.
+use Rattle.std.proofs.Common.{◌≡◌, true, false, sym, ◌∙◌, subst}
+use Rattle.key_index.specs.Agrees.{Agrees}
+use Rattle.key_index.specs.Index.{is_up_to, retracted_newest}
+use Rattle.key_index.proofs.Bounds.{taken_back}
+use Rattle.key_index.proofs.Retracting.{other-retracted, whole-agrees}
 use Rattle.key_index.proofs.index.KeyIndex.retract.Goals as goal
-use Rattle.key_index.proofs.index.KeyIndex.retract.Goals.{else-main-self-via-then-main-self+else-not-is_up_to, else-main-self-via-else-main-self}
 
-pub returns : goal.returns
-returns c =
-    let main = c.args.main in
-    let up_to : is_up_to main c.args.self.now ≡ true =
-    ap (is_up_to main) (sym c.self.view_is) ∙ elim c.else-main-self.branch [
-      | else-main-self-via-then-main-self+else-not-is_up_to w ↦ sym w.is_up_to.ensures ∙ w.if-not-is_up_to.false
-      | else-main-self-via-else-main-self w ↦ bound-up_to c.self.inside.newest main _ w.if-main-self.false c.self.invariant.1
-    ] in
-    c.take_back.ensures ∙ sym (taken_back main c.args.changes.now c.args.self.now up_to)
+pub returns-then-is_up_to-clause-value : goal.returns-then-is_up_to-clause-value
+returns-then-is_up_to-clause-value c =
+    c.take_back.ensures ∙ sym (taken_back c.args.main c.args.changes.now c.args.self.now (sym c.is_up_to.ensures ∙ c.if-is_up_to.true))
+
+pub returns-then-is_up_to-clause-whole : goal.returns-then-is_up_to-clause-whole
+returns-then-is_up_to-clause-whole c =
+    λ older h g a. subst (λ j. Agrees j older)
+    (sym (c.take_back.ensures ∙ sym (taken_back c.args.main c.args.changes.now c.args.self.now (sym c.is_up_to.ensures ∙ c.if-is_up_to.true))))
+    (whole-agrees c.args.main older c.args.changes.now c.args.self.now h g a)
+
+pub returns-else-is_up_to-clause-value : goal.returns-else-is_up_to-clause-value
+returns-else-is_up_to-clause-value c =
+    other-retracted c.args.main c.args.changes.now c.args.self.now (sym c.is_up_to.ensures ∙ c.if-is_up_to.false)
+
+pub returns-else-is_up_to-clause-whole : goal.returns-else-is_up_to-clause-whole
+returns-else-is_up_to-clause-whole c =
+    λ older h g a. subst (λ j. Agrees j older)
+    (sym (other-retracted c.args.main c.args.changes.now c.args.self.now (sym c.is_up_to.ensures ∙ c.if-is_up_to.false)))
+    (whole-agrees c.args.main older c.args.changes.now c.args.self.now h g a)

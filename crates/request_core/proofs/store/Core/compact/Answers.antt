@@ -3,7 +3,7 @@ use Rattle.std.specs.Int.{w64}
 use Rattle.std.proofs.lemmas.Int.{to_z-of_z}
 use Rattle.kv_model.specs.History.{value_now}
 use Rattle.store_laws.proofs.CompactLaws.{compact_within}
-use Rattle.lease_keys.specs.Holding.{Holds}
+use Rattle.lease_keys.specs.Holding.{AreJust}
 use Rattle.range_view.specs.Stored.{Stored}
 use Rattle.request_core.specs.State.{IsSound}
 use Rattle.request_core.proofs.Compacting.{compacted-sound}
@@ -16,5 +16,5 @@ invariant_of-self c =
     let within = compact_within c.compacted.result c.revision.result c.args.revision clear.0 in
     let past : c.in-Ok.floor ≤ t.revision = omega (arith, within.1, clear.1, c.revision.ensures.value) in (
       subst IsSound (sym c.compact.ensures) (compacted-sound t c.in-Ok.floor c.self.invariant.0 past),
-      subst (λ (u : Stored). Holds c.self.inside.keys (value_now u.versions)) (sym c.compact.ensures) c.self.invariant.1,
+      subst (λ (u : Stored). AreJust c.self.inside.keys (value_now u.versions)) (sym c.compact.ensures) c.self.invariant.1,
     )

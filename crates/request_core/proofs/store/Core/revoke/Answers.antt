@@ -1,11 +1,8 @@
-use Rattle.std.proofs.Common.{subst, ◌+◌, ◌≤◌, ◌^◌, sym, ◌∙◌, ap, length, rules}
+use Rattle.std.proofs.Common.{◌+◌, ◌≤◌, ◌^◌, ◌∙◌, ap, length, rules}
 use Rattle.std.proofs.lemmas.Int.{to_z-of_z}
 use Rattle.std.specs.Int.{w64}
-use Rattle.kv_model.specs.History.{value_now}
-use Rattle.lease_keys.specs.Holding.{AreNotUnder}
-use Rattle.request_core.specs.State.{CoreState, leased_in, with_any}
+use Rattle.request_core.specs.State.{leased_in}
 use Rattle.request_core.proofs.Kept.{some-tombstones-next, tombstones-length}
-use Rattle.request_core.proofs.Leased.{none-left, succeeded}
 use Rattle.request_core.proofs.store.Core.revoke.Goals as goal
 
 pub append_any-requires-clause-next : goal.append_any-requires-clause-next
@@ -22,10 +19,3 @@ returns-clause-counted g c =
     let s = c.args.self.now.store in
     let made = rw (to_z-of_z w64 c.args.id c.ranges.id) at c.in-Ok.ensures.made in
     c.len-deleted.ensures ∙ c.in-Ok.versions.ok.0 ∙ ap length made.1 ∙ tombstones-length (s.revision + 1) 0 (leased_in s c.args.id)
-
-pub take_lease-requires : goal.take_lease-requires
-take_lease-requires g c =
-    let s = c.args.self.now in
-    let made = rw (to_z-of_z w64 c.args.id c.ranges.id) at c.in-Ok.ensures.made in
-    rw (to_z-of_z w64 c.args.id c.ranges.id)
-    (subst (λ (u : CoreState). AreNotUnder c.args.id (value_now u.store.versions)) (sym (succeeded c.append_any.result _ (sym c.is_err.ensures.value ∙ c.if-is_err.false) c.append_any.ensures.ok ∙ ap (with_any s) made.1)) (none-left s c.args.id c.in-Ok.ensures.reached))

@@ -1,10 +1,10 @@
 use Rattle.std.proofs.Common.{sym, subst}
 use Rattle.kv_model.specs.History.{value_now}
-use Rattle.lease_keys.specs.Holding.{Holds}
+use Rattle.lease_keys.specs.Holding.{AreJust}
 use Rattle.range_view.specs.Stored.{Stored}
 use Rattle.trim_core.specs.Told.{told_of}
 use Rattle.request_core.specs.State.{IsSound}
-use Rattle.request_core.proofs.Trimming.{tables_leave, trimmed-holds, trimmed-sound}
+use Rattle.request_core.proofs.Trimming.{tables_leave, trimmed-just, trimmed-sound}
 use Rattle.request_core.proofs.store.Core.trim_tables.Goals as goal
 
 pub invariant_of-self : goal.invariant_of-self
@@ -13,8 +13,8 @@ invariant_of-self c =
     let sound = c.self.invariant.0 in
     let stored = c.trim_step.ensures.stored in (
       subst IsSound (sym c.trim_step.ensures.kept) (trimmed-sound t stored sound),
-      subst (λ (u : Stored). Holds c.self.inside.keys (value_now u.versions)) (sym c.trim_step.ensures.kept)
-          (trimmed-holds t c.self.inside.keys stored sound c.self.invariant.1),
+      subst (λ (u : Stored). AreJust c.self.inside.keys (value_now u.versions)) (sym c.trim_step.ensures.kept)
+          (trimmed-just t c.self.inside.keys stored sound c.self.invariant.1),
     )
 
 pub returns : goal.returns

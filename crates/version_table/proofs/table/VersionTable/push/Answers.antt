@@ -3,9 +3,9 @@ use Rattle.std.proofs.Common.{◌≡◌, ◌+◌, ◌++◌, ◌∷◌, [], List,
 use Rattle.std.proofs.lemmas.List.{length_push}
 use Rattle.kv_model.specs.declared.version.Version.{Version}
 use Rattle.store_laws.proofs.Rising.{rising-push}
-use Rattle.version_table.specs.Paged.{HaveVersions, flat}
+use Rattle.version_table.specs.Paged.{Fit, HaveVersions, flat}
 use Rattle.version_table.specs.Rising.{IsBehind, IsRising, rev_of}
-use Rattle.version_table.proofs.PageChanges.{flat-pushed, held-pushed}
+use Rattle.version_table.proofs.PageChanges.{fit-pushed, flat-pushed, held-pushed}
 use Rattle.version_table.proofs.table.VersionTable.push.Goals as goal
 
 pub invariant_of-self-2 : goal.invariant_of-self-2
@@ -18,6 +18,7 @@ invariant_of-self-2 c =
     record {
       rising = subst IsRising (sym whole) (rising-push rev_of (flat ps) v c.self.invariant.rising behind);
       held = subst HaveVersions (sym c.in_ok-push.ensures.ok) (held-pushed v ps c.self.invariant.held);
+      fit = subst Fit (sym c.in_ok-push.ensures.ok) (fit-pushed v ps c.self.invariant.fit);
       counted = omega (arith, longer, c.in-Some.ensures.1, c.self.invariant.counted);
     }
 
