@@ -11,16 +11,18 @@
 //!
 //! `etcd_one serve` answers HTTP/1.1 instead, at the address that it is given.
 //!
-//! What each command writes is told, and proved, in the crates below: the words of the command line
-//! and the server that they ask for in `command_line`, `replay` and `check` in `commands`. Here
-//! stand the program's words, its standard input and output, and its exit status.
+//! What each command does over any reader and writer is told, and proved, in the crates below:
+//! [`arguments`] and [`serve_on`], the words of the command line and the server that they ask for,
+//! in `command_line`, [`replay`] and [`check`] in `commands`. Here stand the program's words, its
+//! standard input and output, and its exit status.
 //!
-//! The tests stand in the crate `command_tests`; `tests/program` of the repository asks the program
+//! The tests stand in the crate `server_tests`; `tests/program` of the repository asks the program
 //! itself for its exit status and what it writes to standard error.
 #![tactic(auto)]
 
-use command_line::{Args, Serve, arguments, serve_on};
-use commands::{Fault, Verdict, check, fault_of_words, replay};
+pub use command_line::{Args, Serve, arguments, serve_on};
+use commands::fault_of_words;
+pub use commands::{Fault, Verdict, check, replay};
 use std::io::BufWriter;
 use std::net::{Net, TcpListener, TcpStream};
 use std::process::ExitCode;
