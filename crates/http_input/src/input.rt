@@ -1,5 +1,5 @@
 //! The requests of a connection, one after the other.
-ghost use Rattle.std.specs.Prelude.{◌≡◌, ◌+◌, ◌≤◌, [], length, drop, IfOk};
+ghost use Rattle.std.specs.Prelude.{◌≡◌, ◌+◌, ◌≤◌, [], length, drop, nat_eq, IfOk};
 ghost use Rattle.http_head.specs.Heads.{most_body, most_head};
 ghost use Rattle.http_reply.specs.Counts.{failures_of, inner_of, reads_of};
 ghost use Rattle.http_input.specs.Inputs.{Came, IsWhole, Tells, Took};
@@ -125,6 +125,13 @@ impl Input {
         ensures { self.new ≡ drop (head.len + head.body) self.old }
     {
         self.buffer.skip(head.len + head.body);
+    }
+
+    /// Whether no byte waits. Takes no memory.
+    pub fn is_empty(&self) -> bool
+        ensures { result ≡ nat_eq (length self.now) 0 }
+    {
+        self.len() == 0
     }
 
     /// Reads until there is a whole head; `None` where the input ends before a first byte.

@@ -1,5 +1,9 @@
--- How answering connections ends.
+-- How answering connections ends, and trimming.
 use Rattle.std.specs.Prelude.{⊤}
+use Rattle.trim_core.specs.declared.trimmer.Trim.{Trim}
+use Rattle.trim_core.specs.declared.trimmer.Trim.TheVariants as trim
+use Rattle.http_pool.specs.declared.threads.Trouble.{Trouble}
+use Rattle.http_pool.specs.declared.threads.Trouble.TheVariants as trouble
 use Rattle.http_reply.specs.declared.front.Front.{Front}
 use Rattle.http_reply.specs.declared.front.Front.TheVariants as front
 
@@ -17,3 +21,14 @@ IsOfConnection front.Spawn = ⊥
 IsOfConnection front.Accept = ⊥
 IsOfConnection front.Unclosed = ⊥
 IsOfConnection _ = ⊤
+
+-- what went wrong with a server, as the fault that it ends with
+abbrev pub fault_of : Trouble → Front
+fault_of trouble.Spawn = front.Spawn
+fault_of trouble.Accept = front.Accept
+fault_of trouble.Memory = front.Memory
+
+-- a trimming step that says that trimming is done
+abbrev pub IsDone : Trim → Type 0
+IsDone (trim.Done d) = ⊤
+IsDone _ = ⊥

@@ -1,5 +1,7 @@
 //! What goes on beside the connections: trimming, and leases that end.
-ghost use Rattle.std.specs.Prelude.{◌≤◌};
+ghost use Rattle.std.specs.Prelude.{◌≤◌, IfSome};
+ghost use Rattle.engine_lock.specs.Locked.{Trims};
+ghost use Rattle.http_pool.specs.Ends.{IsDone};
 
 use crate::gate::Clock;
 use engine_lock::{Client, Engine, EngineName, Feed};
@@ -25,24 +27,35 @@ pub(crate) fn keep_trimming<L: EngineName, F: Feed, R: Wait + time::Clock>(
         if ended.load(Ordering::SeqCst) {
             break;
         }
-        if is_done(rt, engine) {
+        if make_trim_step(rt, engine).is_some() {
             thread::sleep(rt, Duration::from_millis(TRIM_REST));
         }
     }
 }
 
-/// Makes a trimming step, and tells whether trimming is done, or the step was refused.
-fn is_done<L: EngineName, F: Feed, R: Wait>(rt: &R, engine: &Engine<L, F>) -> bool {
-    matches!(engine.trim_once(rt), Ok(Trim::Done(_)) | Err(_))
+/// Makes a trimming step, and tells of it where it says that trimming is done.
+fn make_trim_step<L: EngineName, F: Feed, R: Wait>(rt: &R, engine: &Engine<L, F>) -> Option<Trim>
+    ensures { IfSome result (λ trim. Trims trim × IsDone trim) }
+{
+    match engine.trim_once(rt) {
+        Ok(trim) => match trim {
+            Trim::Done(_) => Some(trim),
+            _ => None,
+        },
+        Err(_) => None,
+    }
 }
 
-/// Makes trimming steps until one says that trimming is done.
-pub(crate) fn trim_all<L: EngineName, F: Feed, R: Wait>(rt: &R, engine: &Engine<L, F>) {
+/// Makes trimming steps until one says that trimming is done, and tells of that one.
+pub(crate) fn trim_all<L: EngineName, F: Feed, R: Wait>(rt: &R, engine: &Engine<L, F>) -> Trim
+    ensures { Trims result × IsDone result }
+{
     for _ in rt.forever() {
-        if is_done(rt, engine) {
-            break;
+        if let Some(trim) = make_trim_step(rt, engine) {
+            return trim;
         }
     }
+    unreachable!()
 }
 
 /// Makes steps of expiry until the server has ended, and rests where one finds no lease that is
@@ -59,7 +72,7 @@ pub(crate) fn keep_expiring<L: EngineName, F: Feed, C: Clock, R: Wait + time::Cl
         if ended.load(Ordering::SeqCst) {
             break;
         }
-        if !expires(rt, engine, clock, &mut client) {
+        if !make_expiry_step(rt, engine, clock, &mut client) {
             thread::sleep(rt, Duration::from_millis(EXPIRY_REST));
         }
     }
@@ -67,7 +80,7 @@ pub(crate) fn keep_expiring<L: EngineName, F: Feed, C: Clock, R: Wait + time::Cl
 }
 
 /// Makes a step of expiry, and tells whether a lease has ended by it.
-fn expires<L: EngineName, F: Feed, C: Clock, R: Wait>(
+fn make_expiry_step<L: EngineName, F: Feed, C: Clock, R: Wait>(
     rt: &R,
     engine: &Engine<L, F>,
     clock: &C,

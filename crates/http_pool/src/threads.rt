@@ -1,7 +1,7 @@
 //! The threads of a server.
-ghost use Rattle.std.specs.Prelude.{◌≡◌, ◌+◌, map, sum, IfOk, IfErr};
+ghost use Rattle.std.specs.Prelude.{◌≡◌, ◌+◌, map, sum, length, None, Err, IfOk, IfErr, IfSome};
 ghost use Rattle.engine_lock.specs.Locked.{IsStanding};
-ghost use Rattle.http_pool.specs.Ends.{IsOfServer};
+ghost use Rattle.http_pool.specs.Ends.{IsOfServer, fault_of};
 
 use crate::background::{keep_expiring, keep_trimming};
 use crate::gate::{Clock, Gate};
@@ -24,6 +24,12 @@ use std::{thread, time};
 /// thread that trims; and one that ends leases. A worker accepts under a lock, which is free again
 /// before the connection is served. Once `connections` of them were accepted, at most 2^63 - 1, no
 /// further one is; the server ends when all of them have.
+///
+/// No client keeps a worker for nothing. A connection on which no byte of a next request has come
+/// for a second is closed, between requests, where another one waits and no worker is free. A watch
+/// whose client has ended its sending side ends within some 20 ms, and what its client sent after
+/// the request is thrown away. A write of which no byte is taken for 10 s fails, and ends the
+/// connection. A client that has begun a request, be it as slow as it will, keeps its own worker.
 ///
 /// Fails, when all threads have ended, with
 ///
@@ -79,7 +85,8 @@ enum Trouble {
 
 /// The same, as a fault.
 fn front_of(trouble: Trouble) -> Front
-    ensures { IsOfServer result }
+    ensures of_server { IsOfServer result }
+    ensures same { result ≡ fault_of trouble }
 {
     match trouble {
         Trouble::Spawn => Front::Spawn,
@@ -95,7 +102,8 @@ fn clients_of<L: EngineName, F: Feed, R: Wait>(
     engine: &Engine<L, F>,
     count: u64,
 ) -> Result<Vec<Client<L, F>>, Front>
-    ensures { IfErr result IsOfServer }
+    ensures count { IfOk result (λ clients. length clients.items ≡ count) }
+    ensures fault { IfErr result IsOfServer }
 {
     let mut clients = Vec::new(alloc);
     for _ in 0..count {
@@ -119,6 +127,7 @@ fn closed<L: EngineName, F: Feed>(
     ensures stands { IfOk result (λ core. IsStanding core) }
     ensures total { IfOk result
         (λ core. core.store.revision ≡ 1 + sum (map (λ c. c.made) clients.items)) }
+    ensures told { IfSome trouble (λ t. result ≡ Err (fault_of t)) }
     ensures fault { IfErr result IsOfServer }
 {
     match (engine.close(clients), trouble) {
@@ -303,6 +312,7 @@ where
     G: Gate + Sync + 's,
     C: Clock + Sync + 's,
     R: Wait + time::Clock + Sync + 's,
+    ensures all { result.1 ≡ None → length result.0.items ≡ length clients.items }
 {
     let mut working = Vec::new(alloc);
     let mut trouble = None;
@@ -334,14 +344,7 @@ where
     C: Clock + Sync + 's,
     R: Wait + time::Clock + Sync + 's,
 {
-    let engine = shared.engine;
-    let gate = shared.gate;
-    let clock = shared.clock;
-    let listener = shared.listener;
-    let door = &shared.door;
-    match scope.spawn(move || keep_working(
-        rt, alloc, engine, gate, clock, listener, door, client,
-    )) {
+    match scope.spawn(move || keep_working(rt, alloc, shared, client)) {
         Ok(handle) => Some(handle),
         Err(_) => None,
     }

@@ -3,7 +3,9 @@
 use crate::connection::work;
 use crate::door::Door;
 use crate::gate::{Clock, Gate};
-use engine_lock::{Client, Engine, EngineName, Feed};
+use crate::peer::{Coming, Going, Peer, PeerGate};
+use crate::shared::Shared;
+use engine_lock::{Client, EngineName, Feed};
 use http_reply::Counted;
 use std::alloc::Global;
 use std::net::{TcpListener, TcpStream};
@@ -22,11 +24,7 @@ pub(crate) struct Worked<L: EngineName, F: Feed> {
 pub(crate) fn keep_working<L, F, G, C, R>(
     rt: &R,
     alloc: Global,
-    engine: &Engine<L, F>,
-    gate: &G,
-    clock: &C,
-    listener: &TcpListener,
-    door: &Mutex<Door>,
+    shared: &Shared<'_, L, F, G, C>,
     client: Client<L, F>,
 ) -> Worked<L, F>
 where
@@ -38,9 +36,9 @@ where
 {
     let mut client = client;
     for _ in rt.forever() {
-        match next(rt, listener, door) {
+        match next(rt, shared.listener, &shared.door) {
             Ok(Some((call, stream))) => {
-                serve(rt, alloc, engine, &mut client, gate, clock, call, &stream);
+                serve(rt, alloc, shared, &mut client, call, &stream);
             }
             Ok(None) => {
                 return Worked {
@@ -72,10 +70,8 @@ fn next<R: Wait>(
 fn serve<L, F, G, C, R>(
     rt: &R,
     alloc: Global,
-    engine: &Engine<L, F>,
+    shared: &Shared<'_, L, F, G, C>,
     client: &mut Client<L, F>,
-    gate: &G,
-    clock: &C,
     call: u64,
     stream: &TcpStream,
 )
@@ -86,9 +82,22 @@ where
     C: Clock,
     R: Wait + time::Clock,
 {
-    // Without it a reply may wait for the peer to take note of the one before.
-    let _ = stream.set_nodelay(true);
-    let mut r = Counted::new(stream);
-    let mut w = Counted::new(stream);
-    let _ = work(rt, alloc, engine, client, gate, clock, call, &mut r, &mut w);
+    let peer = Peer::new(stream, shared.listener, &shared.door);
+    let gate = PeerGate {
+        gate: shared.gate,
+        peer: &peer,
+    };
+    let mut r = Counted::new(Coming { peer: &peer });
+    let mut w = Counted::new(Going { peer: &peer });
+    let _ = work(
+        rt,
+        alloc,
+        shared.engine,
+        client,
+        &gate,
+        shared.clock,
+        call,
+        &mut r,
+        &mut w,
+    );
 }

@@ -23,3 +23,5 @@ mod serving;
 mod streams;
 #[cfg(test)]
 mod texts;
+#[cfg(test)]
+mod trimmed;
