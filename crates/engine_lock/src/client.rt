@@ -4,7 +4,7 @@ ghost use Rattle.engine_lock.specs.Locked.{is_quiet, plus, told_to};
 ghost use Rattle.engine_lock.specs.declared.past.Given.TheVariants as given;
 
 use crate::opening::{EngineName, Feed};
-use crate::past::{Entry, Past};
+use crate::past::{Entry, Past, add, nothing};
 use json_gateway::{Expiry, Message, Outcome, Refusal, Trim};
 use kv_model::call::Command;
 use std::alloc::AllocError;
@@ -19,7 +19,7 @@ use std::sync::ledger::Share;
 pub struct Client<L: EngineName, F: Feed> {
     pub(crate) share: Share<L>,
     pub(crate) made: u64,
-    pub(crate) past: Past,
+    pub(crate) past: Snapshot<Past>,
     pub(crate) feed: PhantomData<F>,
 }
 
@@ -34,7 +34,7 @@ impl<L: EngineName, F: Feed> Model for Client<L, F> {
     ghost coded = { code_by _ (coded× coded_ℕ (coded_list given.the_row.coded)) (λ c. (c.made, c.given))
         (λ p. record { made = p.0; given = p.1 }) (λ _. refl) };
 
-    ghost view = { λ c. record { made = c.made; given = c.past } };
+    ghost view = { λ c. record { made = c.made; given = c.past.value } };
 
     ghost invariant = { λ c. (c.share.parts ≡ 1) × (c.made ≡ c.share.amount) };
 }
@@ -50,7 +50,7 @@ impl<L: EngineName, F: Feed> Client<L, F> {
         Client {
             share,
             made: 0,
-            past: Past::new(),
+            past: nothing(),
             feed: PhantomData,
         }
     }
@@ -67,11 +67,14 @@ impl<L: EngineName, F: Feed> Client<L, F> {
     pub(crate) fn note_done(&mut self, command: &Command, now: u64, outcome: &Outcome)
         ensures { self.new ≡ plus self.old (given.Done command.now now outcome.now) }
     {
-        self.past.add(Entry::Done(
-            Snapshot::of(command),
-            Snapshot::of(&now),
-            Snapshot::of(outcome),
-        ));
+        add(
+            &mut self.past,
+            Entry::Done(
+                Snapshot::of(command),
+                Snapshot::of(&now),
+                Snapshot::of(outcome),
+            ),
+        );
     }
 
     /// It was given what a delivery came to. Does nothing.
@@ -80,8 +83,10 @@ impl<L: EngineName, F: Feed> Client<L, F> {
     {
         if let Ok(message) = told {
             if !tells_nothing(message) {
-                self.past
-                    .add(Entry::Told(Snapshot::of(&number), Snapshot::of(message)));
+                add(
+                    &mut self.past,
+                    Entry::Told(Snapshot::of(&number), Snapshot::of(message)),
+                );
             }
         }
     }
@@ -90,22 +95,27 @@ impl<L: EngineName, F: Feed> Client<L, F> {
     pub(crate) fn note_dropped(&mut self, number: u64, stood: bool)
         ensures { self.new ≡ plus self.old (given.Dropped number stood) }
     {
-        self.past.add(Entry::Dropped(Snapshot::of(&number), Snapshot::of(&stood)));
+        add(
+            &mut self.past,
+            Entry::Dropped(Snapshot::of(&number), Snapshot::of(&stood)),
+        );
     }
 
     /// It had a trimming step made. Does nothing.
     pub(crate) fn note_trimmed(&mut self, step: &Trim)
         ensures { self.new ≡ plus self.old (given.Trimmed step.now) }
     {
-        self.past.add(Entry::Trimmed(Snapshot::of(step)));
+        add(&mut self.past, Entry::Trimmed(Snapshot::of(step)));
     }
 
     /// It had a step of expiry made. Does nothing.
     pub(crate) fn note_expired(&mut self, now: u64, step: &Result<Expiry, Refusal>)
         ensures { self.new ≡ plus self.old (given.Expired now step.now) }
     {
-        self.past
-            .add(Entry::Expired(Snapshot::of(&now), Snapshot::of(step)));
+        add(
+            &mut self.past,
+            Entry::Expired(Snapshot::of(&now), Snapshot::of(step)),
+        );
     }
 }
 

@@ -5,6 +5,7 @@ ghost use Rattle.engine_lock.specs.Pasts.{as_given};
 use json_gateway::{Expiry, Message, Outcome, Refusal, Trim};
 use kv_model::call::Command;
 use std::marker::Model;
+use std::mem;
 use std::snapshot::Snapshot;
 
 /// One thing that an engine gave a client. It is what clauses name: no value of it is made.
@@ -79,23 +80,21 @@ impl Model for Past {
     ghost size_decreases = { λ a h. Prim.grind (arith, length-append) };
 }
 
-impl Past {
-    /// Nothing was given yet.
-    pub(crate) fn new() -> Self
-        ensures { result ≡ [] }
-    {
-        Past {
-            last: Last::Nothing,
-        }
-    }
+/// Nothing was given yet.
+pub(crate) fn nothing() -> Snapshot<Past>
+    ensures { result.value ≡ [] }
+{
+    Snapshot::of(&Past {
+        last: Last::Nothing,
+    })
+}
 
-    /// This was given, too.
-    pub(crate) fn add(&mut self, entry: Entry)
-        ensures { self.new ≡ self.old ++ as_given entry ∷ [] }
-    {
-        let before = Snapshot::of(self);
-        *self = Past {
-            last: Last::After(before, entry),
-        };
-    }
+/// This was given, too.
+pub(crate) fn add(past: &mut Snapshot<Past>, entry: Entry)
+    ensures { past.new.value ≡ past.old.value ++ as_given entry ∷ [] }
+{
+    let before = mem::replace(past, nothing());
+    *past = Snapshot::of(&Past {
+        last: Last::After(before, entry),
+    });
 }

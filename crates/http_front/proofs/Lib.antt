@@ -1,7 +1,7 @@
 pub mod Chunks
 pub mod Conns
-pub mod Declined
+pub mod OneWay
 pub mod Rests
 pub mod Texts
-pub mod Told
 pub mod Turns
+pub mod Worlds

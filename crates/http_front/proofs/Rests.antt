@@ -115,3 +115,15 @@ module _ (ids : Ids) (w : World) (n : ℕ) (sound : IsSound w) where
                   let there : watch_at (advanced (versions w) n w.watches) n ≡ Some (record x { next = last_revision (undelivered (versions w) x) + 1 })
                   = went (versions w) n w.watches x is in
                   rw (there, l, u) (omega (arith, begins, h.0.0, h.0.1))
+
+-- and never more than the revision that stands, and one
+pub rest_most : (w : World) (n : ℕ) → rest w n ≤ revision w + 1
+rest_most w n = by (watch_at w.watches n)
+  where
+    by : (o : Option Watch) → rest_of (revision w) o ≤ revision w + 1
+    by None = omega arith
+    by (Some x) = late x.late
+      where
+        late : (b : Bool) → cond b 1 ((revision w + 1) - x.next) ≤ revision w + 1
+        late true = omega arith
+        late false = omega arith

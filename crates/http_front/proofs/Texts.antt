@@ -1,18 +1,45 @@
 -- A text that was written, or not to its end.
-use Rattle.std.proofs.Common.{◌≡◌, ◌<◌, ℕ, arith, List, [], length, take, Bool, true, false, Option, Result, Ok, Err, refl, ap, ◌∙◌}
+use Rattle.std.proofs.Common.{◌≡◌, ◌<◌, ℕ, arith, List, [], ◌++◌, length, take, Bool, true, false, Option, None, Some, Result, Ok, Err, refl, sym, ap, ◌∙◌, append_assoc}
 use Rattle.std.specs.Prelude.{IfErr}
 use Rattle.std.specs.Io.KnownBytes.{Appends}
+use Rattle.std.proofs.lemmas.List.{append-nil}
 use Rattle.http_reply.specs.declared.front.Front.{Front}
 use Rattle.http_reply.specs.declared.front.Front.TheVariants as front
 use Rattle.http_reply.specs.Replies.{refusal_bytes}
 use Rattle.http_reply.specs.Sends.{Sends, failures_after}
 use Rattle.http_input.specs.Inputs.{failures_after_read}
-use Rattle.http_front.specs.declared.serving.Turn.{Turn}
-use Rattle.http_front.specs.Connections.{IsSent, end_of}
-use Rattle.http_front.specs.Served.{Declines, IsOfWriting, Writes, turn_of}
+use Rattle.http_front.specs.declared.writing.Turn.{Turn}
+use Rattle.http_front.specs.Texts.{Declines, Grows, IsOfWriting, IsSent, Writes, end_of, turn_of}
+
+-- ---- any bytes
+
+pub wrote_none : (c : Option (List ℕ)) → Appends c c []
+wrote_none None = tt
+wrote_none (Some xs) = sym (append-nil xs)
+
+pub wrote_more : (a b c : Option (List ℕ)) (x y : List ℕ) → Appends a b x → Appends b c y → Appends a c (x ++ y)
+wrote_more None b c x y h k = tt
+wrote_more (Some s) None c x y h k = absurd h
+wrote_more (Some s) (Some t) None x y h k = k
+wrote_more (Some s) (Some t) (Some u) x y h k = k ∙ ap (λ l. l ++ y) h ∙ append_assoc s x y
+
+pub by_none : (c : Option (List ℕ)) (Are : List ℕ → Type 0) → Are [] → Grows c c Are
+by_none c Are h = record { out = []; wrote = wrote_none c; are = h }
+
+pub by_both : (a b c : Option (List ℕ)) (P Q R : List ℕ → Type 0) → ((x y : List ℕ) → P x → Q y → R (x ++ y)) → Grows a b P → Grows b c Q → Grows a c R
+by_both a b c P Q R k g h = record {
+  out = g.out ++ h.out;
+  wrote = wrote_more a b c g.out h.out g.wrote h.wrote;
+  are = k g.out h.out g.are h.are;
+}
+
+pub seen_as : (a b : Option (List ℕ)) (P Q : List ℕ → Type 0) → ((x : List ℕ) → P x → Q x) → Grows a b P → Grows a b Q
+seen_as a b P Q k g = record { out = g.out; wrote = g.wrote; are = k g.out g.are }
+
+-- ---- one text
 
 pub sent_whole : (close : Bool) (text : List ℕ) (c c' : Option (List ℕ)) → Appends c c' text → Writes close text c c' (Ok close)
-sent_whole close text c c' h = record { out = text; wrote = h; sent = (refl, refl) }
+sent_whole close text c c' h = record { out = text; wrote = h; are = (refl, refl) }
 
 module _ (T A B : Type 0) (close : Bool) (text : List ℕ) (c c' : Option (List ℕ)) where
   pub sent_part : (f : Front) → Sends {T = T} (Err f) c c' text → (f ≡ front.Memory → A × B × (1024 < length text)) → Writes close text c c' (Err f)
@@ -21,8 +48,8 @@ module _ (T A B : Type 0) (close : Bool) (text : List ℕ) (c c' : Option (List 
   sent_part front.TooLong h m = absurd h
   sent_part front.Read h m = absurd h
   sent_part front.End h m = absurd h
-  sent_part front.Memory h m = record { out = []; wrote = h; sent = ((m refl).2, refl) }
-  sent_part (front.Write n) h m = record { out = take n text; wrote = h.1; sent = (h.0, refl) }
+  sent_part front.Memory h m = record { out = []; wrote = h; are = ((m refl).2, refl) }
+  sent_part (front.Write n) h m = record { out = take n text; wrote = h.1; are = (h.0, refl) }
   sent_part front.Spawn h m = absurd h
   sent_part front.Accept h m = absurd h
   sent_part front.Unclosed h m = absurd h
@@ -45,7 +72,7 @@ silent text out x (Err front.Unclosed) e h = absurd h
 
 pub by_writing : (f : Front) (c c' : Option (List ℕ)) (m m' : ℕ) (r : Result Bool Front) → Writes true (refusal_bytes f) c c' r → m' ≡ failures_after r m
     → Declines f c c' m m' (end_of f r)
-by_writing f c c' m m' r w e = record { out = w.out; sending = r; wrote = w.wrote; sent = w.sent; failed = e; ends = refl }
+by_writing f c c' m m' r w e = record { out = w.out; sending = r; wrote = w.wrote; sent = w.are; failed = e; ends = refl }
 
 -- ---- what writing ends with
 
@@ -63,7 +90,7 @@ of_sent close text out (Err front.Accept) h = absurd h
 of_sent close text out (Err front.Unclosed) h = absurd h
 
 pub of_writing : (close : Bool) (text : List ℕ) (c c' : Option (List ℕ)) (r : Result Bool Front) → Writes close text c c' r → IfErr r IsOfWriting
-of_writing close text c c' r w = of_sent close text w.out r w.sent
+of_writing close text c c' r w = of_sent close text w.out r w.are
 
 -- no read failed of it
 pub reads_asked : (r : Result Bool Front) (t : Result Turn Front) (n : ℕ) → t ≡ turn_of r → IfErr r IsOfWriting → failures_after_read t n ≡ n

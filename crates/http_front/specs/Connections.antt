@@ -15,22 +15,13 @@ use Rattle.http_head.specs.Heads.{Fault, Names, bad_head, bad_length, too_long, 
 use Rattle.http_head.specs.Requests.{Asked, IsCut, ReadsAsked, path_of}
 use Rattle.http_reply.specs.declared.front.Front.{Front}
 use Rattle.http_reply.specs.declared.front.Front.TheVariants as front
+use Rattle.http_front.specs.Texts.{IsSent, end_of, front_of, replies_more}
 use Rattle.http_reply.specs.Replies.{chunk, last_chunk, refusal_bytes, reply_bytes, stream_head}
 
 -- the whole history, and what is kept of it
 pub record Standing : Type 0 where
   pub world : World
   pub keeping : Keeping
-
--- ---- texts
-
--- what goes out of a text: all of it, and then the connection is closed or not; or exactly the counted beginning, where
--- a write failed; or nothing, where no memory was found to lay it out, which a text of at most 1,024 bytes never wants
-abbrev pub IsSent : Bool → List ℕ → List ℕ → Result Bool Front → Type 0
-IsSent close text out (Ok b) = (b ≡ close) × (out ≡ text)
-IsSent close text out (Err (front.Write n)) = (n < length text) × (out ≡ take n text)
-IsSent close text out (Err front.Memory) = (1024 < length text) × (out ≡ [])
-IsSent close text out (Err _) = ⊥
 
 -- ---- one request
 
@@ -108,21 +99,6 @@ pub data IsAnswered (ids : Ids) (s : Standing) (a : Asked) : List ℕ → Standi
       → IsStream ids n (response_of o).body t out u r → IsAnswered ids s a out (dropped (Some n) u) r
 
 -- ---- a connection
-
-abbrev pub front_of : Fault → Front
-front_of bad_head = front.Head
-front_of bad_length = front.Length
-front_of too_long = front.TooLong
-
--- a refusal ends the connection with its fault, or with what cut its reply
-abbrev pub end_of : Front → Result Bool Front → Front
-end_of f (Ok b) = f
-end_of f (Err e) = e
-
--- so many replies more
-abbrev pub replies_more : ℕ → Result ℕ Front → Result ℕ Front
-replies_more n (Ok m) = Ok (n + m)
-replies_more n (Err f) = Err f
 
 -- From what stands, these bytes and so many requests at most: what is written, what stands then, and the number of
 -- replies, or why there are no more.

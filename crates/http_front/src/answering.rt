@@ -1,81 +1,50 @@
-//! What a request asks, and how its outcome is written.
-ghost use Rattle.std.specs.Prelude.{◌≡◌, true};
+//! Who answers the requests of a connection.
+ghost use Rattle.std.specs.Prelude.{◌≡◌, ℕ, Option};
+ghost use Rattle.http_head.specs.Requests.{Asked};
 ghost use Rattle.http_input.specs.Inputs.{request_view};
-ghost use Rattle.http_reply.specs.Counts.{failures_of, inner_of};
-ghost use Rattle.http_reply.specs.Replies.{refusal_bytes, reply_bytes};
-ghost use Rattle.http_reply.specs.Sends.{failures_after};
-ghost use Rattle.json_gateway.specs.Outcomes.{wire_response};
-ghost use Rattle.http_front.specs.Connections.{path_asked};
-ghost use Rattle.http_front.specs.Served.{Declines, Writes};
+ghost use Rattle.json_gateway.specs.declared.outcome.Outcome.{Outcome as OutcomeOf};
 
-use http_head::path_of;
 use http_input::Request;
-use http_reply::{Counted, Front, ReplyBuffer, write_refusal, write_reply};
-use json_gateway::Settled;
-use std::io::Write;
+use json_gateway::Outcome;
+use std::alloc::Global;
 
-/// The path of the command that a request asks for (RFC 9110, section 9.3.3): that of its target,
-/// up to a `?`, where its method is POST. Another method asks for none, and the path is empty.
-/// Takes no memory.
-pub fn command_path<'b>(request: &Request<'b>) -> &'b [u8]
-    ensures { result.now ≡ path_asked (request_view request.now) }
-{
-    if request.method == b"POST".as_slice() {
-        path_of(request.target)
-    } else {
-        b""
-    }
+/// What the stream of a watch is told next.
+#[derive(Debug, Drop)]
+pub enum Told {
+    /// The bytes of a JSON text.
+    Text(Vec<u8>),
+    /// No further text comes: the stream ends in order.
+    End,
+    /// No memory was found for the text: the stream is cut.
+    Memory,
 }
 
-/// Writes the reply to a request that ended so, and says whether the connection is closed after it,
-/// as `close` does. Want of memory and a lost answer have the texts of status 500.
+ghost use Rattle.http_front.specs.declared.answering.Told.{Told as ToldOf};
+
+/// Answers the requests of a connection: a store by itself, or an engine that others change too.
 ///
-/// Fails as `http_reply::write_reply` does: with `Front::Memory` where the reply is longer than the
-/// buffer and no memory was found for it, and then nothing is written; with `Front::Write` where a
-/// write failed or took nothing, with the number of bytes that went out, exactly that long a
-/// beginning of the reply. The body is copied once, and the reply is one write where the writer
-/// takes it whole.
-pub fn write_settled<W: Write>(
-    buffer: &mut ReplyBuffer,
-    w: &mut Counted<W>,
-    settled: &Settled,
-    close: bool,
-) -> Result<bool, Front>
-    ensures writes { Writes close (reply_bytes (wire_response settled.now) close)
-        (W.contents (inner_of w.old)) (W.contents (inner_of w.new)) result }
-    ensures failures { failures_of w.new ≡ failures_after result (failures_of w.old) }
-{
-    let (status, body) = settled.wire();
-    match write_reply(buffer, w, status, body, close) {
-        Ok(()) => Ok(close),
-        Err(front) => Err(front),
-    }
-}
+/// What each call comes to is told by a relation between what stood before and what stands after
+/// it. The loop over a connection rests on no more: it calls [`answer`](Answering::answer) once for
+/// each request that it reads, in their order, [`tell`](Answering::tell) for each message of a
+/// stream, and [`finish`](Answering::finish) once behind each reply.
+pub trait Answering {
+    /// What a request comes to: its outcome.
+    ghost Answers: { Self → Asked → OutcomeOf → Self → Type 0 };
+    /// What the stream of the watch of a number is told next.
+    ghost Tells: { Self → ℕ → ToldOf → Self → Type 0 };
+    /// What the end of a reply comes to, of whose request this watch was made.
+    ghost Finishes: { Self → Option ℕ → Self → Type 0 };
 
-/// Writes the reply that tells why a request is not read, where there is one, and gives why the
-/// connection ends: the same, or why that reply was not written to its end.
-pub fn decline<W: Write>(buffer: &mut ReplyBuffer, w: &mut Counted<W>, front: Front) -> Front
-    ensures { Declines front (W.contents (inner_of w.old)) (W.contents (inner_of w.new))
-        (failures_of w.old) (failures_of w.new) result }
-{
-    match refuse(buffer, w, front) {
-        Ok(_) => front,
-        Err(cut) => cut,
-    }
-}
+    /// Does what a request asks, with all that its answer waits for.
+    fn answer(&mut self, alloc: Global, request: &Request<'_>) -> Outcome
+        ensures { Answers self.old (request_view request.now) result self.new };
 
-/// Writes that reply.
-fn refuse<W: Write>(
-    buffer: &mut ReplyBuffer,
-    w: &mut Counted<W>,
-    front: Front,
-) -> Result<bool, Front>
-    ensures writes { Writes true (refusal_bytes front)
-        (W.contents (inner_of w.old)) (W.contents (inner_of w.new)) result }
-    ensures failures { failures_of w.new ≡ failures_after result (failures_of w.old) }
-{
-    match write_refusal(buffer, w, front) {
-        Ok(()) => Ok(true),
-        Err(front) => Err(front),
-    }
+    /// The next message of the watch of a number; where none is there yet, it may be waited for.
+    fn tell(&mut self, alloc: Global, number: u64) -> Told
+        ensures { Tells self.old number result self.new };
+
+    /// Comes behind each reply, whole or not, with the watch that its request made: the watch is
+    /// dropped.
+    fn finish(&mut self, watch: Option<u64>)
+        ensures { Finishes self.old watch self.new };
 }

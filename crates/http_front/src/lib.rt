@@ -1,10 +1,16 @@
-//! A connection of HTTP/1.1 and the store that answers it: from the bytes that come to the bytes
-//! that go (RFC 9112), over a core of `request_core`.
+//! A connection of HTTP/1.1 and whoever answers it: from the bytes that come to the bytes that go
+//! (RFC 9112).
 //!
-//! The one contract is that of [`serve_alone`]: what is written is what the model of the whole
-//! history answers the bytes that were read, however the reads cut them, and the core then stands
-//! for the model's world (`Conn` in `specs/Connections.antt`). It says so too where a read, a write
-//! or memory failed: which replies went out, and of which text exactly how long a beginning.
+//! The loop over a connection stands once, in [`serve_all`], over a trait, [`Answering`]: each
+//! request that is read is answered once, and what is written is the text of that answer, in the
+//! requests' order, and nothing besides (`Conn` in `specs/Answered.antt`). It says so too where a
+//! read, a write or memory failed: which replies went out, and of which text exactly how long a
+//! beginning.
+//!
+//! A core of `request_core` is one who answers. Over it the loop is [`serve_alone`]: what is
+//! written is what the model of the whole history answers the bytes that were read, however the
+//! reads cut them, and the core then stands for the model's world (`Conn` in
+//! `specs/Connections.antt`; `proofs/Worlds.antt` leads from the one `Conn` to the other).
 //!
 //! For example, on a fresh store, where `H` is the header with revision 2:
 //!
@@ -17,15 +23,17 @@
 //! POST /v3/kv/put, Content-Length: 1x                HTTP/1.1 400 Bad Request, and it is closed
 //! ```
 //!
-//! A server with threads takes [`command_path`], [`write_settled`], [`decline`] and [`turn_after`]
-//! for itself.
-//!
 //! The tests stand in the crate `server_tests`, in `src/rows.rt`.
 #![tactic(auto)]
 
+mod alone;
 mod answering;
+pub mod laws;
 mod serving;
 mod streaming;
+mod writing;
 
-pub use answering::{command_path, decline, write_settled};
-pub use serving::{Turn, serve_alone, turn_after};
+pub use alone::serve_alone;
+pub use answering::{Answering, Told};
+pub use serving::serve_all;
+pub use writing::{Turn, command_path, decline, turn_after, write_settled};

@@ -1,40 +1,30 @@
-//! A connection over a core.
-ghost use Rattle.std.specs.Prelude.{◌≡◌, ◌⊎◌, [], IfErr};
-ghost use Rattle.http_input.specs.Inputs.{failures_after_read, request_view};
+//! The loop over a connection, over whoever answers it.
+ghost use Rattle.std.specs.Prelude.{◌≡◌, ◌+◌, ◌⊎◌, [], drop, IfErr};
+ghost use Rattle.http_input.specs.Inputs.{IsWhole, failures_after_read, request_view};
 ghost use Rattle.http_reply.specs.Counts.{failures_of, inner_of};
 ghost use Rattle.http_reply.specs.Sends.{failures_after};
-ghost use Rattle.http_front.specs.Connections.{Standing};
-ghost use Rattle.http_front.specs.Served.{Does, IsOfWriting, IsTold, NotBegun, ServesOf, Stands};
-ghost use Rattle.http_front.specs.Served.{Turns, ids_alone, turn_of};
+ghost use Rattle.http_front.specs.Answered.{IsAnswered, IsTold, streamed};
+ghost use Rattle.http_front.specs.Texts.{Grows, IsOfConnection, IsOfWriting};
+ghost use Rattle.http_front.specs.Turned.{NotBegun, Serves, Turns};
 
-use crate::answering::{command_path, decline, write_settled};
+use crate::answering::Answering;
 use crate::streaming::stream;
+use crate::writing::{Turn, decline, turn_after, write_settled};
+use http_head::Head;
 use http_input::{Input, Request};
 use http_reply::{Counted, Front, ReplyBuffer};
-use json_gateway::{Ids, Outcome, Settled, post_and_trim};
-use request_core::store::Core;
+use json_gateway::{Outcome, Settled};
 use std::alloc::Global;
 use std::io::{Read, Write};
 
-/// Where a connection stands after a turn.
-#[derive(Clone, Copy, Debug, PartialEq, Eq)]
-pub enum Turn {
-    /// A request was answered, and the connection stays open.
-    More,
-    /// A request was answered, and the connection is closed.
-    Last,
-    /// The input has ended before a first byte.
-    End,
-}
-
 /// Answers the requests of a connection (RFC 9112), at most `limit` of them, one after the other,
-/// as member 1 of cluster 1, and gives the number of replies: where the input ended before a first
-/// byte of a request, at the limit, or after a reply that closes the connection.
+/// and gives the number of replies: where the input ended before a first byte of a request, at the
+/// limit, or after a reply that closes the connection.
 ///
-/// A watch is answered by a stream (RFC 9112, section 7.1): its created message, its messages until
-/// a delivery tells nothing or cancels it, and the last chunk; that ends the connection. Whatever
-/// way out there is, the watch is dropped. A Compact that is `physical` is answered once trimming
-/// is done.
+/// Each request that is read is answered by `by` once, and what is written is the text of that
+/// answer, in the requests' order, and nothing besides. A watch is answered by a stream (RFC 9112,
+/// section 7.1): its created message, what `by` tells of it, and the last chunk; that ends the
+/// connection. `by` is told of the end of each reply.
 ///
 /// It fails with the first of these that comes, after which no further byte is written:
 ///
@@ -48,18 +38,18 @@ pub enum Turn {
 ///   reply it was is done.
 ///
 /// A request that comes whole in one read costs one read and one write, and its body is not copied
-/// before it is parsed.
-pub fn serve_alone<R: Read, W: Write>(
+/// before it is answered.
+pub fn serve_all<A: Answering, R: Read, W: Write>(
     alloc: Global,
-    core: &mut Core,
+    by: &mut A,
     r: &mut Counted<R>,
     w: &mut Counted<W>,
     limit: u64,
 ) -> Result<u64, Front>
-    ensures serves { (s : Standing) → Stands core.old s
-        → NotBegun core.old core.new (W.contents (inner_of w.old)) (W.contents (inner_of w.new)) result
-        ⊎ ServesOf ids_alone s (R.remaining (inner_of r.old)) [] limit
-        (W.contents (inner_of w.old)) core.new (W.contents (inner_of w.new)) result }
+    ensures serves { NotBegun by.old by.new (W.contents (inner_of w.old)) (W.contents (inner_of w.new)) result
+        ⊎ Serves A (IsAnswered A A.Answers A.Tells A.Finishes) (R.remaining (inner_of r.old)) [] limit
+        (W.contents (inner_of w.old)) (W.contents (inner_of w.new)) by.old by.new result }
+    ensures ends { IfErr result IsOfConnection }
     ensures reads { failures_of r.new ≡ failures_after_read result (failures_of r.old) }
     ensures writes { failures_of w.new ≡ failures_after result (failures_of w.old) }
 {
@@ -69,32 +59,28 @@ pub fn serve_alone<R: Read, W: Write>(
     let Ok(mut buffer) = ReplyBuffer::new(alloc) else {
         return Err(Front::Memory);
     };
-    serve(alloc, core, &mut input, &mut buffer, r, w, limit)
+    serve(alloc, by, &mut input, &mut buffer, r, w, limit)
 }
 
 /// The same, with the buffers that it takes.
-fn serve<R: Read, W: Write>(
+fn serve<A: Answering, R: Read, W: Write>(
     alloc: Global,
-    core: &mut Core,
+    by: &mut A,
     input: &mut Input,
     buffer: &mut ReplyBuffer,
     r: &mut Counted<R>,
     w: &mut Counted<W>,
     limit: u64,
 ) -> Result<u64, Front>
-    ensures serves { (s : Standing) → Stands core.old s
-        → ServesOf ids_alone s (R.remaining (inner_of r.old)) input.old limit
-        (W.contents (inner_of w.old)) core.new (W.contents (inner_of w.new)) result }
+    ensures serves { Serves A (IsAnswered A A.Answers A.Tells A.Finishes) (R.remaining (inner_of r.old)) input.old limit
+        (W.contents (inner_of w.old)) (W.contents (inner_of w.new)) by.old by.new result }
+    ensures ends { IfErr result IsOfConnection }
     ensures reads { failures_of r.new ≡ failures_after_read result (failures_of r.old) }
     ensures writes { failures_of w.new ≡ failures_after result (failures_of w.old) }
 {
-    let ids = Ids {
-        cluster: 1,
-        member: 1,
-    };
     let mut count = 0;
     while count < limit {
-        match take_turn(alloc, core, input, buffer, r, w, &ids) {
+        match take_turn(alloc, by, input, buffer, r, w) {
             Ok(Turn::More) => count += 1,
             Ok(Turn::Last) => return Ok(count + 1),
             Ok(Turn::End) => return Ok(count),
@@ -105,25 +91,25 @@ fn serve<R: Read, W: Write>(
 }
 
 /// One request, read and answered.
-fn take_turn<R: Read, W: Write>(
+fn take_turn<A: Answering, R: Read, W: Write>(
     alloc: Global,
-    core: &mut Core,
+    by: &mut A,
     input: &mut Input,
     buffer: &mut ReplyBuffer,
     r: &mut Counted<R>,
     w: &mut Counted<W>,
-    ids: &Ids,
 ) -> Result<Turn, Front>
-    ensures turns { (s : Standing) → Stands core.old s
-        → Turns ids.now s (R.remaining (inner_of r.old)) (R.remaining (inner_of r.new)) input.old input.new
-        (W.contents (inner_of w.old)) core.new (W.contents (inner_of w.new)) result }
+    ensures turns { Turns A (IsAnswered A A.Answers A.Tells A.Finishes)
+        (R.remaining (inner_of r.old)) (R.remaining (inner_of r.new)) input.old input.new
+        (W.contents (inner_of w.old)) (W.contents (inner_of w.new)) by.old by.new result }
+    ensures ends { IfErr result IsOfConnection }
     ensures reads { failures_of r.new ≡ failures_after_read result (failures_of r.old) }
     ensures writes { failures_of w.new ≡ failures_after result (failures_of w.old) }
 {
     match input.next_request(r) {
         Ok(Some(head)) => {
-            let answered = answer(alloc, core, &input.request(head), buffer, w, ids);
-            input.skip(head);
+            let answered = answer(alloc, by, &input.request(head), buffer, w);
+            pass(input, head);
             turn_after(answered)
         }
         Ok(None) => Ok(Turn::End),
@@ -131,74 +117,52 @@ fn take_turn<R: Read, W: Write>(
     }
 }
 
-/// Where a connection stands after a request that was answered so: `true` tells that it is closed.
-/// `Err` is the front that it was given.
-pub fn turn_after(answered: Result<bool, Front>) -> Result<Turn, Front>
-    ensures { result ≡ turn_of answered }
+/// Lets a request go that was answered: the bytes after it are the next one's.
+fn pass(input: &mut Input, head: Head)
+    requires { IsWhole input.old head }
+    ensures { input.new ≡ drop (head.len + head.body) input.old }
 {
-    match answered {
-        Ok(true) => Ok(Turn::Last),
-        Ok(false) => Ok(Turn::More),
-        Err(front) => Err(front),
-    }
+    input.skip(head);
 }
 
-/// Does what a request asks, and writes what it is answered: whether the connection is then closed.
-/// A watch that it made is dropped.
-fn answer<W: Write>(
+/// Has a request answered, and writes what it is answered: whether the connection is then closed.
+fn answer<A: Answering, W: Write>(
     alloc: Global,
-    core: &mut Core,
+    by: &mut A,
     request: &Request<'_>,
     buffer: &mut ReplyBuffer,
     w: &mut Counted<W>,
-    ids: &Ids,
 ) -> Result<bool, Front>
-    ensures does { (s : Standing) → Stands core.old s → Does ids.now s (request_view request.now)
-        (W.contents (inner_of w.old)) core.new (W.contents (inner_of w.new)) result }
+    ensures does { Grows (W.contents (inner_of w.old)) (W.contents (inner_of w.new))
+        (λ out. IsAnswered A A.Answers A.Tells A.Finishes by.old (request_view request.now) out by.new result) }
     ensures ends { IfErr result IsOfWriting }
     ensures writes { failures_of w.new ≡ failures_after result (failures_of w.old) }
 {
-    let outcome = post_and_trim(alloc, core, command_path(request), request.body, ids);
-    match outcome.watch {
-        None => write_settled(buffer, w, &outcome.settled, request.close),
-        Some(number) => {
-            let told = tell(
-                alloc,
-                core,
-                number,
-                &outcome.settled,
-                request.close,
-                buffer,
-                w,
-                ids,
-            );
-            let _ = core.cancel(number);
-            told
-        }
-    }
+    let outcome = by.answer(alloc, request);
+    let told = reply(alloc, by, &outcome, request.close, buffer, w);
+    by.finish(outcome.watch);
+    told
 }
 
-/// Writes what a request is answered that made a watch: its stream, or that the answer was lost.
-#[tactic(auto, using(crate::proofs::Texts::of_writing))]
-fn tell<W: Write>(
+/// Writes what a request is answered: its reply, or the stream of the watch that it made.
+fn reply<A: Answering, W: Write>(
     alloc: Global,
-    core: &mut Core,
-    number: u64,
-    settled: &Settled,
+    by: &mut A,
+    outcome: &Outcome,
     close: bool,
     buffer: &mut ReplyBuffer,
     w: &mut Counted<W>,
-    ids: &Ids,
 ) -> Result<bool, Front>
-    ensures tells { (s : Standing) → Stands core.old s → IsTold settled.now close ids.now number s
-        (W.contents (inner_of w.old)) core.old core.new (W.contents (inner_of w.new)) result }
+    ensures does { Grows (W.contents (inner_of w.old)) (W.contents (inner_of w.new))
+        (λ out. IsTold A A.Tells (streamed outcome.now.settled outcome.now.watch) outcome.now.settled close
+        by.old out by.new result) }
     ensures ends { IfErr result IsOfWriting }
     ensures writes { failures_of w.new ≡ failures_after result (failures_of w.old) }
 {
-    match settled {
-        Settled::Reply(reply) => {
-            stream(alloc, core, number, reply.body.as_slice(), buffer, w, ids)
+    match (&outcome.settled, outcome.watch) {
+        (Settled::Reply(created), Some(number)) => {
+            stream(alloc, by, number, created.body.as_slice(), buffer, w)
         }
-        _ => write_settled(buffer, w, settled, close),
+        (settled, _) => write_settled(buffer, w, settled, close),
     }
 }

@@ -3,77 +3,72 @@ ghost use Rattle.std.specs.Prelude.{◌≡◌, true, IfErr};
 ghost use Rattle.http_reply.specs.Counts.{failures_of, inner_of};
 ghost use Rattle.http_reply.specs.Replies.{chunk, last_chunk, stream_head};
 ghost use Rattle.http_reply.specs.Sends.{failures_after};
-ghost use Rattle.http_front.specs.Connections.{Standing};
-ghost use Rattle.http_front.specs.Served.{DoesMessages, DoesStream, IsOfWriting, Stands, Writes};
+ghost use Rattle.http_front.specs.Answered.{AreMessages, IsStream, most_messages};
+ghost use Rattle.http_front.specs.Texts.{Grows, IsOfWriting, Writes};
 
+use crate::answering::{Answering, Told};
 use http_reply::{Counted, Front, ReplyBuffer, write_chunk, write_last_chunk, write_stream_head};
-use json_gateway::{Ids, Message, message};
-use request_core::store::Core;
-use std::alloc::{AllocError, Global};
+use std::alloc::Global;
 use std::io::Write;
 
+/// The most messages of a stream, beside its first: each tells of a later revision than those
+/// before it, or is the last one.
+const MOST_MESSAGES: u128 = 18_446_744_073_709_551_616;
+
 /// Writes the stream of a watch that was made: its head, the message that it was created as the
-/// first chunk, and its messages until a delivery tells nothing; then the last chunk. The watch may
-/// stand after it: whoever calls drops it.
-pub(crate) fn stream<W: Write>(
+/// first chunk, and its messages until no further one comes; then the last chunk. The watch may
+/// stand after it: whoever calls finishes it.
+pub(crate) fn stream<A: Answering, W: Write>(
     alloc: Global,
-    core: &mut Core,
+    by: &mut A,
     number: u64,
     created: &[u8],
     buffer: &mut ReplyBuffer,
     w: &mut Counted<W>,
-    ids: &Ids,
 ) -> Result<bool, Front>
-    ensures does { (s : Standing) → Stands core.old s → DoesStream ids.now number created.now s
-        (W.contents (inner_of w.old)) core.new (W.contents (inner_of w.new)) result }
+    ensures does { Grows (W.contents (inner_of w.old)) (W.contents (inner_of w.new))
+        (λ out. IsStream A A.Tells number created.now by.old out by.new result) }
     ensures ends { IfErr result IsOfWriting }
     ensures failures { failures_of w.new ≡ failures_after result (failures_of w.old) }
 {
-    match begin(buffer, w) {
-        Ok(_) => match tell(buffer, w, created) {
-            Ok(_) => write_messages(alloc, core, number, buffer, w, ids),
+    match write_head(buffer, w) {
+        Ok(_) => match write_message(buffer, w, created) {
+            Ok(_) => write_messages(alloc, by, number, buffer, w),
             Err(front) => Err(front),
         },
         Err(front) => Err(front),
     }
 }
 
-/// Writes the messages of a watch until a delivery tells nothing or finds no watch, and the last
-/// chunk. Each message moves on by a revision at least: after as many and one more there is none.
-fn write_messages<W: Write>(
+/// Writes the messages of a watch until no further one comes, and the last chunk.
+fn write_messages<A: Answering, W: Write>(
     alloc: Global,
-    core: &mut Core,
+    by: &mut A,
     number: u64,
     buffer: &mut ReplyBuffer,
     w: &mut Counted<W>,
-    ids: &Ids,
 ) -> Result<bool, Front>
-    ensures does { (s : Standing) → Stands core.old s → DoesMessages ids.now number s
-        (W.contents (inner_of w.old)) core.new (W.contents (inner_of w.new)) result }
+    ensures does { Grows (W.contents (inner_of w.old)) (W.contents (inner_of w.new))
+        (λ out. AreMessages A A.Tells number most_messages by.old out by.new result) }
     ensures ends { IfErr result IsOfWriting }
     ensures failures { failures_of w.new ≡ failures_after result (failures_of w.old) }
 {
-    let mut rounds = core.status().revision;
-    loop {
-        match message(alloc, core, number, ids) {
-            Ok(Message::Text(text)) => match tell(buffer, w, text.as_slice()) {
-                Ok(_) => {
-                    if rounds == 0 {
-                        return end(buffer, w);
-                    }
-                    rounds -= 1;
-                }
+    let mut left = MOST_MESSAGES;
+    while left > 0 {
+        match by.tell(alloc, number) {
+            Told::Text(text) => match write_message(buffer, w, text.as_slice()) {
+                Ok(_) => left -= 1,
                 Err(front) => return Err(front),
             },
-            Ok(Message::Nothing) => return end(buffer, w),
-            Ok(Message::NoWatch) => return end(buffer, w),
-            Err(AllocError) => return Err(Front::Memory),
+            Told::End => return write_end(buffer, w),
+            Told::Memory => return Err(Front::Memory),
         }
     }
+    write_end(buffer, w)
 }
 
 /// Writes the head of a stream.
-fn begin<W: Write>(buffer: &mut ReplyBuffer, w: &mut Counted<W>) -> Result<bool, Front>
+fn write_head<W: Write>(buffer: &mut ReplyBuffer, w: &mut Counted<W>) -> Result<bool, Front>
     ensures writes { Writes true stream_head
         (W.contents (inner_of w.old)) (W.contents (inner_of w.new)) result }
     ensures failures { failures_of w.new ≡ failures_after result (failures_of w.old) }
@@ -85,7 +80,11 @@ fn begin<W: Write>(buffer: &mut ReplyBuffer, w: &mut Counted<W>) -> Result<bool,
 }
 
 /// Writes a message of a stream.
-fn tell<W: Write>(buffer: &mut ReplyBuffer, w: &mut Counted<W>, text: &[u8]) -> Result<bool, Front>
+fn write_message<W: Write>(
+    buffer: &mut ReplyBuffer,
+    w: &mut Counted<W>,
+    text: &[u8],
+) -> Result<bool, Front>
     ensures writes { Writes true (chunk text.now)
         (W.contents (inner_of w.old)) (W.contents (inner_of w.new)) result }
     ensures failures { failures_of w.new ≡ failures_after result (failures_of w.old) }
@@ -97,7 +96,7 @@ fn tell<W: Write>(buffer: &mut ReplyBuffer, w: &mut Counted<W>, text: &[u8]) -> 
 }
 
 /// Writes the end of a stream.
-fn end<W: Write>(buffer: &mut ReplyBuffer, w: &mut Counted<W>) -> Result<bool, Front>
+fn write_end<W: Write>(buffer: &mut ReplyBuffer, w: &mut Counted<W>) -> Result<bool, Front>
     ensures writes { Writes true last_chunk
         (W.contents (inner_of w.old)) (W.contents (inner_of w.new)) result }
     ensures failures { failures_of w.new ≡ failures_after result (failures_of w.old) }

@@ -7,10 +7,8 @@ use Rattle.http_reply.specs.declared.front.Front.{Front}
 use Rattle.http_reply.specs.declared.front.Front.TheVariants as front
 use Rattle.http_reply.specs.Replies.{chunk, last_chunk, reply_bytes, stream_head}
 use Rattle.http_reply.specs.Sends.{Sends}
-use Rattle.http_front.specs.Connections.{IsSent}
-use Rattle.http_front.specs.Served.{Writes}
-use Rattle.http_front.proofs.Conns.{wrote_more, wrote_none}
-use Rattle.http_front.proofs.Texts.{sent_part}
+use Rattle.http_front.specs.Texts.{IsSent, Writes}
+use Rattle.http_front.proofs.Texts.{sent_part, wrote_more, wrote_none}
 use Rattle.http_pool.specs.Written.{AreMessages, AreTold, Begun, Grows, IsAnswer}
 
 -- ---- any bytes
@@ -33,12 +31,12 @@ seen_as a b P Q k g = record { out = g.out; wrote = g.wrote; are = k g.out g.are
 
 pub replied : (response : Response) (close : Bool) (c c' : Option (List ℕ)) (r : Result Bool Front)
     → Writes close (reply_bytes response close) c c' r → Grows c c' (λ out. IsAnswer out r)
-replied response close c c' r w = record { out = w.out; wrote = w.wrote; are = IsAnswer.reply response close w.sent }
+replied response close c c' r w = record { out = w.out; wrote = w.wrote; are = IsAnswer.reply response close w.are }
 
 module _ (T A B : Type 0) (text : List ℕ) (c c' : Option (List ℕ)) (f : Front) (s : Sends {T = T} (Err f) c c' text)
     (m : f ≡ front.Memory → A × B × (1024 < length text)) where
   pub by_part : Grows c c' (λ out. IsSent true text out (Err f))
-  by_part = let w = sent_part T A B true text c c' f s m in record { out = w.out; wrote = w.wrote; are = w.sent }
+  by_part = sent_part T A B true text c c' f s m
 
 -- ---- the beginning of a stream
 
@@ -92,4 +90,4 @@ module _ (a b c : Option (List ℕ)) (g : Grows a b AreTold) where
 
 pub ended : (a b c d : Option (List ℕ)) (r : Result Bool Front) → Grows a b AreTold → Grows b c AreTold → Writes true last_chunk c d r
     → Grows a d (λ out. AreMessages out r)
-ended a b c d r g h w = others_end a c d (others a b c g h) r (record { out = w.out; wrote = w.wrote; are = AreMessages.last w.sent })
+ended a b c d r g h w = others_end a c d (others a b c g h) r (record { out = w.out; wrote = w.wrote; are = AreMessages.last w.are })

@@ -8,12 +8,11 @@ use Rattle.http_input.specs.Inputs.{Came}
 use Rattle.http_reply.specs.declared.front.Front.{Front}
 use Rattle.http_reply.specs.declared.front.Front.TheVariants as front
 use Rattle.http_reply.specs.Replies.{refusal_bytes}
-use Rattle.http_front.specs.Connections.{front_of, replies_more}
-use Rattle.http_front.specs.Served.{Declines, turn_of}
+use Rattle.http_front.specs.Texts.{Declines, front_of, replies_more, turn_of}
 use Rattle.http_front.proofs.Conns.{more_twice, no_more}
 use Rattle.http_front.proofs.Texts.{silent}
-use Rattle.http_front.specs.declared.serving.Turn.{Turn}
-use Rattle.http_front.specs.declared.serving.Turn.TheVariants as turn
+use Rattle.http_front.specs.declared.writing.Turn.{Turn}
+use Rattle.http_front.specs.declared.writing.Turn.TheVariants as turn
 use Rattle.http_pool.specs.Written.{AreAnswers, AreFirst, Grows, IsAnswer, Turned}
 use Rattle.http_pool.proofs.Grown.{by_both, by_none, seen_as}
 

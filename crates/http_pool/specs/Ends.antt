@@ -6,6 +6,7 @@ use Rattle.http_pool.specs.declared.threads.Trouble.{Trouble}
 use Rattle.http_pool.specs.declared.threads.Trouble.TheVariants as trouble
 use Rattle.http_reply.specs.declared.front.Front.{Front}
 use Rattle.http_reply.specs.declared.front.Front.TheVariants as front
+pub use Rattle.http_front.specs.Texts.{IsOfConnection}
 
 -- a server ends so, and no connection does
 abbrev pub IsOfServer : Front → Type 0
@@ -14,13 +15,6 @@ IsOfServer front.Spawn = ⊤
 IsOfServer front.Accept = ⊤
 IsOfServer front.Unclosed = ⊤
 IsOfServer _ = ⊥
-
--- and a connection so
-abbrev pub IsOfConnection : Front → Type 0
-IsOfConnection front.Spawn = ⊥
-IsOfConnection front.Accept = ⊥
-IsOfConnection front.Unclosed = ⊥
-IsOfConnection _ = ⊤
 
 -- what went wrong with a server, as the fault that it ends with
 abbrev pub fault_of : Trouble → Front

@@ -6,9 +6,10 @@ use Rattle.http_head.specs.Heads.{Fault}
 use Rattle.http_reply.specs.declared.front.Front.{Front}
 use Rattle.http_reply.specs.declared.front.Front.TheVariants as front
 use Rattle.http_reply.specs.Replies.{chunk, last_chunk, refusal_bytes, reply_bytes, stream_head}
-use Rattle.http_front.specs.Connections.{IsSent, end_of, front_of, replies_more}
-use Rattle.http_front.specs.declared.serving.Turn.{Turn}
-use Rattle.http_front.specs.declared.serving.Turn.TheVariants as turn
+use Rattle.http_front.specs.Texts.{IsSent, end_of, front_of, replies_more}
+pub use Rattle.http_front.specs.Texts.{Grows}
+use Rattle.http_front.specs.declared.writing.Turn.{Turn}
+use Rattle.http_front.specs.declared.writing.Turn.TheVariants as turn
 
 -- What stands behind the first message of a stream, and whether the connection is closed then, or what cut it.
 pub data AreMessages : List ℕ → Result Bool Front → Type 0 where
@@ -57,12 +58,6 @@ pub data AreAnswers : List ℕ → Result ℕ Front → Type 0 where
   unheld : AreAnswers [] (Err front.Memory)
 
 -- ---- what a writer is known to hold
-
--- it grew by such bytes
-pub record Grows (old new : Option (List ℕ)) (Are : List ℕ → Type 0) : Type 0 where
-  pub out : List ℕ
-  pub wrote : Appends old new out
-  pub are : Are out
 
 -- so many answers: whatever answers the rest, it ends the answering of all
 abbrev pub AreFirst : ℕ → List ℕ → Type 0

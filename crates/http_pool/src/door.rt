@@ -1,6 +1,7 @@
 //! The way in: connections are accepted one at a time, and counted.
 ghost use Rattle.std.specs.Prelude.{◌≡◌, ◌+◌, ◌-◌, ◌≤◌, ◌<◌, ◌^◌, min, true, None, is_some};
 ghost use Rattle.std.specs.Prelude.{OnErr, IfOk, IfSome, MatchOption};
+ghost use Rattle.std.proofs.Props.{props};
 
 use std::io;
 use std::net::{TcpListener, TcpStream};
@@ -16,7 +17,7 @@ pub(crate) struct Door {
     limit: u64,
     waiting: Option<TcpStream>,
     ghost within: { taken ≤ limit },
-    ghost room: { IfSome waiting (λ stream. taken < limit) },
+    ghost room: { IfSome waiting (λ stream. taken < limit) } by { Prim.hlevel props },
 }
 
 impl Door {

@@ -2,7 +2,7 @@
 ghost use Rattle.std.specs.Prelude.{◌≡◌, ◌≤◌, IfErr};
 ghost use Rattle.http_reply.specs.Counts.{failures_of, inner_of};
 ghost use Rattle.http_reply.specs.Sends.{failures_after};
-ghost use Rattle.http_front.specs.Served.{IsOfWriting};
+ghost use Rattle.http_front.specs.Texts.{IsOfWriting};
 ghost use Rattle.http_pool.specs.Written.{Grows, IsAnswer};
 
 use crate::background::trim_all;

@@ -3,7 +3,7 @@ ghost use Rattle.std.specs.Prelude.{◌≡◌, true, IfErr};
 ghost use Rattle.http_reply.specs.Counts.{failures_of, inner_of};
 ghost use Rattle.http_reply.specs.Replies.{last_chunk};
 ghost use Rattle.http_reply.specs.Sends.{failures_after};
-ghost use Rattle.http_front.specs.Served.{IsOfWriting, Writes};
+ghost use Rattle.http_front.specs.Texts.{IsOfWriting, Writes};
 ghost use Rattle.http_pool.specs.Written.{AreMessages, Begun, Grows, IsAnswer, Told};
 
 use crate::gate::{Call, Gate};

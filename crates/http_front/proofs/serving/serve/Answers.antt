@@ -1,5 +1,5 @@
 use Rattle.std.proofs.Common.{arith, ◌∙◌}
-use Rattle.http_front.specs.Served.{ids_alone}
+use Rattle.http_front.specs.Answered.{IsAnswered}
 use Rattle.http_front.proofs.Conns.{at_limit, end, failed, last, on}
 use Rattle.http_front.proofs.serving.serve.Goals as goal
 
@@ -8,19 +8,24 @@ loop-count-preserved g c = (
   omega (arith, c.loop-count-test.true),
   c.in-Ok-More.ensures.reads ∙ c.loop-count.invariant.1,
   c.in-Ok-More.ensures.writes ∙ c.loop-count.invariant.2,
-  on ids_alone c.args.core.now _ _ _ _ c.loop-count.count _ _ c.loop-count.core c.loop-count.invariant.3 _ _ _ _ c.in-Ok-More.field-0 c.in-Ok-More.field-0-is c.in-Ok-More.ensures.turns,
+  on _ (IsAnswered _ g.A.Answering.Answers g.A.Answering.Tells g.A.Answering.Finishes) _ _ _ _ c.loop-count.count _ _ c.args.by.now c.loop-count.by
+      c.loop-count.invariant.3 _ _ _ _ c.in-Ok-More.field-0 c.in-Ok-More.field-0-is c.in-Ok-More.ensures.turns,
 )
 
 pub returns-in-Ok-Last-clause-serves : goal.returns-in-Ok-Last-clause-serves
 returns-in-Ok-Last-clause-serves g c =
-    last ids_alone c.args.core.now _ _ _ _ c.loop-count.count _ _ c.loop-count.core c.loop-count.invariant.3 _ _ _ _ c.args.limit c.in-Ok-Last.field-0 c.in-Ok-Last.field-0-is c.loop-count-test.true c.in-Ok-Last.ensures.turns
+    last _ (IsAnswered _ g.A.Answering.Answers g.A.Answering.Tells g.A.Answering.Finishes) _ _ _ _ c.loop-count.count _ _ c.args.by.now c.loop-count.by
+    c.loop-count.invariant.3 _ _ _ _ c.args.limit c.in-Ok-Last.field-0 c.in-Ok-Last.field-0-is c.loop-count-test.true c.in-Ok-Last.ensures.turns
 
 pub returns-in-Ok-End-clause-serves : goal.returns-in-Ok-End-clause-serves
 returns-in-Ok-End-clause-serves g c =
-    end ids_alone c.args.core.now _ _ _ _ c.loop-count.count _ _ c.loop-count.core c.loop-count.invariant.3 _ _ _ _ c.args.limit c.in-Ok-End.field-0 c.in-Ok-End.field-0-is c.loop-count-test.true c.in-Ok-End.ensures.turns
+    end _ (IsAnswered _ g.A.Answering.Answers g.A.Answering.Tells g.A.Answering.Finishes) _ _ _ _ c.loop-count.count _ _ c.args.by.now c.loop-count.by
+    c.loop-count.invariant.3 _ _ _ _ c.args.limit c.in-Ok-End.field-0 c.in-Ok-End.field-0-is c.loop-count-test.true c.in-Ok-End.ensures.turns
 
 pub returns-in-Err-clause-serves : goal.returns-in-Err-clause-serves
-returns-in-Err-clause-serves g c = failed ids_alone c.args.core.now _ _ _ _ c.loop-count.count _ _ c.loop-count.core c.loop-count.invariant.3 _ _ _ _ c.args.limit c.in-Err.front c.loop-count-test.true c.in-Err.ensures.turns
+returns-in-Err-clause-serves g c = failed _ (IsAnswered _ g.A.Answering.Answers g.A.Answering.Tells g.A.Answering.Finishes) _ _ _ _ c.loop-count.count _ _ c.args.by.now c.loop-count.by
+    c.loop-count.invariant.3 _ _ _ _ c.args.limit c.in-Err.front c.loop-count-test.true c.in-Err.ensures.turns
 
 pub returns-clause-serves : goal.returns-clause-serves
-returns-clause-serves g c = at_limit ids_alone c.args.core.now _ _ _ _ c.loop-count.count _ _ c.loop-count.core c.loop-count.invariant.3 c.args.limit c.loop-count.invariant.0 (omega (arith, c.loop-count-test.false))
+returns-clause-serves g c = at_limit _ (IsAnswered _ g.A.Answering.Answers g.A.Answering.Tells g.A.Answering.Finishes) _ _ _ _ c.loop-count.count _ _ c.args.by.now c.loop-count.by
+    c.loop-count.invariant.3 c.args.limit c.loop-count.invariant.0 (omega (arith, c.loop-count-test.false))

@@ -1,14 +1,15 @@
 use Rattle.std.proofs.Common.{◌-◌, ◌≡◌, ◌≤◌}
 use Rattle.http_reply.specs.Counts.{failures_of, inner_of}
-use Rattle.http_front.specs.Served.{ids_alone}
-use Rattle.http_front.proofs.Conns.{Far}
+use Rattle.http_front.specs.Answered.{IsAnswered}
+use Rattle.http_front.specs.Turned.{SoFar}
 use Rattle.http_front.proofs.serving.serve.Given as goal
 
 -- whatever answers the bytes that are left ends the answering of all
 abbrev pub invariant-loop-count : goal.invariant-loop-count
 invariant-loop-count g l = (l.count ≤ l.fn.limit) × (failures_of l.r ≡ failures_of l.fn.r) × (failures_of l.w ≡ failures_of l.fn.w)
-    × Far ids_alone l.fn.core (g.R.Read.remaining (inner_of l.fn.r)) (g.R.Read.remaining (inner_of l.r)) l.fn.input l.input l.count
-    (g.W.Write.contents (inner_of l.fn.w)) l.core (g.W.Write.contents (inner_of l.w))
+    × SoFar _ (IsAnswered _ g.A.Answering.Answers g.A.Answering.Tells g.A.Answering.Finishes)
+    (g.R.Read.remaining (inner_of l.fn.r)) (g.R.Read.remaining (inner_of l.r)) l.fn.input l.input l.count
+    (g.W.Write.contents (inner_of l.fn.w)) (g.W.Write.contents (inner_of l.w)) l.fn.by l.by
 
 abbrev pub decreases-loop-count : goal.decreases-loop-count
 decreases-loop-count g l = l.fn.limit - l.count

@@ -1,24 +1,28 @@
 use Rattle.std.proofs.Common.{Option, sym, ◌∙◌}
 use Rattle.http_head.specs.declared.head.Head.{Head}
 use Rattle.http_reply.specs.Counts.{failures_of}
-use Rattle.http_front.specs.declared.serving.Turn.{Turn}
-use Rattle.http_front.proofs.Declined.{declined, reads_told, writes_told}
+use Rattle.http_front.specs.declared.writing.Turn.{Turn}
+use Rattle.http_front.specs.Answered.{IsAnswered}
 use Rattle.http_front.proofs.Texts.{reads_asked}
-use Rattle.http_front.proofs.Turns.{asked, ended}
+use Rattle.http_front.proofs.Turns.{asked, declined, ended, reads_told, writes_told}
 use Rattle.http_front.proofs.serving.take_turn.Goals as goal
 
 pub returns-in-Ok-Some-clause-turns : goal.returns-in-Ok-Some-clause-turns
-returns-in-Ok-Some-clause-turns g c = λ s h.
-    asked c.args.ids.now s _ _ _ _ _ c.in-Ok-Some.head c.in-Ok-Some.field-0 c.in-Ok-Some.field-0-is c.in-Ok-Some.ensures.tells c.skip.ensures _ c.request.ensures _ _ _ _ _
-    c.turn_after.ensures (c.answer-answered.ensures.does s h)
+returns-in-Ok-Some-clause-turns g c =
+    asked _ (IsAnswered _ g.A.Answering.Answers g.A.Answering.Tells g.A.Answering.Finishes) c.args.by.now c.answer-answered.new.by
+    _ _ _ _ _ c.in-Ok-Some.head c.in-Ok-Some.field-0 c.in-Ok-Some.field-0-is c.in-Ok-Some.ensures.tells c.pass.ensures _ c.request.ensures _ _
+    c.answer-answered.result c.turn_after.result
+    c.turn_after.ensures c.answer-answered.ensures.does
 
 pub returns-in-Ok-None-clause-turns : goal.returns-in-Ok-None-clause-turns
-returns-in-Ok-None-clause-turns g c = λ s h.
-    ended c.args.ids.now s _ _ _ _ _ c.args.core.now c.in-Ok-None.field-0 c.in-Ok-None.field-0-is h c.in-Ok-None.ensures.tells
+returns-in-Ok-None-clause-turns g c =
+    ended _ (IsAnswered _ g.A.Answering.Answers g.A.Answering.Tells g.A.Answering.Finishes) c.args.by.now c.args.by.now
+    _ _ _ _ _ c.in-Ok-None.field-0 c.in-Ok-None.field-0-is c.in-Ok-None.ensures.tells
 
 pub returns-in-Err-clause-turns : goal.returns-in-Err-clause-turns
-returns-in-Err-clause-turns g c = λ s h.
-    declined c.args.ids.now s _ _ _ _ _ _ c.args.core.now _ _ c.in-Err.front c.decline.result h c.in-Err.ensures.tells c.decline.ensures
+returns-in-Err-clause-turns g c =
+    declined _ (IsAnswered _ g.A.Answering.Answers g.A.Answering.Tells g.A.Answering.Finishes) c.args.by.now c.args.by.now
+    _ _ _ _ _ _ _ _ c.in-Err.front c.decline.result c.in-Err.ensures.tells c.decline.ensures
 
 pub returns-in-Err-clause-reads : goal.returns-in-Err-clause-reads
 returns-in-Err-clause-reads g c =

@@ -1,22 +1,25 @@
+use Rattle.std.proofs.Common.{true, Err}
+use Rattle.http_reply.specs.Replies.{chunk, stream_head}
 use Rattle.http_front.proofs.Chunks.{created_cut, head_cut, streamed_whole}
 use Rattle.http_front.proofs.Texts.{of_writing}
 use Rattle.http_front.proofs.streaming.stream.Goals as goal
 
-pub returns-in-Ok-tell-clause-does : goal.returns-in-Ok-tell-clause-does
-returns-in-Ok-tell-clause-does g c = λ s h.
-    streamed_whole c.args.ids.now c.args.number c.args.created.now s _ _ _ c.in-Ok.ensures.writes _ _ c.write_messages.new.core _ _ c.in-Ok-tell.ensures.writes
-    (c.write_messages.ensures.does s h)
+pub returns-in-Ok-write_message-clause-does : goal.returns-in-Ok-write_message-clause-does
+returns-in-Ok-write_message-clause-does g c =
+    streamed_whole _ g.A.Answering.Tells c.args.number c.args.created.now c.args.by.now _ _ c.in-Ok.field-0 c.in-Ok.ensures.writes _ _ c.write_messages.new.by
+    c.in-Ok-write_message.field-0 c.write_messages.result c.in-Ok-write_message.ensures.writes c.write_messages.ensures.does
 
-pub returns-in-Err-tell-clause-does : goal.returns-in-Err-tell-clause-does
-returns-in-Err-tell-clause-does g c = λ s h.
-    created_cut c.args.ids.now c.args.number c.args.created.now s _ _ _ c.in-Ok.ensures.writes _ c.args.core.now c.in-Err-tell.front h c.in-Err-tell.ensures.writes
+pub returns-in-Err-write_message-clause-does : goal.returns-in-Err-write_message-clause-does
+returns-in-Err-write_message-clause-does g c =
+    created_cut _ g.A.Answering.Tells c.args.number c.args.created.now c.args.by.now _ _ c.in-Ok.field-0 c.in-Ok.ensures.writes _ c.in-Err-write_message.front
+    c.in-Err-write_message.ensures.writes
 
 pub returns-in-Err-clause-does : goal.returns-in-Err-clause-does
-returns-in-Err-clause-does g c = λ s h.
-    head_cut c.args.ids.now c.args.number c.args.created.now s _ _ c.args.core.now c.in-Err.front h c.in-Err.ensures.writes
+returns-in-Err-clause-does g c =
+    head_cut _ g.A.Answering.Tells c.args.number c.args.created.now c.args.by.now _ _ c.in-Err.front c.in-Err.ensures.writes
 
-pub returns-in-Err-tell-clause-ends : goal.returns-in-Err-tell-clause-ends
-returns-in-Err-tell-clause-ends g c = of_writing _ _ _ _ _ c.in-Err-tell.ensures.writes
+pub returns-in-Err-write_message-clause-ends : goal.returns-in-Err-write_message-clause-ends
+returns-in-Err-write_message-clause-ends g c = of_writing true (chunk c.args.created.now) _ _ (Err c.in-Err-write_message.front) c.in-Err-write_message.ensures.writes
 
 pub returns-in-Err-clause-ends : goal.returns-in-Err-clause-ends
-returns-in-Err-clause-ends g c = of_writing _ _ _ _ _ c.in-Err.ensures.writes
+returns-in-Err-clause-ends g c = of_writing true stream_head _ _ (Err c.in-Err.front) c.in-Err.ensures.writes

@@ -1,53 +1,33 @@
-use Rattle.std.proofs.Common.{ℕ, ◌+◌, List, sym, ◌∙◌, ap}
-use Rattle.kv_model.specs.Wire.{WireTold}
-use Rattle.json_gateway.specs.Runs.{message_view}
-use Rattle.http_front.proofs.Chunks.{at_want, none_ends, nothing_ends, text_cut, text_last, text_more}
-use Rattle.http_front.proofs.Texts.{of_writing}
+use Rattle.std.proofs.Common.{◌-◌, arith, refl, ◌∙◌}
+use Rattle.http_front.proofs.Chunks.{cut, ends_spent, none_yet, on, quiet, untold}
 use Rattle.http_front.proofs.streaming.write_messages.Goals as goal
 
-pub returns-then-rounds-eq0-clause-does : goal.returns-then-rounds-eq0-clause-does
-returns-then-rounds-eq0-clause-does g c = λ s h.
-    text_last c.args.ids.now c.args.number s _ _ c.loop-text.core c.loop-text.rounds (c.loop-text.invariant.1 s h) c.message.new.core c.in-Ok-Text.field-0 c.in-Ok-Text.ensures.told c.in-Ok-Text.ensures.stands c.in-Ok-Text.ensures.others
-    c.as_slice.result.now (ap message_view c.in-Ok-Text.field-0-is ∙ ap (λ (t : List ℕ). WireTold.message t) (sym c.as_slice.ensures.value))
-    _ _ _ _ c.if-rounds-eq0.true c.in-Ok.ensures.writes c.end.ensures.writes
+pub loop-left-init : goal.loop-left-init
+loop-left-init g c = (refl, none_yet _ g.A.Answering.Tells c.args.number c.args.by.now _)
 
-pub returns-in-Err-tell-clause-does : goal.returns-in-Err-tell-clause-does
-returns-in-Err-tell-clause-does g c = λ s h.
-    text_cut c.args.ids.now c.args.number s _ _ c.loop-text.core c.loop-text.rounds (c.loop-text.invariant.1 s h) c.message.new.core c.in-Ok-Text.field-0 c.in-Ok-Text.ensures.told c.in-Ok-Text.ensures.stands c.in-Ok-Text.ensures.others
-    c.as_slice.result.now (ap message_view c.in-Ok-Text.field-0-is ∙ ap (λ (t : List ℕ). WireTold.message t) (sym c.as_slice.ensures.value))
-    _ c.in-Err-tell.front c.in-Err-tell.ensures.writes
-
-pub loop-text-preserved : goal.loop-text-preserved
-loop-text-preserved g c = (
-  c.in-Ok.ensures.failures ∙ c.loop-text.invariant.0,
-  λ s h.
-      text_more c.args.ids.now c.args.number s _ _ c.loop-text.core c.loop-text.rounds (c.loop-text.invariant.1 s h) c.message.new.core c.in-Ok-Text.field-0 c.in-Ok-Text.ensures.told c.in-Ok-Text.ensures.stands c.in-Ok-Text.ensures.others
-      c.as_slice.result.now (ap message_view c.in-Ok-Text.field-0-is ∙ ap (λ (t : List ℕ). WireTold.message t) (sym c.as_slice.ensures.value))
-      _ _ c.in-Ok.ensures.writes,
+pub loop-left-preserved : goal.loop-left-preserved
+loop-left-preserved g c = (
+  c.in-Ok.ensures.failures ∙ c.loop-left.invariant.0,
+  on _ g.A.Answering.Tells c.args.number c.args.by.now _ _ _ c.loop-left.left (c.loop-left.left - 1) (omega (arith, c.loop-left-test.true)) c.loop-left.by _
+      c.loop-left.invariant.1 _ c.in-Text.ensures c.in-Ok.field-0 c.in-Text.text c.as_slice.result.now refl c.as_slice.ensures.value c.in-Ok.ensures.writes,
 )
 
-pub returns-in-Ok-Nothing-clause-does : goal.returns-in-Ok-Nothing-clause-does
-returns-in-Ok-Nothing-clause-does g c = λ s h.
-    nothing_ends c.args.ids.now c.args.number s _ _ c.loop-text.core c.loop-text.rounds (c.loop-text.invariant.1 s h) c.message.new.core c.in-Ok-Nothing.field-0 c.in-Ok-Nothing.ensures.told c.in-Ok-Nothing.ensures.stands c.in-Ok-Nothing.ensures.others
-    (ap message_view c.in-Ok-Nothing.field-0-is) _ _ c.end-in-Ok-Nothing.ensures.writes
-
-pub returns-in-Ok-NoWatch-clause-does : goal.returns-in-Ok-NoWatch-clause-does
-returns-in-Ok-NoWatch-clause-does g c = λ s h.
-    none_ends c.args.ids.now c.args.number s _ _ c.loop-text.core c.loop-text.rounds (c.loop-text.invariant.1 s h) c.message.new.core c.in-Ok-NoWatch.field-0 c.in-Ok-NoWatch.ensures.told c.in-Ok-NoWatch.ensures.stands c.in-Ok-NoWatch.ensures.others
-    (ap message_view c.in-Ok-NoWatch.field-0-is) _ _ c.end-in-Ok-NoWatch.ensures.writes
-
 pub returns-in-Err-clause-does : goal.returns-in-Err-clause-does
-returns-in-Err-clause-does g c = λ s h.
-    at_want c.args.ids.now c.args.number s _ _ c.loop-text.core (c.loop-text.rounds + 1) (c.loop-text.invariant.1 s h) c.message.new.core c.in-Err.ensures.unchanged
+returns-in-Err-clause-does g c =
+    cut _ g.A.Answering.Tells c.args.number c.args.by.now _ _ _ c.loop-left.left (c.loop-left.left - 1) (omega (arith, c.loop-left-test.true)) c.loop-left.by
+    c.tell.new.self c.loop-left.invariant.1 _ c.in-Text.ensures c.in-Err.front c.in-Text.text c.as_slice.result.now refl c.as_slice.ensures.value c.in-Err.ensures.writes
 
-pub returns-then-rounds-eq0-clause-ends : goal.returns-then-rounds-eq0-clause-ends
-returns-then-rounds-eq0-clause-ends g c = of_writing _ _ _ _ _ c.end.ensures.writes
+pub returns-in-End-clause-does : goal.returns-in-End-clause-does
+returns-in-End-clause-does g c =
+    quiet _ g.A.Answering.Tells c.args.number c.args.by.now _ _ _ c.loop-left.left (c.loop-left.left - 1) (omega (arith, c.loop-left-test.true)) c.loop-left.by
+    c.tell.new.self c.loop-left.invariant.1 _ c.in-End.ensures c.write_end.result refl c.write_end.ensures.writes
 
-pub returns-in-Err-tell-clause-ends : goal.returns-in-Err-tell-clause-ends
-returns-in-Err-tell-clause-ends g c = of_writing _ _ _ _ _ c.in-Err-tell.ensures.writes
+pub returns-in-Memory-clause-does : goal.returns-in-Memory-clause-does
+returns-in-Memory-clause-does g c =
+    untold _ g.A.Answering.Tells c.args.number c.args.by.now _ _ c.loop-left.left (c.loop-left.left - 1) (omega (arith, c.loop-left-test.true)) c.loop-left.by
+    c.tell.new.self c.loop-left.invariant.1 _ c.in-Memory.ensures refl
 
-pub returns-in-Ok-Nothing-clause-ends : goal.returns-in-Ok-Nothing-clause-ends
-returns-in-Ok-Nothing-clause-ends g c = of_writing _ _ _ _ _ c.end-in-Ok-Nothing.ensures.writes
-
-pub returns-in-Ok-NoWatch-clause-ends : goal.returns-in-Ok-NoWatch-clause-ends
-returns-in-Ok-NoWatch-clause-ends g c = of_writing _ _ _ _ _ c.end-in-Ok-NoWatch.ensures.writes
+pub returns-clause-does : goal.returns-clause-does
+returns-clause-does g c =
+    ends_spent _ g.A.Answering.Tells c.args.number c.args.by.now _ _ _ c.loop-left.left c.loop-left.by c.loop-left.invariant.1 c.write_end-2.result
+    (omega (arith, c.loop-left-test.false)) c.write_end-2.ensures.writes
