@@ -1,3 +1,1 @@
 pub mod Locked
-pub mod PastViews
-pub mod Pasts
