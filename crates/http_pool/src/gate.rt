@@ -1,5 +1,4 @@
-//! What a server asks of whoever runs it: when a request may go on, what time it is, and whether a
-//! client has left.
+//! What a server asks of whoever runs it: when a request may go on, and what time it is.
 
 /// Is told of each request of a server. A test holds requests back by it.
 pub trait Gate {
@@ -8,15 +7,6 @@ pub trait Gate {
 
     /// Comes after its reply, or after the attempt to write it.
     fn after(&self, call: u64);
-
-    /// Comes before a request of the connection is read of which no byte has come.
-    fn awaits(&self, _call: u64) {}
-
-    /// Whether the client of the connection has left. A stream asks it while it rests, and ends
-    /// where it has.
-    fn has_left(&self, _call: u64) -> bool {
-        false
-    }
 }
 
 /// Holds no request back.
@@ -27,31 +17,6 @@ impl Gate for OpenGate {
     fn before(&self, _call: u64) {}
 
     fn after(&self, _call: u64) {}
-}
-
-/// A gate, as the connection of a number goes through it.
-#[derive(Debug, Drop)]
-pub(crate) struct Call<'g, G> {
-    pub(crate) gate: &'g G,
-    pub(crate) number: u64,
-}
-
-impl<'g, G: Gate> Call<'g, G> {
-    pub(crate) fn before(&self) {
-        self.gate.before(self.number);
-    }
-
-    pub(crate) fn after(&self) {
-        self.gate.after(self.number);
-    }
-
-    pub(crate) fn awaits(&self) {
-        self.gate.awaits(self.number);
-    }
-
-    pub(crate) fn has_left(&self) -> bool {
-        self.gate.has_left(self.number)
-    }
 }
 
 /// Tells the moments by which leases end.

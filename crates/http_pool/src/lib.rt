@@ -9,10 +9,8 @@
 //! reply that tells why a request is not read (`AreAnswers` in `specs/Written.antt`). Which answer
 //! a request gets is not stated, since other threads change the store between. Its faults are those
 //! of connections, each told as often as its reader or writer failed, and its client's share never
-//! falls. A [`Gate`] holds requests back for tests, is told where a request is waited for, and knows
-//! whether a client has left; a [`Clock`] tells the moments by which leases end. The gate and the
-//! reader that `pool` hands in look at the peer (`peer.rt`), so that no client keeps a worker for
-//! nothing.
+//! falls. A [`Gate`] holds requests back for tests, and a [`Clock`] tells the moments by which
+//! leases end.
 //!
 //! Each thread is started in a small function of its own (`threads.rt`): what a thread asks of its
 //! closure, that it may cross, is proved where little else is known. The path that a request asks
@@ -25,7 +23,6 @@ mod background;
 mod connection;
 mod door;
 pub mod gate;
-mod peer;
 mod replying;
 mod shared;
 mod stream;

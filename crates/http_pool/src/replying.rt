@@ -6,7 +6,7 @@ ghost use Rattle.http_front.specs.Texts.{IsOfWriting};
 ghost use Rattle.http_pool.specs.Written.{Grows, IsAnswer};
 
 use crate::background::trim_all;
-use crate::gate::{Call, Clock, Gate};
+use crate::gate::Clock;
 use crate::stream::stream;
 use engine_lock::{Client, Engine, EngineName, Feed};
 use http_front::{command_path, write_settled};
@@ -20,13 +20,12 @@ use std::sync::Wait;
 use std::time;
 
 /// Answers a request, and tells whether the connection is closed after it.
-pub(crate) fn answer<L, F, G, C, R, Out>(
+pub(crate) fn answer<L, F, C, R, Out>(
     rt: &R,
     alloc: Global,
     engine: &Engine<L, F>,
     client: &mut Client<L, F>,
     clock: &C,
-    call: &Call<'_, G>,
     request: &Request<'_>,
     buffer: &mut ReplyBuffer,
     w: &mut Counted<Out>,
@@ -34,7 +33,6 @@ pub(crate) fn answer<L, F, G, C, R, Out>(
 where
     L: EngineName,
     F: Feed,
-    G: Gate,
     C: Clock,
     R: Wait + time::Clock,
     Out: Write,
@@ -47,7 +45,7 @@ where
     match read(alloc, command_path(request), request.body) {
         Ok(command) => {
             let outcome = performed(rt, engine, client, clock.now(), &command);
-            tell(rt, engine, call, &outcome, request.close, buffer, w)
+            tell(rt, engine, &outcome, request.close, buffer, w)
         }
         Err(bad) => {
             let settled = dismissed(alloc, bad);
@@ -68,16 +66,15 @@ fn performed<L: EngineName, F: Feed, R: Wait>(
 {
     let outcome = engine.submit(rt, client, now, command).outcome;
     if outcome.waits {
-        let _done = trim_all(rt, engine);
+        trim_all(rt, engine);
     }
     outcome
 }
 
 /// Tells of an outcome: by a reply, or by the stream of the watch that was made.
-fn tell<L, F, G, R, Out>(
+fn tell<L, F, R, Out>(
     rt: &R,
     engine: &Engine<L, F>,
-    call: &Call<'_, G>,
     outcome: &Outcome,
     close: bool,
     buffer: &mut ReplyBuffer,
@@ -86,7 +83,6 @@ fn tell<L, F, G, R, Out>(
 where
     L: EngineName,
     F: Feed,
-    G: Gate,
     R: Wait + time::Clock,
     Out: Write,
     ensures writer { failures_of w.new ≡ failures_after result (failures_of w.old) }
@@ -96,7 +92,7 @@ where
 {
     match outcome.watch {
         Some(number) => {
-            let told = follow(rt, engine, call, number, &outcome.settled, close, buffer, w);
+            let told = follow(rt, engine, number, &outcome.settled, close, buffer, w);
             let _ = engine.drop_watch(rt, number);
             told
         }
@@ -106,10 +102,9 @@ where
 
 /// Answers a watch that was made: by its stream, after which the connection is closed; where its
 /// answer was lost, by that. The watch may stand after it.
-fn follow<L, F, G, R, Out>(
+fn follow<L, F, R, Out>(
     rt: &R,
     engine: &Engine<L, F>,
-    call: &Call<'_, G>,
     number: u64,
     settled: &Settled,
     close: bool,
@@ -119,7 +114,6 @@ fn follow<L, F, G, R, Out>(
 where
     L: EngineName,
     F: Feed,
-    G: Gate,
     R: Wait + time::Clock,
     Out: Write,
     ensures writer { failures_of w.new ≡ failures_after result (failures_of w.old) }
@@ -129,7 +123,7 @@ where
 {
     match settled {
         Settled::Reply(created) => {
-            stream(rt, engine, call, number, created.body.as_slice(), buffer, w)
+            stream(rt, engine, number, created.body.as_slice(), buffer, w)
         }
         _ => write_settled(buffer, w, settled, close),
     }

@@ -6,7 +6,6 @@ ghost use Rattle.http_reply.specs.Sends.{failures_after};
 ghost use Rattle.http_front.specs.Texts.{IsOfWriting, Writes};
 ghost use Rattle.http_pool.specs.Written.{AreMessages, Begun, Grows, IsAnswer, Told};
 
-use crate::gate::{Call, Gate};
 use engine_lock::{Engine, EngineName, Feed};
 use http_reply::{Counted, Front, ReplyBuffer, write_chunk, write_last_chunk, write_stream_head};
 use json_gateway::Message;
@@ -19,12 +18,11 @@ use std::{thread, time};
 const WATCH_REST: u64 = 20;
 
 /// Writes what a watch is told, from the message that it was created on: a chunk for each message,
-/// until no watch has the number or its client has left, and then the last chunk. Gives `true`: the
-/// connection is closed behind it. A delivery that found no memory is made again after a rest.
-pub(crate) fn stream<L, F, G, R, Out>(
+/// until no watch has the number, and then the last chunk. Gives `true`: the connection is closed
+/// behind it. A delivery that found no memory is made again after a rest.
+pub(crate) fn stream<L, F, R, Out>(
     rt: &R,
     engine: &Engine<L, F>,
-    call: &Call<'_, G>,
     number: u64,
     created: &[u8],
     buffer: &mut ReplyBuffer,
@@ -33,7 +31,6 @@ pub(crate) fn stream<L, F, G, R, Out>(
 where
     L: EngineName,
     F: Feed,
-    G: Gate,
     R: Wait + time::Clock,
     Out: Write,
     ensures writer { failures_of w.new ≡ failures_after result (failures_of w.old) }
@@ -42,17 +39,15 @@ where
         (λ out. IsAnswer out result) }
 {
     match begin(buffer, w, created) {
-        Ok(()) => write_messages(rt, engine, call, number, buffer, w),
+        Ok(()) => write_messages(rt, engine, number, buffer, w),
         Err(front) => Err(front),
     }
 }
 
-/// Writes the messages of a watch until no watch has the number or its client has left, and then
-/// the last chunk.
-fn write_messages<L, F, G, R, Out>(
+/// Writes the messages of a watch until no watch has the number, and then the last chunk.
+fn write_messages<L, F, R, Out>(
     rt: &R,
     engine: &Engine<L, F>,
-    call: &Call<'_, G>,
     number: u64,
     buffer: &mut ReplyBuffer,
     w: &mut Counted<Out>,
@@ -60,7 +55,6 @@ fn write_messages<L, F, G, R, Out>(
 where
     L: EngineName,
     F: Feed,
-    G: Gate,
     R: Wait + time::Clock,
     Out: Write,
     ensures writer { failures_of w.new ≡ failures_after result (failures_of w.old) }
@@ -69,7 +63,7 @@ where
         (λ out. AreMessages out result) }
 {
     for _ in rt.forever() {
-        match tell_next(rt, engine, call, number, buffer, w) {
+        match tell_next(rt, engine, number, buffer, w) {
             Ok(true) => {}
             Ok(false) => return end(buffer, w),
             Err(front) => return Err(front),
@@ -96,11 +90,10 @@ fn begin<Out: Write>(
 }
 
 /// Writes the next message of a watch, or rests where there is none; `false` where no watch has
-/// the number, or its client has left.
-fn tell_next<L, F, G, R, Out>(
+/// the number.
+fn tell_next<L, F, R, Out>(
     rt: &R,
     engine: &Engine<L, F>,
-    call: &Call<'_, G>,
     number: u64,
     buffer: &mut ReplyBuffer,
     w: &mut Counted<Out>,
@@ -108,7 +101,6 @@ fn tell_next<L, F, G, R, Out>(
 where
     L: EngineName,
     F: Feed,
-    G: Gate,
     R: Wait + time::Clock,
     Out: Write,
     ensures writer { failures_of w.new ≡ failures_after result (failures_of w.old) }
@@ -124,7 +116,7 @@ where
         Ok(Message::NoWatch) => Ok(false),
         Ok(Message::Nothing) | Err(_) => {
             thread::sleep(rt, Duration::from_millis(WATCH_REST));
-            Ok(!call.has_left())
+            Ok(true)
         }
     }
 }

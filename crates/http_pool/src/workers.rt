@@ -3,9 +3,7 @@
 use crate::connection::work;
 use crate::door::Door;
 use crate::gate::{Clock, Gate};
-use crate::peer::{Coming, Going, Peer, PeerGate};
-use crate::shared::Shared;
-use engine_lock::{Client, EngineName, Feed};
+use engine_lock::{Client, Engine, EngineName, Feed};
 use http_reply::Counted;
 use std::alloc::Global;
 use std::net::{TcpListener, TcpStream};
@@ -24,7 +22,11 @@ pub(crate) struct Worked<L: EngineName, F: Feed> {
 pub(crate) fn keep_working<L, F, G, C, R>(
     rt: &R,
     alloc: Global,
-    shared: &Shared<'_, L, F, G, C>,
+    engine: &Engine<L, F>,
+    gate: &G,
+    clock: &C,
+    listener: &TcpListener,
+    door: &Mutex<Door>,
     client: Client<L, F>,
 ) -> Worked<L, F>
 where
@@ -36,9 +38,9 @@ where
 {
     let mut client = client;
     for _ in rt.forever() {
-        match next(rt, shared.listener, &shared.door) {
+        match next(rt, listener, door) {
             Ok(Some((call, stream))) => {
-                serve(rt, alloc, shared, &mut client, call, &stream);
+                serve(rt, alloc, engine, &mut client, gate, clock, call, &stream);
             }
             Ok(None) => {
                 return Worked {
@@ -70,8 +72,10 @@ fn next<R: Wait>(
 fn serve<L, F, G, C, R>(
     rt: &R,
     alloc: Global,
-    shared: &Shared<'_, L, F, G, C>,
+    engine: &Engine<L, F>,
     client: &mut Client<L, F>,
+    gate: &G,
+    clock: &C,
     call: u64,
     stream: &TcpStream,
 )
@@ -82,22 +86,9 @@ where
     C: Clock,
     R: Wait + time::Clock,
 {
-    let peer = Peer::new(stream, shared.listener, &shared.door);
-    let gate = PeerGate {
-        gate: shared.gate,
-        peer: &peer,
-    };
-    let mut r = Counted::new(Coming { peer: &peer });
-    let mut w = Counted::new(Going { peer: &peer });
-    let _ = work(
-        rt,
-        alloc,
-        shared.engine,
-        client,
-        &gate,
-        shared.clock,
-        call,
-        &mut r,
-        &mut w,
-    );
+    // Without it a reply may wait for the peer to take note of the one before.
+    let _ = stream.set_nodelay(true);
+    let mut r = Counted::new(stream);
+    let mut w = Counted::new(stream);
+    let _ = work(rt, alloc, engine, client, gate, clock, call, &mut r, &mut w);
 }
