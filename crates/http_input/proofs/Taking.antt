@@ -4,8 +4,8 @@ use Rattle.std.proofs.Common.{sym, ◌∙◌, ap, subst, append_assoc}
 use Rattle.std.specs.Io.KnownBytes.{Consumes, IsAtEnd, Keeps}
 use Rattle.std.proofs.lemmas.List.{append-nil, length-append, nil_from_length}
 use Rattle.std.proofs.lemmas.Bool.Decides.{nat_tests}
-use Rattle.http_input.specs.Buffers.{Extends, Filled}
-use Rattle.http_input.specs.Inputs.{Took}
+use Rattle.http_input.specs.Buffers.{Filled}
+use Rattle.http_input.specs.Inputs.{Extends, Took}
 
 pub took_trans : (a b c : Option (List ℕ)) (p q r : List ℕ) → Took a b p q → Took b c q r → Took a c p r
 took_trans None b c p q r t u = tt
@@ -24,6 +24,13 @@ pub took_none : (a b : Option (List ℕ)) (p : List ℕ) → Keeps a b → Took 
 took_none None b p h = tt
 took_none (Some xs) None p h = h
 took_none (Some xs) (Some ys) p h = ap (λ l. p ++ l) (sym h)
+
+-- what waited stays
+pub extends_none : (p : List ℕ) → Extends p p
+extends_none p = record { more = []; is = sym (append-nil p) }
+
+pub extends_more : (p q r : List ℕ) → Extends p q → Extends q r → Extends p r
+extends_more p q r g h = record { more = g.more ++ h.more; is = h.is ∙ ap (λ l. l ++ h.more) g.is ∙ append_assoc p g.more h.more }
 
 -- ---- one read
 

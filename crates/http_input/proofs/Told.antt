@@ -174,7 +174,7 @@ body_failed left p x front.Unclosed h = h
 
 -- ---- all that was to come
 
-says : (bytes q ys : List ℕ) (r : Result (Option Head) Front) → bytes ≡ q ++ ys → Came (Some ys) q r → Says bytes q ys r
+pub says : (bytes q ys : List ℕ) (r : Result (Option Head) Front) → bytes ≡ q ++ ys → Came (Some ys) q r → Says bytes q ys r
 says bytes q ys (Ok (Some x)) e c = (c, whole bytes q ys x e c)
 says bytes q ys (Ok None) e c = (e ∙ ap (λ l. l ++ ys) c.0 ∙ c.1, c.0, c.1)
 says bytes q ys (Err front.Head) e c = subst (λ (t : List ℕ). Names bad_head (window t)) (sym e) (names_more bad_head q ys c)

@@ -11,8 +11,7 @@ use Rattle.http_head.specs.declared.head.Head.{Head}
 use Rattle.http_head.specs.Heads.{Marks, ReadsHead, bad, body_length, is_length, length_given, marks_of, most_body, most_head, over, window}
 use Rattle.http_head.specs.Heads.{within_limit}
 use Rattle.http_head.specs.Looks.{IsHead}
-use Rattle.http_input.specs.Buffers.{Extends}
-use Rattle.http_input.specs.Inputs.{HasHead}
+use Rattle.http_input.specs.Inputs.{Extends, HasHead}
 
 pub reads_more : (t more : List ℕ) (h : RequestHead) (rest : List ℕ) → ReadsHead t h rest → ReadsHead (t ++ more) h (rest ++ more)
 reads_more t more h rest r = record {

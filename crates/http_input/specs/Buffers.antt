@@ -14,11 +14,6 @@ items b = slice_range b.room.items b.start b.end
 abbrev pub room : Buffer → ℕ
 room b = length b.room.items - b.end
 
--- q goes on where p ends
-pub record Extends (p q : List ℕ) : Type 0 where
-  pub more : List ℕ
-  pub is : q ≡ p ++ more
-
 -- what one read did to the bytes p, where left may be read still
 abbrev pub Filled : Option (List ℕ) → List ℕ → List ℕ → Result Bool Front → Type 0
 Filled left p q (Ok true) = length p < length q

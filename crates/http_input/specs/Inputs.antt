@@ -42,6 +42,11 @@ request_view r = record { method = r.method.now; target = r.target.now; body = r
 -- ---- what reading leaves
 -- pending: the bytes that were read and not yet used; left: those that the reader still has, where it tells them
 
+-- q goes on where p ends: what waited stays, and what was read stands behind it
+pub record Extends (p q : List ℕ) : Type 0 where
+  pub more : List ℕ
+  pub is : q ≡ p ++ more
+
 -- no byte is lost, and none is made
 abbrev pub Took : Option (List ℕ) → Option (List ℕ) → List ℕ → List ℕ → Type 0
 Took None left' pending pending' = ⊤

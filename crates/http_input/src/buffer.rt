@@ -1,7 +1,7 @@
 //! The bytes that were read and not yet used.
 ghost use Rattle.std.specs.Prelude.{◌≡◌, ◌+◌, ◌<◌, ◌≤◌, [], length, drop, IfOk, OnErr, OnOk};
 ghost use Rattle.http_reply.specs.Counts.{failures_of, inner_of, reads_of};
-ghost use Rattle.http_input.specs.Inputs.{Took, failures_after_read};
+ghost use Rattle.http_input.specs.Inputs.{Extends, Took, failures_after_read};
 
 use http_reply::{Counted, Front};
 use std::alloc::{AllocError, Global};
@@ -22,7 +22,7 @@ pub(crate) struct Buffer {
 }
 
 impl Buffer {
-    ghost use Rattle.http_input.specs.Buffers.{Extends, Filled, items, room};
+    ghost use Rattle.http_input.specs.Buffers.{Filled, items, room};
 
     /// No bytes, in the least room. Fails for want of memory.
     pub(crate) fn new(alloc: Global) -> Result<Buffer, AllocError>

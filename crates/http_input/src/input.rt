@@ -2,7 +2,7 @@
 ghost use Rattle.std.specs.Prelude.{◌≡◌, ◌+◌, ◌≤◌, [], length, drop, nat_eq, IfOk};
 ghost use Rattle.http_head.specs.Heads.{most_body, most_head};
 ghost use Rattle.http_reply.specs.Counts.{failures_of, inner_of, reads_of};
-ghost use Rattle.http_input.specs.Inputs.{Came, IsWhole, Tells, Took};
+ghost use Rattle.http_input.specs.Inputs.{Came, Extends, IsWhole, Tells, Took};
 ghost use Rattle.http_input.specs.Parts as parts;
 ghost use Rattle.http_input.specs.Inputs.{asked_of, empty_reads, failures_after_read, request_view};
 
@@ -48,7 +48,7 @@ impl Model for Input {
 }
 
 impl Input {
-    ghost use Rattle.http_input.specs.Buffers.{Extends, Filled};
+    ghost use Rattle.http_input.specs.Buffers.{Filled};
     ghost use Rattle.http_input.specs.Inputs.{HasHead};
     ghost use Rattle.http_input.specs.Parts.{BodyCame, HeadCame, Sees, last_read};
 
@@ -61,48 +61,6 @@ impl Input {
             buffer,
             lines: [EMPTY_HEADER_SPAN; 64],
         })
-    }
-
-    /// Reads a request to the end of its body (RFC 9112, sections 2 to 6), where it is not there
-    /// yet; `None` where the input ends before a first byte of it. Its bytes stay: a further call
-    /// answers the same request, until [`skip`](Input::skip) lets it go.
-    ///
-    /// Fails, the first of these that comes:
-    ///
-    /// - `Front::Head`: no head can come of the bytes, or it is of another version than HTTP/1.1,
-    ///   or has more than 64 header lines;
-    /// - `Front::Length`: a whole head has a Transfer-Encoding, more than one Content-Length, or
-    ///   one that is not 1 to 18 digits;
-    /// - `Front::TooLong`: there is no whole head in 8,192 bytes, or the Content-Length is above
-    ///   1,572,864;
-    /// - `Front::End`: the input ends later in a request than before its first byte;
-    /// - `Front::Read`: a read failed, for whatever reason; it is not made again;
-    /// - `Front::Memory`: 16,384 bytes at least wait, and there was no memory for more room. It
-    ///   comes before a read, so that no byte is lost.
-    ///
-    /// The cost is one look at each byte of the head for each read that it came in, and at most one
-    /// read for each byte that came and one more; of the limits, at most 8,192 and 1,572,864. A
-    /// request that is there already, or comes whole with one read, takes no more reads. Memory is
-    /// taken only where more than 16,384 bytes wait.
-    pub fn next_request<R: Read>(&mut self, r: &mut Counted<R>) -> Result<Option<Head>, Front>
-        ensures took { Took (R.remaining (inner_of r.old)) (R.remaining (inner_of r.new))
-            self.old self.new }
-        ensures came { Came (R.remaining (inner_of r.new)) self.new result }
-        ensures tells { Tells (R.remaining (inner_of r.old)) (R.remaining (inner_of r.new))
-            self.old self.new result }
-        ensures failures { failures_of r.new ≡ failures_after_read result (failures_of r.old) }
-        ensures each { reads_of r.new + length self.old
-            ≤ reads_of r.old + length self.new + empty_reads result }
-        ensures reads { reads_of r.new ≤ reads_of r.old + most_head + most_body }
-    {
-        match self.next_head(r) {
-            Ok(Some(head)) => match self.read_body(r, head) {
-                Ok(()) => Ok(Some(head)),
-                Err(front) => Err(front),
-            },
-            Ok(None) => Ok(None),
-            Err(front) => Err(front),
-        }
     }
 
     /// The request that was read, lent. Takes no memory.
@@ -136,6 +94,7 @@ impl Input {
 
     /// Reads until there is a whole head; `None` where the input ends before a first byte.
     fn next_head<R: Read>(&mut self, r: &mut Counted<R>) -> Result<Option<Head>, Front>
+        ensures kept { Extends self.old self.new }
         ensures took { Took (R.remaining (inner_of r.old)) (R.remaining (inner_of r.new))
             self.old self.new }
         ensures came { HeadCame (R.remaining (inner_of r.new)) self.new result }
@@ -194,6 +153,7 @@ impl Input {
     #[tactic(auto, using(crate::proofs::Whole::extended, crate::proofs::Taking::took_trans))]
     fn read_body<R: Read>(&mut self, r: &mut Counted<R>, head: Head) -> Result<(), Front>
         requires { HasHead self.old head }
+        ensures kept { Extends self.old self.new }
         ensures took { Took (R.remaining (inner_of r.old)) (R.remaining (inner_of r.new))
             self.old self.new }
         ensures came { BodyCame (R.remaining (inner_of r.new)) self.new head result }
@@ -211,6 +171,52 @@ impl Input {
             }
         }
         Ok(())
+    }
+}
+
+/// Reads a request to the end of its body (RFC 9112, sections 2 to 6), where it is not there
+/// yet; `None` where the input ends before a first byte of it. Its bytes stay: a further call
+/// answers the same request, until [`Input::skip`] lets it go.
+///
+/// Fails, the first of these that comes:
+///
+/// - `Front::Head`: no head can come of the bytes, or it is of another version than HTTP/1.1,
+///   or has more than 64 header lines;
+/// - `Front::Length`: a whole head has a Transfer-Encoding, more than one Content-Length, or
+///   one that is not 1 to 18 digits;
+/// - `Front::TooLong`: there is no whole head in 8,192 bytes, or the Content-Length is above
+///   1,572,864;
+/// - `Front::End`: the input ends later in a request than before its first byte;
+/// - `Front::Read`: a read failed, for whatever reason; it is not made again;
+/// - `Front::Memory`: 16,384 bytes at least wait, and there was no memory for more room. It
+///   comes before a read, so that no byte is lost.
+///
+/// The cost is one look at each byte of the head for each read that it came in, and at most one
+/// read for each byte that came and one more; of the limits, at most 8,192 and 1,572,864. A
+/// request that is there already, or comes whole with one read, takes no more reads. Memory is
+/// taken only where more than 16,384 bytes wait.
+pub fn next_request<R: Read>(
+    input: &mut Input,
+    r: &mut Counted<R>,
+) -> Result<Option<Head>, Front>
+    ensures kept { Extends input.old input.new }
+    ensures took { Took (R.remaining (inner_of r.old)) (R.remaining (inner_of r.new))
+        input.old input.new }
+    ensures came { Came (R.remaining (inner_of r.new)) input.new result }
+    ensures tells { Tells (R.remaining (inner_of r.old)) (R.remaining (inner_of r.new))
+        input.old input.new result }
+    ensures failures { failures_of r.new ≡ failures_after_read result (failures_of r.old) }
+    ensures each { reads_of r.new + length input.old
+        ≤ reads_of r.old + length input.new + empty_reads result }
+    ensures reads { reads_of r.new ≤ reads_of r.old + most_head + most_body }
+{
+    match input.next_head(r) {
+        Ok(Some(head)) => match input.read_body(r, head) {
+            Ok(()) => Ok(Some(head)),
+            Err(front) => Err(front),
+        },
+        Ok(None) => Ok(None),
+        Err(front) => Err(front),
     }
 }
 

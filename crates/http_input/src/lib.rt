@@ -1,7 +1,7 @@
 //! The requests of one HTTP/1.1 connection, read one after the other into a buffer that is kept
 //! (RFC 9112).
 //!
-//! The one contract is that of [`Input::next_request`]: in place of the bytes that were to come
+//! The one contract is that of [`next_request`]: in place of the bytes that were to come
 //! there is the request that RFC 9112 reads from them and the bytes behind it, or it is told why
 //! there is none; however the reads cut them, no byte is lost. The bytes of a request stay in the
 //! buffer: [`Input::request`] lends them, and [`Input::skip`] moves past them.
@@ -22,4 +22,4 @@
 mod buffer;
 mod input;
 
-pub use input::{Input, Request};
+pub use input::{Input, Request, next_request};

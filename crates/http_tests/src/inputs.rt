@@ -1,6 +1,6 @@
 //! Requests that are read one after the other from a connection's bytes.
 use crate::limits::of_lines;
-use http_input::{Input, Request};
+use http_input::{Input, Request, next_request};
 use http_reply::{Counted, Front};
 use std::alloc::{AllocError, Global};
 use std::io;
@@ -59,7 +59,7 @@ enum Told {
 
 /// Reads a request and moves past it: how that came out, and after how many reads and failures.
 fn read<R: Read>(input: &mut Input, reader: &mut Counted<R>) -> (Told, u64, u64) {
-    let told = match input.next_request(reader) {
+    let told = match next_request(input, reader) {
         Ok(Some(head)) => {
             input.skip(head);
             Told::Body(head.body)
@@ -122,7 +122,7 @@ where
     let Ok(mut input) = Input::new(alloc) else {
         return None;
     };
-    let Ok(Some(head)) = input.next_request(&mut reader) else {
+    let Ok(Some(head)) = next_request(&mut input, &mut reader) else {
         return None;
     };
     let reads = reader.reads();

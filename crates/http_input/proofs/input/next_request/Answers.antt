@@ -1,7 +1,7 @@
 use Rattle.std.proofs.Common.{Ok, Err, Some}
 use Rattle.http_input.proofs.Taking.{took_trans}
 use Rattle.http_input.proofs.Told.{body_failed, head_failed, tells_of}
-use Rattle.http_input.proofs.input.Input.next_request.Goals as goal
+use Rattle.http_input.proofs.input.next_request.Goals as goal
 
 pub returns-in-Ok-clause-tells : goal.returns-in-Ok-clause-tells
 returns-in-Ok-clause-tells g c =
