@@ -1,7 +1,1 @@
-pub mod Chunks
-pub mod Conns
-pub mod OneWay
-pub mod Rests
-pub mod Texts
-pub mod Turns
-pub mod Worlds
+pub mod Shares

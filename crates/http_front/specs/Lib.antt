@@ -1,6 +1,2 @@
-pub mod Answered
-pub mod Connections
-pub mod Laws
-pub mod Served
-pub mod Texts
-pub mod Turned
+pub mod Ends
+pub mod Engines

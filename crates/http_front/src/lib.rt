@@ -1,39 +1,41 @@
-//! A connection of HTTP/1.1 and whoever answers it: from the bytes that come to the bytes that go
-//! (RFC 9112).
+//! HTTP/1.1 in front of a store: the requests of a connection and their replies, one connection
+//! over a core by itself, and a server with threads over an engine of `engine_lock`.
 //!
-//! The loop over a connection stands once, in [`serve_all`], over a trait, [`Answering`]: each
-//! request that is read is answered once, and what is written is the text of that answer, in the
-//! requests' order, and nothing besides (`Conn` in `specs/Answered.antt`). It says so too where a
-//! read, a write or memory failed: which replies went out, and of which text exactly how long a
-//! beginning.
+//! [`serve_alone`] answers a connection over a core: what is written is what the model of the whole
+//! history answers the bytes that were read. [`work`] answers one over an engine that other threads
+//! change too: it writes the texts of exactly the outcomes that the engine gave its client, one for
+//! each request that was read, and nothing besides (`specs/Engines.antt`). Both are the one loop of
+//! `http_loop`. [`pool`] accepts the connections of a listener and serves each on a thread of its
+//! own by [`work`], beside a thread that trims and one that ends leases; when all have ended it
+//! closes the engine and gives its core, which stands for some world of the model, or the fault is
+//! one of servers.
 //!
-//! A core of `request_core` is one who answers. Over it the loop is [`serve_alone`]: what is
-//! written is what the model of the whole history answers the bytes that were read, however the
-//! reads cut them, and the core then stands for the model's world (`Conn` in
-//! `specs/Connections.antt`; `proofs/Worlds.antt` leads from the one `Conn` to the other).
+//! A [`Gate`] holds requests back for tests, is told where a request is waited for, and knows
+//! whether a client has left; a [`Clock`] tells the moments by which leases end. The gate and the
+//! reader that `pool` hands in look at the peer (`peer.rt`), so that no client keeps a worker for
+//! nothing.
 //!
-//! For example, on a fresh store, where `H` is the header with revision 2:
+//! Each thread is started in a small function of its own (`threads.rt`): what a thread asks of its
+//! closure, that it may cross, is proved where little else is known.
 //!
-//! ```text
-//! POST /v3/kv/put {"key":"Zm9v","value":"YmFy"}      HTTP/1.1 200 OK, {"header":H}
-//! GET /v3/kv/range                                   HTTP/1.1 404 Not Found, no such path
-//! POST /v3/watch {"create_request":{"key":"Zm9v",    a stream of two chunks and the last one: the
-//!     "start_revision":"2"}}                         watch was created, and the put; the connection
-//!                                                    is closed, and the watch is dropped
-//! POST /v3/kv/put, Content-Length: 1x                HTTP/1.1 400 Bad Request, and it is closed
-//! ```
-//!
-//! The tests stand in the crate `server_tests`, in `src/rows.rt`.
+//! The tests stand in the crate `server_tests`.
 #![tactic(auto)]
 
-mod alone;
-mod answering;
-pub mod laws;
-mod serving;
-mod streaming;
-mod writing;
+mod background;
+mod by_engine;
+mod connection;
+mod door;
+pub mod gate;
+mod peer;
+mod shared;
+mod threads;
+mod workers;
 
-pub use alone::serve_alone;
-pub use answering::{Answering, Told};
-pub use serving::serve_all;
-pub use writing::{Turn, command_path, decline, turn_after, write_settled};
+pub use connection::work;
+pub use door::MOST_CONNECTIONS;
+pub use gate::{Clock, Gate, OpenGate};
+pub use http_head::Head;
+pub use http_input::{Input, Request, next_request};
+pub use http_loop::serve_alone;
+pub use http_reply::{Counted, Front, ReplyBuffer, write_chunk, write_reply};
+pub use threads::pool;

@@ -1,0 +1,90 @@
+-- The share of a client never falls by what answers a connection.
+use Rattle.std.proofs.Common.{◌≡◌, ◌≤◌, ◌⊎◌, inl, inr, ℕ, ◌+◌, arith, List, ◌++◌, Bool, true, false, Option, None, Some, Result, Ok, Err, refl, sym, ◌∙◌, ap, subst}
+use Rattle.kv_model.specs.declared.ids.Ids.{Ids}
+use Rattle.http_head.specs.Requests.{Asked}
+use Rattle.http_reply.specs.declared.front.Front.{Front}
+use Rattle.json_gateway.specs.declared.outcome.Outcome.{Outcome}
+use Rattle.json_gateway.specs.declared.outcome.Settled.{Settled}
+use Rattle.engine_lock.specs.Locked.{Caller, rise}
+use Rattle.http_loop.specs.declared.answering.Told.{Told}
+use Rattle.http_loop.specs.declared.answering.Told.TheVariants as told
+use Rattle.http_loop.specs.Answered.{AreMessages, Conn, IsAnswered, IsStream, IsTold, streamed}
+use Rattle.http_loop.specs.Turned.{NotBegun, Serves}
+use Rattle.http_front.specs.Engines.{Answers, AreTrimmed, AreTrimmedWhere, Finishes, Tells}
+
+-- ---- one call
+
+trimmed : (c c' : Caller) → AreTrimmed c c' → c'.made ≡ c.made
+trimmed c _ (AreTrimmed.last t h d) = refl
+trimmed c c' (AreTrimmed.more t h later) = trimmed _ c' later
+
+trimmed_where : (b : Bool) (c c' : Caller) → AreTrimmedWhere b c c' → c'.made ≡ c.made
+trimmed_where true c c' h = trimmed c c' h
+trimmed_where false c c' h = ap (λ (c : Caller). c.made) h
+
+answers : (ids : Ids) (c c' : Caller) (a : Asked) (o : Outcome) → Answers ids c a o c' → c.made ≤ c'.made
+answers ids c c' a o (inl did) = let e = trimmed_where o.waits _ c' did.trimmed in omega (arith, e)
+answers ids c c' a o (inr refused) = let e = ap (λ (c : Caller). c.made) refused.same in omega (arith, e)
+
+tells : (ids : Ids) (c c' : Caller) (n : ℕ) (x : Told) → Tells ids c n x c' → c'.made ≡ c.made
+tells ids c c' n (told.Text x) h = ap (λ (c : Caller). c.made) h.1
+tells ids c c' n told.End (inl h) = ap (λ (c : Caller). c.made) h
+tells ids c c' n told.End (inr h) = ap (λ (c : Caller). c.made) h
+tells ids c c' n told.Memory h = absurd h
+
+finishes : (c c' : Caller) (w : Option ℕ) → Finishes c w c' → c'.made ≡ c.made
+finishes c c' None h = ap (λ (c : Caller). c.made) h
+finishes c c' (Some n) h = ap (λ (c : Caller). c.made) h.2
+
+-- ---- a request
+
+messages : (ids : Ids) (n k : ℕ) (s t : Caller) (out : List ℕ) (r : Result Bool Front) → AreMessages Caller (Tells ids) n k s out t r → t.made ≡ s.made
+messages ids n _ s t out r (AreMessages.quiet k h sent) = tells ids s t n told.End h
+messages ids n _ s t _ r (AreMessages.more {t = u} {out} k x h later) = messages ids n k u t out r later ∙ tells ids s u n (told.Text x) h
+messages ids n _ s t out _ (AreMessages.cut k x h sent) = tells ids s t n (told.Text x) h
+messages ids n _ s t _ _ (AreMessages.untold k h) = tells ids s t n told.Memory h
+messages ids n _ s _ out r (AreMessages.spent sent) = refl
+
+streams : (ids : Ids) (n : ℕ) (created : List ℕ) (s t : Caller) (out : List ℕ) (r : Result Bool Front) → IsStream Caller (Tells ids) n created s out t r
+    → t.made ≡ s.made
+streams ids n created s _ out _ (IsStream.headless sent) = refl
+streams ids n created s _ _ _ (IsStream.uncreated out sent) = refl
+streams ids n created s t _ r (IsStream.whole {out} later) = messages ids n _ s t out r later
+
+is_told : (ids : Ids) (w : Option ℕ) (x : Settled) (close : Bool) (s t : Caller) (out : List ℕ) (r : Result Bool Front)
+    → IsTold Caller (Tells ids) w x close s out t r → t.made ≡ s.made
+is_told ids None x close s t out r h = ap (λ (c : Caller). c.made) h.0
+is_told ids (Some n) x close s t out r h = streams ids n _ s t out r h
+
+module _ (ids : Ids) where
+  abbrev Is : Caller → Asked → List ℕ → Caller → Result Bool Front → Type 0
+  Is = IsAnswered Caller (Answers ids) (Tells ids) Finishes
+
+  answered : (s t : Caller) (a : Asked) (out : List ℕ) (r : Result Bool Front) → Is s a out t r → s.made ≤ t.made
+  answered s t a out r d =
+      let first = answers ids s d.done a d.outcome d.answers in
+      let told = is_told ids (streamed d.outcome.settled d.outcome.watch) d.outcome.settled a.close d.done d.written out r d.told in
+      let last = finishes d.written t d.outcome.watch d.finishes in
+      omega (arith, first, told, last)
+
+  -- ---- a connection
+
+  conns : (s t : Caller) (bytes : List ℕ) (limit : ℕ) (out : List ℕ) (r : Result ℕ Front) → Conn Caller Is s bytes limit out t r → s.made ≤ t.made
+  conns s _ bytes _ _ _ Conn.at_limit = omega arith
+  conns s _ _ _ _ _ (Conn.at_end l) = omega arith
+  conns s _ bytes _ _ _ (Conn.within l x) = omega arith
+  conns s _ bytes _ out _ (Conn.unanswered l f r n x) = omega arith
+  conns s _ bytes _ _ _ (Conn.unread l) = omega arith
+  conns s _ bytes _ _ _ (Conn.unheld l x) = omega arith
+  conns s t bytes _ _ _ (Conn.more {t = u} {rest} {text} {out} {r} l a x is later) =
+      let first = answered s u a text (Ok false) is in
+      let others = conns u t rest l out r later in
+      omega (arith, first, others)
+  conns s t bytes _ out _ (Conn.closing l a left x is) = answered s t a out (Ok true) is
+  conns s t bytes _ out _ (Conn.broken {f} l a left x is) = answered s t a out (Err f) is
+
+  pub never_falls : (left : Option (List ℕ)) (p : List ℕ) (limit : ℕ) (c c' : Option (List ℕ)) (s t : Caller) (r : Result ℕ Front)
+      → NotBegun s t c c' r ⊎ Serves Caller Is left p limit c c' s t r → s.made ≤ t.made
+  never_falls left p limit c c' s t r (inl none) = let e = ap (λ (c : Caller). c.made) none.same in omega (arith, e)
+  never_falls None p limit c c' s t r (inr all) = conns s t _ limit all.1.out r all.1.are
+  never_falls (Some left) p limit c c' s t r (inr all) = conns s t _ limit all.out r all.are

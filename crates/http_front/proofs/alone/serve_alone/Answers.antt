@@ -1,5 +1,0 @@
-use Rattle.http_front.proofs.Worlds.{serves}
-use Rattle.http_front.proofs.alone.serve_alone.Goals as goal
-
-pub returns-clause-serves : goal.returns-clause-serves
-returns-clause-serves g c = serves _ _ _ _ _ _ _ _ c.serve_all.ensures.serves

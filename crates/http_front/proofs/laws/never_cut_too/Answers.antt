@@ -1,5 +1,0 @@
-use Rattle.http_front.proofs.OneWay.{not_cut}
-use Rattle.http_front.proofs.laws.never_cut_too.Goals as goal
-
-pub returns : goal.returns
-returns c = not_cut

@@ -1,5 +1,0 @@
-use Rattle.http_front.proofs.OneWay.{one_way}
-use Rattle.http_front.proofs.laws.read_in_one_way.Goals as goal
-
-pub returns : goal.returns
-returns c = one_way

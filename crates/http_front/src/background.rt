@@ -1,0 +1,81 @@
+//! What goes on beside the connections: trimming, and leases that end.
+ghost use Rattle.std.specs.Prelude.{◌≤◌, IfSome};
+ghost use Rattle.engine_lock.specs.Locked.{Trims};
+ghost use Rattle.http_front.specs.Ends.{IsDone};
+
+use crate::gate::Clock;
+use engine_lock::{Client, Engine, EngineName, Feed};
+use json_gateway::{Expiry, Trim};
+use std::sync::Wait;
+use std::sync::atomic::{AtomicBool, Ordering};
+use std::time::Duration;
+use std::{thread, time};
+
+/// How long trimming rests once it is done, in milliseconds.
+const TRIM_REST: u64 = 20;
+
+/// How long expiry rests once no lease is due, in milliseconds.
+const EXPIRY_REST: u64 = 100;
+
+/// Makes trimming steps until the server has ended, and rests where one says that it is done.
+pub(crate) fn keep_trimming<L: EngineName, F: Feed, R: Wait + time::Clock>(
+    rt: &R,
+    engine: &Engine<L, F>,
+    ended: &AtomicBool,
+) {
+    for _ in rt.forever() {
+        if ended.load(Ordering::SeqCst) {
+            break;
+        }
+        if make_trim_step(rt, engine).is_some() {
+            thread::sleep(rt, Duration::from_millis(TRIM_REST));
+        }
+    }
+}
+
+/// Makes a trimming step, and tells of it where it says that trimming is done.
+fn make_trim_step<L: EngineName, F: Feed, R: Wait>(rt: &R, engine: &Engine<L, F>) -> Option<Trim>
+    ensures { IfSome result (λ trim. Trims trim × IsDone trim) }
+{
+    match engine.trim_once(rt) {
+        Ok(trim) => match trim {
+            Trim::Done(_) => Some(trim),
+            _ => None,
+        },
+        Err(_) => None,
+    }
+}
+
+/// Makes steps of expiry until the server has ended, and rests where one finds no lease that is
+/// due, or is refused. Hands the client back, with the changes that it made.
+pub(crate) fn keep_expiring<L: EngineName, F: Feed, C: Clock, R: Wait + time::Clock>(
+    rt: &R,
+    engine: &Engine<L, F>,
+    clock: &C,
+    ended: &AtomicBool,
+    client: Client<L, F>,
+) -> Client<L, F> {
+    let mut client = client;
+    for _ in rt.forever() {
+        if ended.load(Ordering::SeqCst) {
+            break;
+        }
+        if !make_expiry_step(rt, engine, clock, &mut client) {
+            thread::sleep(rt, Duration::from_millis(EXPIRY_REST));
+        }
+    }
+    client
+}
+
+/// Makes a step of expiry, and tells whether a lease has ended by it.
+fn make_expiry_step<L: EngineName, F: Feed, C: Clock, R: Wait>(
+    rt: &R,
+    engine: &Engine<L, F>,
+    clock: &C,
+    client: &mut Client<L, F>,
+) -> bool
+    ensures { client.old.made ≤ client.new.made }
+{
+    let step = engine.expire_once(rt, client, clock.now());
+    matches!(step, Ok(Expiry::Expired { .. }))
+}

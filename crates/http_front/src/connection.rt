@@ -1,0 +1,78 @@
+//! One connection, from its first byte to its end.
+ghost use Rattle.std.specs.Prelude.{◌≡◌, ◌≤◌, ◌⊎◌, [], IfErr};
+ghost use Rattle.http_input.specs.Inputs.{failures_after_read};
+ghost use Rattle.http_reply.specs.Counts.{failures_of, inner_of};
+ghost use Rattle.http_reply.specs.Sends.{failures_after};
+ghost use Rattle.http_loop.specs.Answered.{IsAnswered};
+ghost use Rattle.http_loop.specs.Turned.{NotBegun, Serves};
+ghost use Rattle.engine_lock.specs.Locked.{Caller};
+ghost use Rattle.http_front.specs.Ends.{IsOfConnection};
+ghost use Rattle.http_front.specs.Engines.{Answers, Finishes, Tells};
+
+use crate::by_engine::ByEngine;
+use crate::gate::{Clock, Gate};
+use engine_lock::{Client, Engine, EngineName, Feed};
+use http_loop::serve_all;
+use http_reply::{Counted, Front};
+use std::alloc::Global;
+use std::io::{Read, Write};
+use std::sync::Wait;
+use std::time;
+
+/// Answers the requests of a connection one after the other, each by one `submit` to the engine,
+/// and gives the number of its replies. It ends at the input's end before a request, after a
+/// request with `Connection: close`, and after a watch.
+///
+/// What it writes is, in order, the texts of exactly the outcomes that the engine gave this client,
+/// one for each request of the bytes that were read: none is skipped and none answered twice; what
+/// is no command is refused without the engine; a physical Compact is answered behind a step that
+/// said that trimming is done; a stream is the message that its watch was created and then what the
+/// engine told that watch, which is ended behind it (`specs/Engines.antt`, over `Conn` of
+/// `http_loop`). There is nothing besides. Where the reader does not tell its bytes, as a socket,
+/// this is so of some bytes.
+///
+/// `call` is the number of the connection, which the gate is told of before the first byte of each
+/// request, before the request is handed to the engine, and after its reply. The clock is read for
+/// each request. A watch rests for 20 ms where it is told nothing, and ends where the gate says
+/// then that its client has left.
+///
+/// Fails and costs as [`serve_all`] does, which it is over an engine.
+pub fn work<L, F, G, C, R, In, Out>(
+    rt: &R,
+    alloc: Global,
+    engine: &Engine<L, F>,
+    client: &mut Client<L, F>,
+    gate: &G,
+    clock: &C,
+    call: u64,
+    r: &mut Counted<In>,
+    w: &mut Counted<Out>,
+) -> Result<u64, Front>
+where
+    L: EngineName,
+    F: Feed,
+    G: Gate,
+    C: Clock,
+    R: Wait + time::Clock,
+    In: Read,
+    Out: Write,
+    ensures serves { NotBegun client.old client.new
+        (Out.contents (inner_of w.old)) (Out.contents (inner_of w.new)) result
+        ⊎ Serves Caller (IsAnswered Caller (Answers engine.now) (Tells engine.now) Finishes)
+        (In.remaining (inner_of r.old)) [] 18446744073709551615
+        (Out.contents (inner_of w.old)) (Out.contents (inner_of w.new))
+        client.old client.new result }
+    ensures share { client.old.made ≤ client.new.made }
+    ensures reader { failures_of r.new ≡ failures_after_read result (failures_of r.old) }
+    ensures writer { failures_of w.new ≡ failures_after result (failures_of w.old) }
+    ensures fault { IfErr result IsOfConnection }
+{
+    let by = ByEngine {
+        rt,
+        engine,
+        gate,
+        clock,
+        call,
+    };
+    serve_all(alloc, &by, client, r, w, u64::MAX)
+}

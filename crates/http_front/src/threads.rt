@@ -1,0 +1,383 @@
+//! The threads of a server.
+ghost use Rattle.std.specs.Prelude.{◌≡◌, ◌+◌, map, sum, length, None, Err, IfOk, IfErr, IfSome};
+ghost use Rattle.engine_lock.specs.Locked.{IsStanding};
+ghost use Rattle.http_front.specs.Ends.{IsOfServer, fault_of};
+
+use crate::background::{keep_expiring, keep_trimming};
+use crate::gate::{Clock, Gate};
+use crate::shared::Shared;
+use crate::workers::{Worked, keep_working};
+use engine_lock::{Client, Engine, EngineName, Feed};
+use http_reply::Front;
+use request_core::store::Core;
+use std::alloc::Global;
+use std::net::TcpListener;
+use std::sync::Wait;
+use std::sync::atomic::Ordering;
+use std::thread::{JoinHandle, Scope, Threads};
+use std::{thread, time};
+
+/// Serves the connections that come in at a listener, and then closes the engine, and gives its
+/// core: it stands for some world of the model, with all changes that the connections made.
+///
+/// It runs `workers` threads, each with one connection at a time, to that connection's end; one
+/// thread that trims; and one that ends leases. A worker accepts under a lock, which is free again
+/// before the connection is served. Once `connections` of them were accepted, at most 2^63 - 1, no
+/// further one is; the server ends when all of them have.
+///
+/// No client keeps a worker for nothing. A connection on which no byte of a next request has come
+/// for a second is closed, between requests, where another one waits and no worker is free. A watch
+/// whose client has ended its sending side ends within some 20 ms, and what its client sent after
+/// the request is thrown away. A write of which no byte is taken for 10 s fails, and ends the
+/// connection. A client that has begun a request, be it as slow as it will, keeps its own worker.
+///
+/// Fails, when all threads have ended, with
+///
+/// - `Front::Memory`, where the lists of clients and of threads find no memory: no connection is
+///   accepted then, unless it was the list of the clients that came back at the end;
+/// - `Front::Spawn`, where a thread could not be started: none is accepted then, either;
+/// - `Front::Accept`, where an accept failed; the worker that made it has ended there, and the
+///   others went on;
+/// - `Front::Unclosed`, where the engine has no place for a client of each worker and one more, or
+///   where it made clients beside these, which cannot come back.
+pub fn pool<L, F, G, C, R>(
+    rt: &R,
+    alloc: Global,
+    engine: Engine<L, F>,
+    gate: &G,
+    clock: &C,
+    listener: &TcpListener,
+    workers: u64,
+    connections: u64,
+) -> Result<Core, Front>
+where
+    L: EngineName + Send + Sync,
+    F: Feed + Send + Sync,
+    G: Gate + Sync,
+    C: Clock + Sync,
+    R: Wait + Threads + time::Clock + Sync,
+    ensures stands { IfOk result (λ core. IsStanding core) }
+    ensures fault { IfErr result IsOfServer }
+{
+    let Ok(expirer) = engine.client(rt) else {
+        return Err(Front::Unclosed);
+    };
+    let clients = match clients_of(rt, alloc, &engine, workers) {
+        Ok(clients) => clients,
+        Err(front) => return Err(front),
+    };
+    let shared = Shared::new(&engine, gate, clock, listener, connections);
+    let Served { clients, trouble } = run_threads(rt, alloc, &shared, clients, expirer);
+    drop(shared);
+    closed(engine, clients, trouble)
+}
+
+/// Why a server ends before its connections do.
+#[derive(Clone, Copy, Debug, PartialEq, Eq)]
+enum Trouble {
+    /// A thread could not be started.
+    Spawn,
+    /// An accept failed.
+    Accept,
+    /// A list found no memory.
+    Memory,
+}
+
+/// The same, as a fault.
+fn front_of(trouble: Trouble) -> Front
+    ensures of_server { IsOfServer result }
+    ensures same { result ≡ fault_of trouble }
+{
+    match trouble {
+        Trouble::Spawn => Front::Spawn,
+        Trouble::Accept => Front::Accept,
+        Trouble::Memory => Front::Memory,
+    }
+}
+
+/// So many clients.
+fn clients_of<L: EngineName, F: Feed, R: Wait>(
+    rt: &R,
+    alloc: Global,
+    engine: &Engine<L, F>,
+    count: u64,
+) -> Result<Vec<Client<L, F>>, Front>
+    ensures count { IfOk result (λ clients. length clients.items ≡ count) }
+    ensures fault { IfErr result IsOfServer }
+{
+    let mut clients = Vec::new(alloc);
+    for _ in 0..count {
+        let Ok(client) = engine.client(rt) else {
+            return Err(Front::Unclosed);
+        };
+        if clients.push(client).is_err() {
+            return Err(Front::Memory);
+        }
+    }
+    Ok(clients)
+}
+
+/// Closes an engine whose threads have ended, and gives its core: it has all changes of the
+/// clients.
+fn closed<L: EngineName, F: Feed>(
+    engine: Engine<L, F>,
+    clients: Vec<Client<L, F>>,
+    trouble: Option<Trouble>,
+) -> Result<Core, Front>
+    ensures stands { IfOk result (λ core. IsStanding core) }
+    ensures total { IfOk result
+        (λ core. core.store.revision ≡ 1 + sum (map (λ c. c.made) clients.items)) }
+    ensures told { IfSome trouble (λ t. result ≡ Err (fault_of t)) }
+    ensures fault { IfErr result IsOfServer }
+{
+    match (engine.close(clients), trouble) {
+        (_, Some(trouble)) => Err(front_of(trouble)),
+        (Ok(core), None) => Ok(core),
+        (Err(_), None) => Err(Front::Unclosed),
+    }
+}
+
+/// What is left when the threads have ended: the clients that came back, and what went wrong.
+#[derive(Drop)]
+struct Served<L: EngineName, F: Feed> {
+    clients: Vec<Client<L, F>>,
+    trouble: Option<Trouble>,
+}
+
+/// Starts the threads, and joins them.
+fn run_threads<L, F, G, C, R>(
+    rt: &R,
+    alloc: Global,
+    shared: &Shared<'_, L, F, G, C>,
+    clients: Vec<Client<L, F>>,
+    expirer: Client<L, F>,
+) -> Served<L, F>
+where
+    L: EngineName + Send + Sync,
+    F: Feed + Send + Sync,
+    G: Gate + Sync,
+    C: Clock + Sync,
+    R: Wait + Threads + time::Clock + Sync,
+{
+    thread::scope(thread::scope_env(), rt, move |scope| {
+        serve_trimmed(scope, rt, alloc, shared, clients, expirer)
+    })
+}
+
+/// Serves, with a thread that trims until that has ended.
+fn serve_trimmed<'s, E, L, F, G, C, R>(
+    scope: &Scope<'s, E>,
+    rt: &'s R,
+    alloc: Global,
+    shared: &'s Shared<'s, L, F, G, C>,
+    clients: Vec<Client<L, F>>,
+    expirer: Client<L, F>,
+) -> Served<L, F>
+where
+    L: EngineName + Send + Sync + 's,
+    F: Feed + Send + Sync + 's,
+    G: Gate + Sync + 's,
+    C: Clock + Sync + 's,
+    R: Wait + Threads + time::Clock + Sync + 's,
+{
+    let trimmer = start_trimming(scope, rt, shared);
+    let served = serve_expiring(
+        scope,
+        rt,
+        alloc,
+        shared,
+        clients,
+        expirer,
+        trimmer.is_some(),
+    );
+    if let Some(handle) = trimmer {
+        handle.join(rt);
+    }
+    served
+}
+
+/// Serves, with a thread that ends leases until that has ended, and then lets the threads beside it
+/// end. `trims` tells whether the one that trims was started.
+fn serve_expiring<'s, E, L, F, G, C, R>(
+    scope: &Scope<'s, E>,
+    rt: &'s R,
+    alloc: Global,
+    shared: &'s Shared<'s, L, F, G, C>,
+    clients: Vec<Client<L, F>>,
+    expirer: Client<L, F>,
+    trims: bool,
+) -> Served<L, F>
+where
+    L: EngineName + Send + Sync + 's,
+    F: Feed + Send + Sync + 's,
+    G: Gate + Sync + 's,
+    C: Clock + Sync + 's,
+    R: Wait + Threads + time::Clock + Sync + 's,
+{
+    let expirer = start_expiring(scope, rt, shared, expirer);
+    let all = trims && expirer.is_some();
+    let (working, trouble) = start_all(scope, rt, alloc, shared, clients, all);
+    let mut served = join_all(rt, alloc, working, trouble);
+    shared.ended.store(true, Ordering::SeqCst);
+    if let Some(handle) = expirer {
+        if served.clients.push(handle.join(rt)).is_err() {
+            served.trouble = Some(Trouble::Memory);
+        }
+    }
+    served
+}
+
+/// Starts a worker for each client, and tells why one has none. No connection comes in before all
+/// are started, and none where one is not, or where those beside them were not all started.
+fn start_all<'s, E, L, F, G, C, R>(
+    scope: &Scope<'s, E>,
+    rt: &'s R,
+    alloc: Global,
+    shared: &'s Shared<'s, L, F, G, C>,
+    clients: Vec<Client<L, F>>,
+    all: bool,
+) -> (Vec<JoinHandle<Worked<L, F>>>, Option<Trouble>)
+where
+    L: EngineName + Send + Sync + 's,
+    F: Feed + Send + Sync + 's,
+    G: Gate + Sync + 's,
+    C: Clock + Sync + 's,
+    R: Wait + Threads + time::Clock + Sync + 's,
+{
+    let mut guard = shared.door.lock(rt);
+    let (working, trouble) = start_workers(scope, rt, alloc, shared, clients);
+    let trouble = if all { trouble } else { Some(Trouble::Spawn) };
+    if trouble.is_some() {
+        guard.shut();
+    }
+    drop(guard);
+    (working, trouble)
+}
+
+/// Starts the thread that trims; `None` where no thread could be started.
+fn start_trimming<'s, E, L, F, G, C, R>(
+    scope: &Scope<'s, E>,
+    rt: &'s R,
+    shared: &'s Shared<'s, L, F, G, C>,
+) -> Option<JoinHandle<()>>
+where
+    L: EngineName + Send + Sync + 's,
+    F: Feed + Send + Sync + 's,
+    G: Sync + 's,
+    C: Sync + 's,
+    R: Wait + time::Clock + Sync + 's,
+{
+    let engine = shared.engine;
+    let ended = &shared.ended;
+    match scope.spawn(move || keep_trimming(rt, engine, ended)) {
+        Ok(handle) => Some(handle),
+        Err(_) => None,
+    }
+}
+
+/// Starts the thread that ends leases; `None` where no thread could be started.
+fn start_expiring<'s, E, L, F, G, C, R>(
+    scope: &Scope<'s, E>,
+    rt: &'s R,
+    shared: &'s Shared<'s, L, F, G, C>,
+    client: Client<L, F>,
+) -> Option<JoinHandle<Client<L, F>>>
+where
+    L: EngineName + Send + Sync + 's,
+    F: Feed + Send + Sync + 's,
+    G: Sync + 's,
+    C: Clock + Sync + 's,
+    R: Wait + time::Clock + Sync + 's,
+{
+    let engine = shared.engine;
+    let clock = shared.clock;
+    let ended = &shared.ended;
+    match scope.spawn(move || keep_expiring(rt, engine, clock, ended, client)) {
+        Ok(handle) => Some(handle),
+        Err(_) => None,
+    }
+}
+
+/// Starts a worker for each client, and tells why one has none.
+fn start_workers<'s, E, L, F, G, C, R>(
+    scope: &Scope<'s, E>,
+    rt: &'s R,
+    alloc: Global,
+    shared: &'s Shared<'s, L, F, G, C>,
+    clients: Vec<Client<L, F>>,
+) -> (Vec<JoinHandle<Worked<L, F>>>, Option<Trouble>)
+where
+    L: EngineName + Send + Sync + 's,
+    F: Feed + Send + Sync + 's,
+    G: Gate + Sync + 's,
+    C: Clock + Sync + 's,
+    R: Wait + time::Clock + Sync + 's,
+    ensures all { result.1 ≡ None → length result.0.items ≡ length clients.items }
+{
+    let mut working = Vec::new(alloc);
+    let mut trouble = None;
+    for client in clients {
+        match start_working(scope, rt, alloc, shared, client) {
+            Some(handle) => {
+                if working.push(handle).is_err() {
+                    trouble = Some(Trouble::Memory);
+                }
+            }
+            None => trouble = Some(Trouble::Spawn),
+        }
+    }
+    (working, trouble)
+}
+
+/// Starts a worker; `None` where no thread could be started.
+fn start_working<'s, E, L, F, G, C, R>(
+    scope: &Scope<'s, E>,
+    rt: &'s R,
+    alloc: Global,
+    shared: &'s Shared<'s, L, F, G, C>,
+    client: Client<L, F>,
+) -> Option<JoinHandle<Worked<L, F>>>
+where
+    L: EngineName + Send + Sync + 's,
+    F: Feed + Send + Sync + 's,
+    G: Gate + Sync + 's,
+    C: Clock + Sync + 's,
+    R: Wait + time::Clock + Sync + 's,
+{
+    match scope.spawn(move || keep_working(rt, alloc, shared, client)) {
+        Ok(handle) => Some(handle),
+        Err(_) => None,
+    }
+}
+
+/// Joins the workers.
+fn join_all<L: EngineName, F: Feed, R: Threads>(
+    rt: &R,
+    alloc: Global,
+    working: Vec<JoinHandle<Worked<L, F>>>,
+    trouble: Option<Trouble>,
+) -> Served<L, F> {
+    let mut served = Served {
+        clients: Vec::new(alloc),
+        trouble,
+    };
+    for handle in working {
+        let Worked { client, failed } = handle.join(rt);
+        if failed {
+            served.trouble = Some(served.trouble.unwrap_or(Trouble::Accept));
+        }
+        served = with_client(served, client);
+    }
+    served
+}
+
+/// One more client came back.
+fn with_client<L: EngineName, F: Feed>(served: Served<L, F>, client: Client<L, F>) -> Served<L, F> {
+    let Served { clients, trouble } = served;
+    let mut clients = clients;
+    let trouble = match clients.push(client) {
+        Ok(()) => trouble,
+        Err(_) => Some(Trouble::Memory),
+    };
+    Served { clients, trouble }
+}

@@ -1,0 +1,103 @@
+//! A worker: one connection after the other, each to its end.
+
+use crate::connection::work;
+use crate::door::Door;
+use crate::gate::{Clock, Gate};
+use crate::peer::{Coming, Going, Peer, PeerGate};
+use crate::shared::Shared;
+use engine_lock::{Client, EngineName, Feed};
+use http_reply::Counted;
+use std::alloc::Global;
+use std::net::{TcpListener, TcpStream};
+use std::sync::{Mutex, Wait};
+use std::{io, time};
+
+/// What a worker hands back: its client, with the changes that it made, and whether an accept
+/// failed.
+#[derive(Drop)]
+pub(crate) struct Worked<L: EngineName, F: Feed> {
+    pub(crate) client: Client<L, F>,
+    pub(crate) failed: bool,
+}
+
+/// Serves one connection after the other, until no further one comes in or an accept fails.
+pub(crate) fn keep_working<L, F, G, C, R>(
+    rt: &R,
+    alloc: Global,
+    shared: &Shared<'_, L, F, G, C>,
+    client: Client<L, F>,
+) -> Worked<L, F>
+where
+    L: EngineName,
+    F: Feed,
+    G: Gate,
+    C: Clock,
+    R: Wait + time::Clock,
+{
+    let mut client = client;
+    for _ in rt.forever() {
+        match next(rt, shared.listener, &shared.door) {
+            Ok(Some((call, stream))) => {
+                serve(rt, alloc, shared, &mut client, call, &stream);
+            }
+            Ok(None) => {
+                return Worked {
+                    client,
+                    failed: false,
+                };
+            }
+            Err(_) => {
+                return Worked {
+                    client,
+                    failed: true,
+                };
+            }
+        }
+    }
+    unreachable!()
+}
+
+/// The next connection; the door is free again once it came in.
+fn next<R: Wait>(
+    rt: &R,
+    listener: &TcpListener,
+    door: &Mutex<Door>,
+) -> io::Result<Option<(u64, TcpStream)>> {
+    door.lock(rt).next(listener)
+}
+
+/// Serves a connection to its end. What ends it is the peer's affair.
+fn serve<L, F, G, C, R>(
+    rt: &R,
+    alloc: Global,
+    shared: &Shared<'_, L, F, G, C>,
+    client: &mut Client<L, F>,
+    call: u64,
+    stream: &TcpStream,
+)
+where
+    L: EngineName,
+    F: Feed,
+    G: Gate,
+    C: Clock,
+    R: Wait + time::Clock,
+{
+    let peer = Peer::new(stream, shared.listener, &shared.door);
+    let gate = PeerGate {
+        gate: shared.gate,
+        peer: &peer,
+    };
+    let mut r = Counted::new(Coming { peer: &peer });
+    let mut w = Counted::new(Going { peer: &peer });
+    let _ = work(
+        rt,
+        alloc,
+        shared.engine,
+        client,
+        &gate,
+        shared.clock,
+        call,
+        &mut r,
+        &mut w,
+    );
+}

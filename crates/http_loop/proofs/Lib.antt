@@ -1,0 +1,7 @@
+pub mod Chunks
+pub mod Conns
+pub mod OneWay
+pub mod Rests
+pub mod Texts
+pub mod Turns
+pub mod Worlds

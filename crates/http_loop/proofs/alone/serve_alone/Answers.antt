@@ -1,0 +1,5 @@
+use Rattle.http_loop.proofs.Worlds.{serves}
+use Rattle.http_loop.proofs.alone.serve_alone.Goals as goal
+
+pub returns-clause-serves : goal.returns-clause-serves
+returns-clause-serves g c = serves _ _ _ _ _ _ _ _ c.serve_all.ensures.serves

@@ -1,0 +1,104 @@
+-- What the requests of a connection are answered, by whoever answers them (RFC 9112). What stands before and after is a
+-- value of S: of the one who answers, or the world that it stands for.
+use Rattle.std.specs.Prelude.{◌≡◌, ℕ, ◌+◌, ◌^◌, ◌≤◌, List, [], ◌++◌, length, Bool, true, false, Option, None, Some}
+use Rattle.std.specs.Prelude.{Result, Ok, Err, Vec}
+use Rattle.std.specs.Global.{Global}
+use Rattle.http_head.specs.Heads.{Fault, Names, window}
+use Rattle.http_head.specs.Requests.{Asked, IsCut, ReadsAsked}
+use Rattle.http_reply.specs.declared.front.Front.{Front}
+use Rattle.http_reply.specs.declared.front.Front.TheVariants as front
+use Rattle.http_reply.specs.Replies.{chunk, last_chunk, refusal_bytes, reply_bytes, stream_head}
+use Rattle.json_gateway.specs.declared.outcome.Outcome.{Outcome}
+use Rattle.json_gateway.specs.declared.outcome.Settled.{Settled}
+use Rattle.json_gateway.specs.declared.outcome.Settled.TheVariants as settled
+use Rattle.json_gateway.specs.Outcomes.{wire_response}
+use Rattle.http_loop.specs.declared.answering.Told.{Told}
+use Rattle.http_loop.specs.declared.answering.Told.TheVariants as told
+use Rattle.http_loop.specs.Texts.{IsSent, end_of, front_of, replies_more}
+
+-- the most messages of a stream, beside its first
+abbrev pub most_messages : ℕ
+most_messages = 2 ^ 64
+
+-- The messages of a watch, k at most, and then the last chunk: what is written for them, what stands after them, and
+-- how they ended.
+pub data AreMessages (S : Type 0) (Tells : S → ℕ → Told → S → Type 0) (n : ℕ)
+    : ℕ → S → List ℕ → S → Result Bool Front → Type 0 where
+  -- no further one comes
+  quiet : {s t : S} {out : List ℕ} {r : Result Bool Front} (k : ℕ) → Tells s n told.End t
+      → IsSent true last_chunk out r → AreMessages S Tells n (1 + k) s out t r
+  -- a message is a chunk, and others follow
+  more : {s t u : S} {out : List ℕ} {r : Result Bool Front} (k : ℕ) (x : Vec ℕ Global) → Tells s n (told.Text x) t
+      → AreMessages S Tells n k t out u r → AreMessages S Tells n (1 + k) s (chunk x.items ++ out) u r
+  -- a chunk was not written to its end
+  cut : {s t : S} {out : List ℕ} {f : Front} (k : ℕ) (x : Vec ℕ Global) → Tells s n (told.Text x) t
+      → IsSent true (chunk x.items) out (Err f) → AreMessages S Tells n (1 + k) s out t (Err f)
+  -- no memory was found for one
+  untold : {s t : S} (k : ℕ) → Tells s n told.Memory t → AreMessages S Tells n (1 + k) s [] t (Err front.Memory)
+  -- as many as there may be were told
+  spent : {s : S} {out : List ℕ} {r : Result Bool Front} → IsSent true last_chunk out r
+      → AreMessages S Tells n 0 s out s r
+
+-- the stream of a watch: its head, its created message as the first chunk, and its messages
+pub data IsStream (S : Type 0) (Tells : S → ℕ → Told → S → Type 0) (n : ℕ) (created : List ℕ) (s : S)
+    : List ℕ → S → Result Bool Front → Type 0 where
+  headless : {out : List ℕ} {f : Front} → IsSent true stream_head out (Err f)
+      → IsStream S Tells n created s out s (Err f)
+  uncreated : (out : List ℕ) {f : Front} → IsSent true (chunk created) out (Err f)
+      → IsStream S Tells n created s (stream_head ++ out) s (Err f)
+  whole : {out : List ℕ} {t : S} {r : Result Bool Front} → AreMessages S Tells n most_messages s out t r
+      → IsStream S Tells n created s (stream_head ++ (chunk created ++ out)) t r
+
+-- the watch whose messages answer a request: it was made, and its answer was not lost
+abbrev pub streamed : Settled → Option ℕ → Option ℕ
+streamed (settled.Reply r) watch = watch
+streamed settled.Memory watch = None
+streamed (settled.Lost at) watch = None
+
+-- an outcome is told by its reply, or by the stream of the watch that it made
+abbrev pub IsTold : (S : Type 0) → (S → ℕ → Told → S → Type 0) → Option ℕ → Settled → Bool → S → List ℕ → S
+    → Result Bool Front → Type 0
+IsTold S Tells None x close s out t r = (t ≡ s) × IsSent close (reply_bytes (wire_response x) close) out r
+IsTold S Tells (Some n) x close s out t r = IsStream S Tells n (wire_response x).body s out t r
+
+-- What is written for a request, what stands after it, and whether the connection ends with it, or why its reply was
+-- not written: it is answered once, that answer is told, and it is finished.
+pub record IsAnswered (S : Type 0) (Answers : S → Asked → Outcome → S → Type 0) (Tells : S → ℕ → Told → S → Type 0)
+    (Finishes : S → Option ℕ → S → Type 0) (s : S) (a : Asked) (out : List ℕ) (u : S) (r : Result Bool Front)
+    : Type 0 where
+  pub outcome : Outcome
+  pub done : S
+  pub written : S
+  pub answers : Answers s a outcome done
+  pub told : IsTold S Tells (streamed outcome.settled outcome.watch) outcome.settled a.close done out written r
+  pub finishes : Finishes written outcome.watch u
+
+-- From what stands, these bytes and so many requests at most: what is written, what stands then, and the number of
+-- replies, or why there are no more.
+pub data Conn (S : Type 0) (Is : S → Asked → List ℕ → S → Result Bool Front → Type 0)
+    : S → List ℕ → ℕ → List ℕ → S → Result ℕ Front → Type 0 where
+  -- no more requests are to be answered
+  at_limit : {s : S} {bytes : List ℕ} → Conn S Is s bytes 0 [] s (Ok 0)
+  -- the input ends before a first byte
+  at_end : {s : S} (limit : ℕ) → Conn S Is s [] (1 + limit) [] s (Ok 0)
+  -- the input ends within a request
+  within : {s : S} {bytes : List ℕ} (limit : ℕ) → IsCut bytes → Conn S Is s bytes (1 + limit) [] s (Err front.End)
+  -- the bytes begin with no request that is answered
+  unanswered : {s : S} {bytes out : List ℕ} (limit : ℕ) (f : Fault) (r : Result Bool Front) → Names f (window bytes)
+      → IsSent true (refusal_bytes (front_of f)) out r
+      → Conn S Is s bytes (1 + limit) out s (Err (end_of (front_of f) r))
+  -- a read failed
+  unread : {s : S} {bytes : List ℕ} (limit : ℕ) → Conn S Is s bytes (1 + limit) [] s (Err front.Read)
+  -- no memory was found for as many bytes as wait
+  unheld : {s : S} {bytes : List ℕ} (limit : ℕ) → 16384 ≤ length bytes
+      → Conn S Is s bytes (1 + limit) [] s (Err front.Memory)
+  -- a request, and then the others
+  more : {s t u : S} {bytes rest text out : List ℕ} {r : Result ℕ Front} (limit : ℕ) (a : Asked)
+      → ReadsAsked bytes a rest → Is s a text t (Ok false) → Conn S Is t rest limit out u r
+      → Conn S Is s bytes (1 + limit) (text ++ out) u (replies_more 1 r)
+  -- a request that closes the connection
+  closing : {s t : S} {bytes text : List ℕ} (limit : ℕ) (a : Asked) (rest : List ℕ) → ReadsAsked bytes a rest
+      → Is s a text t (Ok true) → Conn S Is s bytes (1 + limit) text t (Ok 1)
+  -- a request that was done, and whose reply was not written to its end
+  broken : {s t : S} {bytes text : List ℕ} {f : Front} (limit : ℕ) (a : Asked) (rest : List ℕ)
+      → ReadsAsked bytes a rest → Is s a text t (Err f) → Conn S Is s bytes (1 + limit) text t (Err f)

@@ -1,0 +1,6 @@
+pub mod Answered
+pub mod Connections
+pub mod Laws
+pub mod Served
+pub mod Texts
+pub mod Turned
