@@ -150,7 +150,7 @@ impl Input {
     }
 
     /// Reads until the body of a head is there.
-    #[tactic(auto, using(crate::proofs::Whole::extended, crate::proofs::Taking::took_trans))]
+    #[tactic(auto, using(crate::proofs::Whole::extended, crate::proofs::Taking::extends_more, crate::proofs::Taking::took_trans))]
     fn read_body<R: Read>(&mut self, r: &mut Counted<R>, head: Head) -> Result<(), Front>
         requires { HasHead self.old head }
         ensures kept { Extends self.old self.new }
@@ -195,10 +195,7 @@ impl Input {
 /// read for each byte that came and one more; of the limits, at most 8,192 and 1,572,864. A
 /// request that is there already, or comes whole with one read, takes no more reads. Memory is
 /// taken only where more than 16,384 bytes wait.
-pub fn next_request<R: Read>(
-    input: &mut Input,
-    r: &mut Counted<R>,
-) -> Result<Option<Head>, Front>
+pub fn next_request<R: Read>(input: &mut Input, r: &mut Counted<R>) -> Result<Option<Head>, Front>
     ensures kept { Extends input.old input.new }
     ensures took { Took (R.remaining (inner_of r.old)) (R.remaining (inner_of r.new))
         input.old input.new }
