@@ -94,7 +94,7 @@ module _ (S : Type 0) (Is : S → Asked → List ℕ → S → Result Bool Front
     turned = by_none c (λ out. (later : List ℕ) → MayHaveAfter left' (Ok turn.End) later → Ends S Is s (p ++ (k.more ++ later)) s (Ok 0) out)
         (λ later m l.
         let none = says (p ++ (k.more ++ later)) q later (Ok None) (whole p q k later)
-            (came_some left' q later (Ok None) (Ok turn.End) tt m (subst (λ (o : Option Head). Came left' q (Ok o)) e h)) in
+        (came_some left' q later (Ok None) (Ok turn.End) tt m (subst (λ (o : Option Head). Came left' q (Ok o)) e h)) in
         subst (λ (bytes : List ℕ). Conn S Is s bytes (1 + l) [] s (Ok 0)) (sym none.0) (Conn.at_end l));
   }
 

@@ -48,7 +48,8 @@ pub fn serve_all<S, A: Answering<S>, R: Read, W: Write>(
     limit: u64,
 ) -> Result<u64, Front>
     ensures serves { NotBegun state.old state.new (W.contents (inner_of w.old)) (W.contents (inner_of w.new)) result
-        ⊎ Serves S (IsAnswered S (A.Answers by.now) (A.Tells by.now) (A.Finishes by.now)) (R.remaining (inner_of r.old)) [] limit
+        ⊎ Serves S (IsAnswered S (A.Answers by.now) (A.Tells by.now) (A.Finishes by.now))
+        (R.remaining (inner_of r.old)) [] limit
         (W.contents (inner_of w.old)) (W.contents (inner_of w.new)) state.old state.new result }
     ensures ends { IfErr result IsOfConnection }
     ensures reads { failures_of r.new ≡ failures_after_read result (failures_of r.old) }
@@ -60,16 +61,7 @@ pub fn serve_all<S, A: Answering<S>, R: Read, W: Write>(
     let Ok(mut buffer) = ReplyBuffer::new(alloc) else {
         return Err(Front::Memory);
     };
-    serve(
-        alloc,
-        by,
-        state,
-        &mut input,
-        &mut buffer,
-        r,
-        w,
-        limit,
-    )
+    serve(alloc, by, state, &mut input, &mut buffer, r, w, limit)
 }
 
 /// The same, with the buffers that it takes.
@@ -83,7 +75,8 @@ fn serve<S, A: Answering<S>, R: Read, W: Write>(
     w: &mut Counted<W>,
     limit: u64,
 ) -> Result<u64, Front>
-    ensures serves { Serves S (IsAnswered S (A.Answers by.now) (A.Tells by.now) (A.Finishes by.now)) (R.remaining (inner_of r.old)) input.old limit
+    ensures serves { Serves S (IsAnswered S (A.Answers by.now) (A.Tells by.now) (A.Finishes by.now))
+        (R.remaining (inner_of r.old)) input.old limit
         (W.contents (inner_of w.old)) (W.contents (inner_of w.new)) state.old state.new result }
     ensures ends { IfErr result IsOfConnection }
     ensures reads { failures_of r.new ≡ failures_after_read result (failures_of r.old) }
@@ -155,7 +148,8 @@ fn answer<S, A: Answering<S>, W: Write>(
     w: &mut Counted<W>,
 ) -> Result<bool, Front>
     ensures does { Grows (W.contents (inner_of w.old)) (W.contents (inner_of w.new))
-        (λ out. IsAnswered S (A.Answers by.now) (A.Tells by.now) (A.Finishes by.now) state.old (request_view request.now) out state.new result) }
+        (λ out. IsAnswered S (A.Answers by.now) (A.Tells by.now) (A.Finishes by.now)
+        state.old (request_view request.now) out state.new result) }
     ensures ends { IfErr result IsOfWriting }
     ensures writes { failures_of w.new ≡ failures_after result (failures_of w.old) }
 {
@@ -176,22 +170,14 @@ fn reply<S, A: Answering<S>, W: Write>(
     w: &mut Counted<W>,
 ) -> Result<bool, Front>
     ensures does { Grows (W.contents (inner_of w.old)) (W.contents (inner_of w.new))
-        (λ out. IsTold S (A.Tells by.now) (streamed outcome.now.settled outcome.now.watch) outcome.now.settled close
-        state.old out state.new result) }
+        (λ out. IsTold S (A.Tells by.now) (streamed outcome.now.settled outcome.now.watch)
+        outcome.now.settled close state.old out state.new result) }
     ensures ends { IfErr result IsOfWriting }
     ensures writes { failures_of w.new ≡ failures_after result (failures_of w.old) }
 {
     match (&outcome.settled, outcome.watch) {
         (Settled::Reply(created), Some(number)) => {
-            stream(
-                alloc,
-                by,
-                state,
-                number,
-                created.body.as_slice(),
-                buffer,
-                w,
-            )
+            stream(alloc, by, state, number, created.body.as_slice(), buffer, w)
         }
         (settled, _) => write_settled(buffer, w, settled, close),
     }
