@@ -1,5 +1,6 @@
 -- A connection by one turn more.
-use Rattle.std.proofs.Common.{◌≡◌, ◌≤◌, ◌<◌, ◌⊎◌, inl, inr, ℕ, ◌+◌, ◌-◌, arith, List, [], ◌++◌, Bool, true, false, Option, None, Some, Result, Ok, Err, ⊤, refl, sym, ◌∙◌, ap, subst, append_assoc}
+use Rattle.std.proofs.Common.{◌≡◌, ◌≤◌, ◌<◌, ◌⊎◌, inl, inr, ℕ, ◌+◌, ◌-◌, arith, List, [], ◌++◌, Bool, true, false, Option, None, Some, Result, Ok, Err, refl, sym, ◌∙◌, ap, subst, append_assoc}
+use Rattle.std.specs.Prelude.{⊤}
 use Rattle.std.proofs.lemmas.List.{append-nil}
 use Rattle.http_head.specs.Requests.{Asked}
 use Rattle.http_reply.specs.declared.front.Front.{Front}
@@ -24,7 +25,7 @@ more_twice n m (Err f) = refl
 -- ---- the bytes of a reader
 
 -- what it still has, where it tells that, and else nothing
-rest_of : Option (List ℕ) → List ℕ
+abbrev rest_of : Option (List ℕ) → List ℕ
 rest_of None = []
 rest_of (Some xs) = xs
 

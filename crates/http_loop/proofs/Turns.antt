@@ -1,5 +1,6 @@
 -- A request that was read, or why there is none, and the turn that it makes.
-use Rattle.std.proofs.Common.{◌≡◌, ◌≤◌, ℕ, ◌+◌, List, [], ◌++◌, length, drop, Bool, true, false, Option, None, Some, Result, Ok, Err, ⊤, ⊥, refl, sym, ◌∙◌, ap, subst, append_assoc}
+use Rattle.std.proofs.Common.{◌≡◌, ◌≤◌, ℕ, ◌+◌, List, [], ◌++◌, length, drop, Bool, true, false, Option, None, Some, Result, Ok, Err, refl, sym, ◌∙◌, ap, subst, append_assoc}
+use Rattle.std.specs.Prelude.{⊤}
 use Rattle.std.proofs.lemmas.List.{append_cancel_left}
 use Rattle.std.specs.Io.KnownBytes.{Appends}
 use Rattle.http_head.specs.declared.head.Head.{Head}
@@ -24,7 +25,7 @@ use Rattle.http_loop.proofs.Texts.{by_none, seen_as, silent}
 gave : (left left' : Option (List ℕ)) (p q : List ℕ) → (k : Extends p q) → Took left left' p q → Gave left k.more left'
 gave None left' p q k t = tt
 gave (Some xs) None p q k t = t
-gave (Some xs) (Some ys) p q k t = append_cancel_left p (t ∙ ap (λ l. l ++ ys) k.is ∙ append_assoc p k.more ys)
+gave (Some xs) (Some ys) p q k t = append_cancel_left p xs (k.more ++ ys) (t ∙ ap (λ l. l ++ ys) k.is ∙ append_assoc p k.more ys)
 
 -- the whole is what stands in the buffer and what comes
 whole : (p q : List ℕ) (k : Extends p q) (later : List ℕ) → p ++ (k.more ++ later) ≡ q ++ later

@@ -1,7 +1,10 @@
-use Rattle.std.proofs.Common.{arith, ◌∙◌}
+use Rattle.std.proofs.Common.{arith, refl, ◌∙◌}
 use Rattle.http_loop.specs.Answered.{IsAnswered}
-use Rattle.http_loop.proofs.Conns.{at_limit, end, failed, last, on}
+use Rattle.http_loop.proofs.Conns.{at_limit, end, failed, last, on, start}
 use Rattle.http_loop.proofs.serving.serve.Goals as goal
+
+pub loop-count-init : goal.loop-count-init
+loop-count-init g c = (omega arith, refl, refl, start _ (IsAnswered _ (g.A.Answering.Answers c.args.by.now) (g.A.Answering.Tells c.args.by.now) (g.A.Answering.Finishes c.args.by.now)) _ _ c.args.state.now _)
 
 pub loop-count-preserved : goal.loop-count-preserved
 loop-count-preserved g c = (

@@ -1,6 +1,6 @@
 use Rattle.http_input.specs.Inputs.{request_view}
 use Rattle.http_loop.proofs.Worlds.{answers}
-use Rattle.http_loop.proofs.alone.AloneAnswering.answer.Goals as goal
+use Rattle.http_loop.proofs.alone.AloneAnsweringCore.answer.Goals as goal
 
 pub returns : goal.returns
 returns c =
