@@ -1,1 +1,3 @@
 pub mod Locked
+pub mod PastViews
+pub mod Pasts

@@ -1,6 +1,7 @@
 -- What the lock of an engine keeps, and what is done with its core in one holding.
 use Rattle.std.specs.Prelude.{◌≡◌, ◌≤◌, ℕ, ◌+◌, Bool, true, false, Option, None, Some, Result, Ok, Err}
-use Rattle.std.specs.Prelude.{if◌then◌else◌, is_some}
+use Rattle.std.specs.Prelude.{List, [], ◌∷◌, ◌++◌, if◌then◌else◌, is_some}
+use Rattle.std.specs.declared.alloc.AllocError.{AllocError}
 use Rattle.kv_model.specs.declared.ids.Ids.{Ids}
 use Rattle.kv_model.specs.declared.refusal.Refusal.{Refusal}
 use Rattle.kv_model.specs.Answers.{response_to}
@@ -15,10 +16,13 @@ use Rattle.request_core.specs.declared.answer.Expiry.TheVariants as expiry
 use Rattle.request_core.specs.Commands.{Expires, RefusesExpiry, TrimsOnce}
 use Rattle.request_core.specs.State.{CoreState, after_moment}
 use Rattle.json_gateway.specs.declared.outcome.Message.{Message}
+use Rattle.json_gateway.specs.declared.outcome.Message.TheVariants as message
 use Rattle.json_gateway.specs.declared.outcome.Outcome.{Outcome}
 use Rattle.json_gateway.specs.Endings.{Ends, IsCounted, KeepsAs, is_change}
 use Rattle.json_gateway.specs.Outcomes.{IsBare, is_accepted}
 use Rattle.json_gateway.specs.Runs.{message_view}
+use Rattle.engine_lock.specs.declared.past.Given.{Given}
+use Rattle.engine_lock.specs.declared.past.Given.TheVariants as given
 
 -- ---- what the lock keeps
 
@@ -37,9 +41,10 @@ pub record Opened : Type 0 where
   pub name : ℕ
   pub parts : ℕ
 
--- of a client: how many changes it made
+-- of a client: how many changes it made, and all that the engine gave it, in order
 pub record Caller : Type 0 where
   pub made : ℕ
+  pub given : List Given
 
 -- of what stands under the lock: the core, and how many clients were made
 pub record LockState : Type 0 where
@@ -61,6 +66,23 @@ rise_of_step (expiry.Expired id revision raised) = if raised then 1 else 0
 abbrev pub rise_of_expiry : Result Expiry Refusal → ℕ
 rise_of_expiry (Ok e) = rise_of_step e
 rise_of_expiry (Err e) = 0
+
+-- ---- what a client is given
+
+-- one thing more
+abbrev pub plus : Caller → Given → Caller
+plus c one = record c { given = c.given ++ one ∷ [] }
+
+-- a message that tells nothing
+abbrev pub is_quiet : Message → Bool
+is_quiet message.Nothing = true
+is_quiet message.NoWatch = false
+is_quiet (message.Text text) = false
+
+-- what a delivery came to: a message, unless it tells nothing or no memory was found
+abbrev pub told_to : Caller → ℕ → Result Message AllocError → Caller
+told_to c number (Err e) = c
+told_to c number (Ok m) = if is_quiet m then c else plus c (given.Told number m)
 
 -- ---- one holding, by the core before it and the core after it
 
@@ -133,3 +155,10 @@ pub record Trims (t : Trim) : Type 0 where
   pub new : CoreState
   pub stood : IsStanding old
   pub trims : TrimsOnce old new t
+
+-- the watch of this number was ended, if there was one, in some core that stood for a world
+pub record Drops (number : ℕ) (stood : Bool) : Type 0 where
+  pub old : CoreState
+  pub new : CoreState
+  pub stands : IsStanding old
+  pub ends : EndsWatch number old new stood

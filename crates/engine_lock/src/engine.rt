@@ -1,9 +1,11 @@
 //! The engine: one event of the core for each holding of its lock.
-ghost use Rattle.std.specs.Prelude.{◌≡◌, ◌+◌, true, is_ok, map, sum, IfOk, IfErr};
+ghost use Rattle.std.specs.Prelude.{◌≡◌, ◌+◌, ◌<◌, true, is_ok, map, sum, length, IfOk, IfErr};
+ghost use Rattle.std.specs.Prelude.{[], ◌∷◌, ◌++◌};
 ghost use Rattle.kv_model.specs.Commands.{call_of};
 ghost use Rattle.kv_model.specs.declared.refusal.Refusal.TheVariants.{NoPlace, NoWatch};
-ghost use Rattle.engine_lock.specs.Locked.{IsStanding, Submits, SubmitsExpiry, Tells, Trims};
-ghost use Rattle.engine_lock.specs.Locked.{rise, rise_of_expiry};
+ghost use Rattle.engine_lock.specs.Locked.{Drops, IsStanding, Submits, SubmitsExpiry, Tells, Trims};
+ghost use Rattle.engine_lock.specs.Locked.{plus, rise, rise_of_expiry, told_to};
+ghost use Rattle.engine_lock.specs.declared.past.Given.TheVariants as given;
 
 use crate::client::Client;
 use crate::closing::CloseFault;
@@ -13,9 +15,16 @@ use json_gateway::{Expiry, Ids, Message, Outcome, Refusal, Trim};
 use kv_model::call::Command;
 use request_core::store::Core;
 use std::alloc::{AllocError, Global};
+use std::hint::spin_loop;
 use std::marker::Model;
 use std::sync::ledger::Ledger;
-use std::sync::{Mutex, Wait};
+use std::sync::{Mutex, MutexGuard, Wait};
+
+/// How often the lock is asked for before a thread sleeps for it.
+const ASKS: u64 = 60;
+
+/// How long a thread spins between two of these.
+const SPINS: u64 = 20;
 
 /// A core that any number of threads share. Clauses see of it by which ids it answers.
 #[derive(Drop)]
@@ -61,13 +70,14 @@ impl<L: EngineName, F: Feed> Engine<L, F> {
         })
     }
 
-    /// A client that made no change yet. `NoPlace` comes once 64 were made, however many of them
-    /// are still there. Takes no memory.
+    /// A client that made no change and was given nothing yet. `NoPlace` comes once 64 were made,
+    /// however many of them are still there. Takes no memory.
     pub fn client<R: Wait>(&self, rt: &R) -> Result<Client<L, F>, Refusal>
         ensures made { IfOk result (λ c. c.made ≡ 0) }
+        ensures given { IfOk result (λ c. c.given ≡ []) }
         ensures full { IfErr result (λ e. e ≡ NoPlace) }
     {
-        self.state.lock(rt).client()
+        locked(rt, &self.state).client()
     }
 
     /// Hands in the moment `now`, in milliseconds, and then does a command, in one holding. The
@@ -77,8 +87,8 @@ impl<L: EngineName, F: Feed> Engine<L, F> {
     /// all changes that the client had made (`Submits`). The client's share rises by one where the
     /// outcome tells a new revision, also where its answer was lost, and else stays.
     ///
-    /// The text of the answer is made while the lock is held: the cost is that of `perform`, and
-    /// of waiting for the lock.
+    /// The client was given just that outcome. The text of the answer is made while the lock is
+    /// held: the cost is that of `perform`, and of waiting for the lock.
     pub fn submit<R: Wait>(
         &self,
         rt: &R,
@@ -89,12 +99,11 @@ impl<L: EngineName, F: Feed> Engine<L, F> {
         ensures submits { Submits self.now client.old.made now (call_of command.now)
             result.outcome }
         ensures share { client.new.made ≡ client.old.made + rise result.outcome.raised }
+        ensures given { client.new.given
+            ≡ client.old.given ++ given.Done command.now now result.outcome ∷ [] }
     {
         Submitted {
-            outcome: self
-                .state
-                .lock(rt)
-                .submit(self.alloc, &self.ids, client, now, command),
+            outcome: locked(rt, &self.state).submit(self.alloc, &self.ids, client, now, command),
         }
     }
 
@@ -104,15 +113,45 @@ impl<L: EngineName, F: Feed> Engine<L, F> {
     pub fn deliver<R: Wait>(&self, rt: &R, number: u64) -> Result<Message, AllocError>
         ensures { IfOk result (λ m. Tells self.now number m) }
     {
-        self.state.lock(rt).deliver(self.alloc, &self.ids, number)
+        locked(rt, &self.state).deliver(self.alloc, &self.ids, number)
+    }
+
+    /// As [`Engine::deliver`], for a client: it was given just that message, and nothing where the
+    /// watch is caught up or no memory was found.
+    pub fn deliver_for<R: Wait>(
+        &self,
+        rt: &R,
+        client: &mut Client<L, F>,
+        number: u64,
+    ) -> Result<Message, AllocError>
+        ensures tells { IfOk result (λ m. Tells self.now number m) }
+        ensures given { client.new ≡ told_to client.old number result }
+    {
+        locked(rt, &self.state).deliver_for(self.alloc, &self.ids, client, number)
     }
 
     /// Ends the watch of a number. `NoWatch` comes where no watch has the number, and then nothing
     /// changes. Takes no memory.
     pub fn drop_watch<R: Wait>(&self, rt: &R, number: u64) -> Result<(), Refusal>
-        ensures { IfErr result (λ e. e ≡ NoWatch) }
+        ensures drops { Drops number (is_ok result) }
+        ensures missing { IfErr result (λ e. e ≡ NoWatch) }
     {
-        self.state.lock(rt).drop_watch(number)
+        locked(rt, &self.state).drop_watch(number)
+    }
+
+    /// As [`Engine::drop_watch`], for a client: it was given that this watch was ended, or that
+    /// there was none.
+    pub fn drop_watch_for<R: Wait>(
+        &self,
+        rt: &R,
+        client: &mut Client<L, F>,
+        number: u64,
+    ) -> Result<(), Refusal>
+        ensures drops { Drops number (is_ok result) }
+        ensures missing { IfErr result (λ e. e ≡ NoWatch) }
+        ensures given { client.new ≡ plus client.old (given.Dropped number (is_ok result)) }
+    {
+        locked(rt, &self.state).drop_watch_for(client, number)
     }
 
     /// Makes a trimming step, as `Core::trim_step` does. It is a `Result` since readers will have
@@ -121,13 +160,22 @@ impl<L: EngineName, F: Feed> Engine<L, F> {
         ensures trims { IfOk result (λ t. Trims t) }
         ensures made { is_ok result ≡ true }
     {
-        Ok(self.state.lock(rt).trim())
+        Ok(locked(rt, &self.state).trim())
+    }
+
+    /// As [`Engine::trim_once`], for a client: it was given just that step.
+    pub fn trim_once_for<R: Wait>(&self, rt: &R, client: &mut Client<L, F>) -> Result<Trim, Refusal>
+        ensures trims { IfOk result (λ t. Trims t) }
+        ensures given { IfOk result (λ t. client.new ≡ plus client.old (given.Trimmed t)) }
+        ensures made { is_ok result ≡ true }
+    {
+        Ok(locked(rt, &self.state).trim_for(client))
     }
 
     /// Hands in the moment `now`, in milliseconds, and then makes a step of expiry, as
     /// `Core::expire` does, in one holding. The client's share rises by one where the step tells
-    /// that the revision rose, and else stays. Refused as `RevisionsSpent` and as `Memory`, as
-    /// there; the moment then stands.
+    /// that the revision rose, and else stays; it was given just that step. Refused as
+    /// `RevisionsSpent` and as `Memory`, as there; the moment then stands.
     pub fn expire_once<R: Wait>(
         &self,
         rt: &R,
@@ -136,18 +184,21 @@ impl<L: EngineName, F: Feed> Engine<L, F> {
     ) -> Result<Expiry, Refusal>
         ensures submits { SubmitsExpiry client.old.made now result }
         ensures share { client.new.made ≡ client.old.made + rise_of_expiry result }
+        ensures given { client.new.given ≡ client.old.given ++ given.Expired now result ∷ [] }
     {
-        self.state.lock(rt).expire(client, now)
+        locked(rt, &self.state).expire(client, now)
     }
 
     /// Ends the engine, and gives back its core, where every client that it made came back. Then
     /// the core's revision is 1 plus the sum of their shares.
     ///
-    /// `CloseFault` is Missing: some client did not come. Takes no memory, and waits for nobody.
+    /// `CloseFault` is Missing: some client did not come, so there are fewer than 64. Takes no
+    /// memory, and waits for nobody.
     pub fn close(self, clients: Vec<Client<L, F>>) -> Result<Core, CloseFault<L, F>>
         ensures stands { IfOk result (λ c. IsStanding c) }
         ensures total { IfOk result
             (λ c. c.store.revision ≡ 1 + sum (map (λ x. x.made) clients.items)) }
+        ensures missing { IfErr result (λ f. length clients.items < 64) }
         ensures clients { IfErr result (λ f. f.clients ≡ clients) }
         ensures ids { IfErr result (λ f. f.engine ≡ self) }
     {
@@ -163,4 +214,17 @@ impl<L: EngineName, F: Feed> Engine<L, F> {
         };
         Err(CloseFault { engine, clients })
     }
+}
+
+/// What is under a lock. Most holdings are short, so a thread asks for a while before it sleeps.
+fn locked<'a, T, R: Wait>(rt: &R, mutex: &'a Mutex<T>) -> MutexGuard<'a, T> {
+    for _ in 0..ASKS {
+        if let Some(guard) = mutex.try_lock() {
+            return guard;
+        }
+        for _ in 0..SPINS {
+            spin_loop();
+        }
+    }
+    mutex.lock(rt)
 }

@@ -10,8 +10,11 @@
 //!
 //! One holding of the lock makes one event: [`Engine::submit`] hands in the moment and does the
 //! command, [`Engine::expire_once`] hands in the moment and makes a step of expiry,
-//! [`Engine::deliver`], [`Engine::drop_watch`] and [`Engine::trim_once`] are an event each. For
-//! example, where `a` and `b` are two clients:
+//! [`Engine::deliver`], [`Engine::drop_watch`] and [`Engine::trim_once`] are an event each. These
+//! three stand twice, as `.._for` for a client too: a client has, for clauses alone, the list of
+//! all that it was given ([`Given`]), in order, so that a caller's contract can say what it did
+//! with each outcome, message and step, and that there was no other. For example, where `a` and `b`
+//! are two clients:
 //!
 //! ```text
 //!                             core                       shares of a, b    the book's total
@@ -36,6 +39,7 @@ mod client;
 mod closing;
 pub mod engine;
 pub mod opening;
+pub mod past;
 mod state;
 mod steps;
 
@@ -43,6 +47,7 @@ pub use client::Client;
 pub use closing::CloseFault;
 pub use engine::{Engine, Submitted};
 pub use opening::{EngineName, Feed, NoFeed, Opening};
+pub use past::Given;
 
 /// How many clients one engine makes in its life.
 pub const MOST_CLIENTS: u64 = 64;

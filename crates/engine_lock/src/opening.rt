@@ -8,12 +8,12 @@ use std::sync::ledger::{Blank, Ledger};
 /// Names one engine, by the ledger of its clients' shares. No type but `Brand` has it, and a call
 /// with `Brand` picks the name: so engine and clients live inside a function that is generic in
 /// it, and a client of another engine has another type.
-pub trait EngineName: Ledger + Send + Sync {}
+pub trait EngineName: Ledger {}
 
 impl EngineName for Brand {}
 
 /// What readers beside the writer are told of, kept under the lock beside the core.
-pub trait Feed: Drop + Send + Sync {}
+pub trait Feed: Drop {}
 
 /// No reader is told of anything.
 #[derive(Drop)]

@@ -1,13 +1,17 @@
 //! What stands under the lock: the core, the ledger's book, and what readers are told of.
-ghost use Rattle.std.specs.Prelude.{◌≡◌, ◌+◌, nat_eq, if◌then◌else◌, is_ok, map, sum, length};
+ghost use Rattle.std.specs.Prelude.{◌≡◌, ◌+◌, ◌≤◌, nat_le, if◌then◌else◌, is_ok, map, sum, length};
+ghost use Rattle.std.specs.Prelude.{[], ◌∷◌, ◌++◌};
 ghost use Rattle.std.specs.Prelude.{IfOk, IfErr, OnOk, OnErr};
 ghost use Rattle.kv_model.specs.Commands.{call_of};
+ghost use Rattle.kv_model.specs.World.{opening as first_world};
 ghost use Rattle.kv_model.specs.declared.refusal.Refusal.TheVariants.{NoPlace, NoWatch};
+ghost use Rattle.store_laws.specs.Stands.{StandsFor};
 ghost use Rattle.request_core.specs.Commands.{TrimsOnce};
 ghost use Rattle.request_core.specs.State.{after_moment};
-ghost use Rattle.engine_lock.specs.Locked.{EndsWatch, IsStanding, MakesExpiry, Performs};
+ghost use Rattle.engine_lock.specs.Locked.{Drops, EndsWatch, IsStanding, MakesExpiry, Performs};
 ghost use Rattle.engine_lock.specs.Locked.{Submits, SubmitsExpiry, Tells, TellsFrom, Trims};
-ghost use Rattle.engine_lock.specs.Locked.{rise, rise_of_expiry};
+ghost use Rattle.engine_lock.specs.Locked.{plus, rise, rise_of_expiry, told_to};
+ghost use Rattle.engine_lock.specs.declared.past.Given.TheVariants as given;
 
 use crate::MOST_CLIENTS;
 use crate::client::Client;
@@ -48,7 +52,8 @@ impl<L: EngineName, F: Feed> State<L, F> {
     pub(crate) fn new(alloc: Global, opening: Opening<F>) -> Self
         requires name { opening.name ≡ L.Ledger.name }
         requires parts { opening.parts ≡ L.Ledger.parts }
-        ensures { result.clients ≡ 0 }
+        ensures core { StandsFor result.core.store first_world }
+        ensures clients { result.clients ≡ 0 }
     {
         let Opening { blank, feed } = opening;
         let (book, rest) = blank.open::<L>();
@@ -64,6 +69,7 @@ impl<L: EngineName, F: Feed> State<L, F> {
     /// One more client. `NoPlace` comes after 64.
     pub(crate) fn client(&mut self) -> Result<Client<L, F>, Refusal>
         ensures made { IfOk result (λ c. c.made ≡ 0) }
+        ensures given { IfOk result (λ c. c.given ≡ []) }
         ensures counted { OnOk result (self.new.clients ≡ self.old.clients + 1) }
         ensures full { IfErr result (λ e. (e ≡ NoPlace) × (self.old.clients ≡ 64)) }
         ensures core { self.new.core ≡ self.old.core }
@@ -90,6 +96,8 @@ impl<L: EngineName, F: Feed> State<L, F> {
             self.new.core result }
         ensures submits { Submits ids.now client.old.made now (call_of command.now) result }
         ensures share { client.new.made ≡ client.old.made + rise result.raised }
+        ensures given { client.new.given
+            ≡ client.old.given ++ given.Done command.now now result ∷ [] }
         ensures clients { self.new.clients ≡ self.old.clients }
     {
         audit(&mut self.book, client);
@@ -98,13 +106,16 @@ impl<L: EngineName, F: Feed> State<L, F> {
         if outcome.raised.is_some() {
             count(&self.core, &mut self.book, client);
         }
+        client.note_done(command, now, &outcome);
         outcome
     }
+
     /// Hands in a moment and then makes a step of expiry; a change is the client's.
     pub(crate) fn expire(&mut self, client: &mut Client<L, F>, now: u64) -> Result<Expiry, Refusal>
         ensures makes { MakesExpiry (after_moment self.old.core now) self.new.core result }
         ensures submits { SubmitsExpiry client.old.made now result }
         ensures share { client.new.made ≡ client.old.made + rise_of_expiry result }
+        ensures given { client.new.given ≡ client.old.given ++ given.Expired now result ∷ [] }
         ensures clients { self.new.clients ≡ self.old.clients }
     {
         audit(&mut self.book, client);
@@ -113,6 +124,7 @@ impl<L: EngineName, F: Feed> State<L, F> {
         if has_raised(&step) {
             count(&self.core, &mut self.book, client);
         }
+        client.note_expired(now, &step);
         step
     }
 
@@ -132,14 +144,53 @@ impl<L: EngineName, F: Feed> State<L, F> {
         told(alloc, &mut self.core, number, ids)
     }
 
+    /// The same, for a client.
+    pub(crate) fn deliver_for(
+        &mut self,
+        alloc: Global,
+        ids: &Ids,
+        client: &mut Client<L, F>,
+        number: u64,
+    ) -> Result<Message, AllocError>
+        ensures told { IfOk result (λ m.
+            TellsFrom ids.now number self.old.core self.new.core m) }
+        ensures tells { IfOk result (λ m. Tells ids.now number m) }
+        ensures given { client.new ≡ told_to client.old number result }
+        ensures clients { self.new.clients ≡ self.old.clients }
+        ensures unchanged { OnErr result (self.new ≡ self.old) }
+    {
+        let told = self.deliver(alloc, ids, number);
+        client.note_told(number, &told);
+        told
+    }
+
     /// Ends a watch.
     pub(crate) fn drop_watch(&mut self, number: u64) -> Result<(), Refusal>
         ensures ends { EndsWatch number self.old.core self.new.core (is_ok result) }
+        ensures drops { Drops number (is_ok result) }
         ensures missing { IfErr result (λ e. e ≡ NoWatch) }
         ensures clients { self.new.clients ≡ self.old.clients }
         ensures unchanged { OnErr result (self.new ≡ self.old) }
     {
         dropped(&mut self.core, number)
+    }
+
+    /// The same, for a client.
+    pub(crate) fn drop_watch_for(
+        &mut self,
+        client: &mut Client<L, F>,
+        number: u64,
+    ) -> Result<(), Refusal>
+        ensures ends { EndsWatch number self.old.core self.new.core (is_ok result) }
+        ensures drops { Drops number (is_ok result) }
+        ensures missing { IfErr result (λ e. e ≡ NoWatch) }
+        ensures given { client.new ≡ plus client.old (given.Dropped number (is_ok result)) }
+        ensures clients { self.new.clients ≡ self.old.clients }
+        ensures unchanged { OnErr result (self.new ≡ self.old) }
+    {
+        let ended = self.drop_watch(number);
+        client.note_dropped(number, ended.is_ok());
+        ended
     }
 
     /// Makes a trimming step.
@@ -151,16 +202,30 @@ impl<L: EngineName, F: Feed> State<L, F> {
         trimmed(&mut self.core)
     }
 
-    /// Whether these are all clients that were made: none of them can be there twice.
-    pub(crate) fn has_all(&self, clients: &Vec<Client<L, F>>) -> bool
-        ensures { result ≡ nat_eq (length clients.now.items) self.now.clients }
+    /// The same, for a client.
+    pub(crate) fn trim_for(&mut self, client: &mut Client<L, F>) -> Trim
+        ensures trims { TrimsOnce self.old.core self.new.core result }
+        ensures may { Trims result }
+        ensures given { client.new ≡ plus client.old (given.Trimmed result) }
+        ensures clients { self.new.clients ≡ self.old.clients }
     {
-        clients.len() as u64 == self.clients
+        let step = self.trim();
+        client.note_trimmed(&step);
+        step
+    }
+
+    /// Whether these are all clients that were made: none of them can be there twice, so there are
+    /// no more.
+    pub(crate) fn has_all(&self, clients: &Vec<Client<L, F>>) -> bool
+        ensures all { result ≡ nat_le self.now.clients (length clients.now.items) }
+        ensures most { self.now.clients ≤ 64 }
+    {
+        self.clients <= clients.len() as u64
     }
 
     /// The core, where all clients came back: then the book's total is the sum of their shares.
     pub(crate) fn finish(self, clients: Vec<Client<L, F>>) -> Core
-        requires { length clients.items ≡ self.clients }
+        requires { self.clients ≤ length clients.items }
         ensures core { result ≡ self.core }
         ensures stands { IsStanding result }
         ensures total { result.store.revision ≡ 1 + sum (map (λ c. c.made) clients.items) }
@@ -191,6 +256,7 @@ fn has_raised(step: &Result<Expiry, Refusal>) -> bool
 /// A share, and those of all these clients.
 fn merge_all<L: EngineName, F: Feed>(rest: Share<L>, clients: Vec<Client<L, F>>) -> Share<L>
     ensures parts { result.parts ≡ rest.parts + length clients.items }
+    ensures most { rest.parts ≤ L.Ledger.parts → result.parts ≤ L.Ledger.parts }
     ensures amount { result.amount ≡ rest.amount + sum (map (λ c. c.made) clients.items) }
 {
     let mut rest = rest;

@@ -82,6 +82,7 @@ pub(crate) fn count<L: EngineName, F: Feed>(
     requires { core.now.store.revision ≡ 2 + book.old.total }
     ensures total { book.new.total ≡ book.old.total + 1 }
     ensures made { client.new.made ≡ client.old.made + 1 }
+    ensures given { client.new.given ≡ client.old.given }
 {
     // Its 64 bits bound the total, and so the share.
     let _revision = core.status().revision;

@@ -8,37 +8,42 @@ use std::alloc::Global;
 use std::marker::Brand;
 use std::sync::Wait;
 
-/// So many clients are made, where all of them stay.
+/// So many clients are made, where all of them stay, why there is no other, and whether these give
+/// the core back.
 fn made<L: EngineName, R: Wait>(
     rt: &R,
     alloc: Global,
     opening: Opening<NoFeed>,
-) -> (usize, Option<Refusal>)
+) -> (usize, Option<Refusal>, bool)
     requires name { opening.name ≡ L.Ledger.name }
     requires parts { opening.parts ≡ L.Ledger.parts }
 {
     let Ok(engine) = Engine::<L, NoFeed>::new(alloc, opening, ONES) else {
-        return (0, None);
+        return (0, None, false);
     };
     let mut clients = Vec::new(alloc);
+    let mut refused = None;
     for _ in 0..=MOST_CLIENTS {
         match engine.client(rt) {
             Ok(client) => {
                 let _ = clients.push(client);
             }
-            Err(refusal) => return (clients.len(), Some(refusal)),
+            Err(refusal) => refused = Some(refusal),
         }
     }
-    (clients.len(), None)
+    (clients.len(), refused, engine.close(clients).is_ok())
 }
 
-fn run_made<R: Wait>(rt: &R, alloc: Global) -> (usize, Option<Refusal>) {
+fn run_made<R: Wait>(rt: &R, alloc: Global) -> (usize, Option<Refusal>, bool) {
     made::<Brand, R>(rt, alloc, Opening::new(NoFeed))
 }
 
 #[test]
 fn the_client_after_64_has_no_place(rt: HostRuntime) {
-    assert_eq!(rt; run_made(&rt, rt.alloc()), (64, Some(Refusal::NoPlace)));
+    assert_eq!(rt;
+        run_made(&rt, rt.alloc()),
+        (64, Some(Refusal::NoPlace), true)
+    );
 }
 
 /// A request's status, on an engine.
@@ -73,12 +78,13 @@ struct Said {
     share: u64,
 }
 
-fn call_each<L: EngineName, R: Wait>(
+/// A watch of one key, a put of it, and a put of a second key under a lease of one second.
+fn begin<L: EngineName, R: Wait>(
     rt: &R,
     alloc: Global,
     engine: &Engine<L, NoFeed>,
     client: &mut Client<L, NoFeed>,
-) -> Said {
+) {
     let watch = b"{\"create_request\":{\"key\":\"YQ==\"}}";
     let _watched = posted(rt, alloc, engine, client, b"/v3/watch", watch);
     let _put = posted(
@@ -93,6 +99,13 @@ fn call_each<L: EngineName, R: Wait>(
     let _granted = posted(rt, alloc, engine, client, b"/v3/lease/grant", grant);
     let leased = b"{\"key\":\"Yg==\",\"lease\":\"7\"}";
     let _leased = posted(rt, alloc, engine, client, b"/v3/kv/put", leased);
+}
+
+fn call_each<L: EngineName, R: Wait>(
+    rt: &R,
+    engine: &Engine<L, NoFeed>,
+    client: &mut Client<L, NoFeed>,
+) -> Said {
     Said {
         is_told: matches!(&engine.deliver(rt, 1), Ok(Message::Text(_))),
         is_quiet: matches!(&engine.deliver(rt, 1), Ok(Message::Nothing)),
@@ -103,26 +116,50 @@ fn call_each<L: EngineName, R: Wait>(
     }
 }
 
+fn call_each_for<L: EngineName, R: Wait>(
+    rt: &R,
+    engine: &Engine<L, NoFeed>,
+    client: &mut Client<L, NoFeed>,
+) -> Said {
+    Said {
+        is_told: matches!(&engine.deliver_for(rt, client, 1), Ok(Message::Text(_))),
+        is_quiet: matches!(&engine.deliver_for(rt, client, 1), Ok(Message::Nothing)),
+        ends: (
+            engine.drop_watch_for(rt, client, 1),
+            engine.drop_watch_for(rt, client, 1),
+        ),
+        trims: engine.trim_once_for(rt, client),
+        expires: engine.expire_once(rt, client, 2000),
+        share: client.share(),
+    }
+}
+
+/// What each call says on a new engine: the calls for a client, or those for nobody.
 fn each_call<L: EngineName, R: Wait>(
     rt: &R,
     alloc: Global,
     opening: Opening<NoFeed>,
+    for_client: bool,
 ) -> Option<Said>
     requires name { opening.name ≡ L.Ledger.name }
     requires parts { opening.parts ≡ L.Ledger.parts }
 {
     let engine = Engine::<L, NoFeed>::new(alloc, opening, ONES).ok()?;
     let mut client = engine.client(rt).ok()?;
-    Some(call_each(rt, alloc, &engine, &mut client))
+    begin(rt, alloc, &engine, &mut client);
+    if for_client {
+        Some(call_each_for(rt, &engine, &mut client))
+    } else {
+        Some(call_each(rt, &engine, &mut client))
+    }
 }
 
-fn run_each_call<R: Wait>(rt: &R, alloc: Global) -> Option<Said> {
-    each_call::<Brand, R>(rt, alloc, Opening::new(NoFeed))
+fn run_each_call<R: Wait>(rt: &R, alloc: Global, for_client: bool) -> Option<Said> {
+    each_call::<Brand, R>(rt, alloc, Opening::new(NoFeed), for_client)
 }
 
-#[test]
-fn each_call_of_an_engine(rt: HostRuntime) {
-    let wanted = Said {
+fn said_of_each_call() -> Said {
+    Said {
         is_told: true,
         is_quiet: true,
         ends: (Ok(()), Err(Refusal::NoWatch)),
@@ -133,8 +170,23 @@ fn each_call_of_an_engine(rt: HostRuntime) {
             raised: true,
         }),
         share: 3,
-    };
-    assert_eq!(rt; run_each_call(&rt, rt.alloc()), Some(wanted));
+    }
+}
+
+#[test]
+fn each_call_of_an_engine(rt: HostRuntime) {
+    assert_eq!(rt;
+        run_each_call(&rt, rt.alloc(), false),
+        Some(said_of_each_call())
+    );
+}
+
+#[test]
+fn each_call_for_a_client(rt: HostRuntime) {
+    assert_eq!(rt;
+        run_each_call(&rt, rt.alloc(), true),
+        Some(said_of_each_call())
+    );
 }
 
 /// An engine closes with one of its two clients, and then with both: the number of the fault and

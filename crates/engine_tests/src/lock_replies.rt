@@ -5,6 +5,7 @@ use crate::rows;
 use crate::rows::{Row, Step};
 use engine_lock::{Client, Engine, EngineName, NoFeed, Opening};
 use json_gateway::{Expiry, Ids, Message, Trim, read};
+use request_core::store::Core;
 use std::alloc::Global;
 use std::marker::Brand;
 use std::sync::Wait;
@@ -120,8 +121,8 @@ fn first_otherwise<L: EngineName, R: Wait>(
     None
 }
 
-/// How many versions the core of an engine keeps that closes with this one client.
-pub(super) fn versions_left<L: EngineName>(
+/// How many versions the dump has of the core of an engine that closes with this one client.
+fn versions_left<L: EngineName>(
     alloc: Global,
     engine: Engine<L, NoFeed>,
     client: Client<L, NoFeed>,
@@ -131,8 +132,18 @@ pub(super) fn versions_left<L: EngineName>(
         return None;
     };
     match engine.close(clients) {
-        Ok(core) => Some(core.status().versions),
+        Ok(core) => dumped(&core),
         Err(_) => None,
+    }
+}
+
+/// How many versions the dump of a core has, where its status says as many.
+fn dumped(core: &Core) -> Option<u64> {
+    let count = core.dump().ok()?.versions.len() as u64;
+    if count == core.status().versions {
+        Some(count)
+    } else {
+        None
     }
 }
 
@@ -161,10 +172,20 @@ fn run_row<R: Wait>(rt: &R, alloc: Global, steps: &[Step]) -> (Option<usize>, Op
     run::<Brand, R>(rt, alloc, Opening::new(NoFeed), steps)
 }
 
-/// Whether a row goes as it has to, and leaves as many versions.
+/// How many versions a row's last step says are kept, where that is a trimming step that is done.
+fn done_at_last(steps: &[Step]) -> Option<u64> {
+    match steps.last() {
+        Some(Step::Done(count)) => Some(*count),
+        _ => None,
+    }
+}
+
+/// Whether a row goes as it has to, and as many versions are in the dump of what it leaves: where
+/// its last step says that trimming is done, just those that this step says are kept.
 fn is_right<R: Wait>(rt: &R, alloc: Global, row: Row) -> bool {
     let (first, left) = run_row(rt, alloc, row.0);
-    first.is_none() && left == Some(row.1)
+    let kept = done_at_last(row.0).unwrap_or(row.1);
+    first.is_none() && left == Some(row.1) && left == Some(kept)
 }
 
 #[test]

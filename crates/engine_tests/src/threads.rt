@@ -36,7 +36,7 @@ fn put_often<L: EngineName, R: Wait>(
 
 /// The shares of two clients whose threads put 10 and 12 times, and the revision of the core that
 /// closes with both.
-fn shared<L: EngineName, R: Threads + Wait + Sync>(
+fn shared<L: EngineName + Send + Sync, R: Threads + Wait + Sync>(
     rt: &R,
     alloc: Global,
     opening: Opening<NoFeed>,
