@@ -1,28 +1,35 @@
 -- What a client's list is kept in owns nothing, so a client goes from thread to thread, whatever names its engine.
-use mathlib.Core.Path.{◌≡◌}
 use mathlib.Core.List.{List, [], ◌∷◌}
 use Prim.Native.Nat.{ℕ}
 use mir.Syntax.{Sym, Ty}
 use denote.RattleType.{RattleType}
 use denote.Exit.{no}
-use denote.Model.Cut.{rejoined, split_one}
-use denote.Model.Goals.{send, part_has, has_of}
-use denote.Model.Local.{Parts, rows}
-use denote.Model.Marks.{tied_send}
 use denote.Param.{arg, param}
-use denote.Param.Send.{AllSend, IsSend, arg_send, param_send, recorded_send, sendable, view_send}
-use denote.Param.SendFields.{FieldsHave, as_row_send, declared_send, variants_send}
+use denote.Param.Send.{AllSend, IsSend, IsSync, arg_send, param_send, plain_send, recorded_send, sendable, struct_send, view_send}
+use denote.Param.SendFields.{FieldsHave, as_row_send, declared_send}
+use denote.Struct.Declared.{shape}
 use denote.Struct.Field.{row_field}
 use denote.Struct.Tuple.{TupleAt, parts, type_at}
 use Rattle.std.specs.contracts.snapshot.Snapshot as Snapshot
 use Rattle.std.specs.declared.sync.ledger.Ledger.{Ghosts}
 use Rattle.std.proofs.Crossing.{crosses}
+use Rattle.std.proofs.alloc.Global.TheSendSync as heap
+use Rattle.std.proofs.sync.ledger.Book.TheSendSync as book
 use Rattle.std.proofs.sync.ledger.Share.TheSendSync as share
+use Rattle.lease_book.proofs.tree.Tree.TheLaws.TheKnot as tree
+use Rattle.range_view.proofs.tables.Tables.TheSendSync as tables
+use Rattle.watch_hub.proofs.hub.WatchHub.TheSendSync as hub
+use Rattle.lease_book.specs.contracts.book.LeaseBook as LeaseBook
+use Rattle.request_core.below.lease_keys.proofs.index.LeaseKeys.TheSendSync as keys
+use Rattle.request_core.specs.contracts.store.Core as Core
+use Rattle.request_core.specs.contracts.store.Core.TheInside as inside
 use Rattle.engine_lock.specs.contracts.client.Client as Client
+use Rattle.engine_lock.specs.contracts.engine.Engine as Engine
+use Rattle.engine_lock.specs.contracts.state.State as State
+use Rattle.engine_lock.specs.contracts.state.State.TheInside as under
 use Rattle.engine_lock.specs.contracts.past.Entry as Entry
 use Rattle.engine_lock.specs.contracts.past.Past as Past
-use Rattle.engine_lock.specs.contracts.past.Past.TheKnot as knot
-use Rattle.engine_lock.specs.declared.past.Past.TheDeep as deep
+use Rattle.engine_lock.proofs.past.Past.TheLaws.TheKnot as past
 
 snapshot_send : (Y : RattleType) → IsSend (Snapshot.the_row Y)
 snapshot_send Y = search crosses
@@ -30,28 +37,27 @@ snapshot_send Y = search crosses
 entry_send : IsSend Entry.the_row
 entry_send = search (sendable, crosses) depth 40
 
-module _ (R : RattleType) (D : Type 0) (split : D → R.Denot) (join : R.Denot → D) (e : (d : D) → join (split d) ≡ d) where
-  rejoined_send : IsSend R → IsSend (rejoined R D split join e)
-  rejoined_send = recorded_send R D split (split_one R D split join e)
-
-module _ (p : Parts knot.frame) where
-  last_send : IsSend (knot.at-Last p)
-  last_send = let h = rows knot.frame p deep.member-Past in
-      rejoined_send (knot.layer-Last h) _ deep.split-Last deep.join-Last deep.joins-Last (variants_send (knot.type-Last h)
-          (tt, ((as_row_send (row_field (Snapshot.the_row h)) (snapshot_send h), (as_row_send (row_field Entry.the_row) entry_send, tt)), tt)))
-
-  inside_send : IsSend (knot.at-Past p)
-  inside_send = rejoined_send (knot.layer-Past (knot.at-Last p)) _ deep.split-Past deep.join-Past deep.joins-Past
-      (declared_send (knot.type-Past (knot.at-Last p)) (as_row_send (row_field (knot.at-Last p)) last_send, tt))
-
-  step_send : (i : deep.the_members) → IsSend (rows knot.frame (knot.step p) i)
-  step_send deep.member-Past = has_of knot.frame send (knot.step p) deep.member-Past (part_has send (knot.view-Past p) (view_send (knot.at-Past p) _ _ _ _ inside_send))
-
 past_send : IsSend Past.the_row
-past_send = tied_send knot.frame knot.step knot.sizes (λ p _. step_send p) deep.member-Past
+past_send = past.send-Past (λ Y _. snapshot_send Y) entry_send
 
 pub client_send : (T T' : RattleType) (g : Ghosts T.Denot) → IsSend (Client.the_row T T' g)
 client_send T T' g = search (sendable, share.the_send, past_send) depth 40
+
+-- ---- an engine, whose core owns plain memory alone
+book_send : IsSend LeaseBook.the_row
+book_send = search (sendable, crosses, tree.crosses) depth 60 fits 20000
+
+core_send : IsSend Core.the_row
+core_send = view_send inside.the_row _ _ _ _ (recorded_send (inside.the_field).row _ _ (inside.the_type).to_one (struct_send (shape inside.the_type)
+    (heap.the_field_send, (tables.the_send, (book_send, (keys.the_send, (hub.the_send, (plain_send _ _ _ _ _, tt))))))))
+
+module _ (T T' : RattleType) (g : Ghosts T.Denot) (s : IsSend T') where
+  state_send : IsSend (State.the_row T T' g)
+  state_send = view_send (under.the_row T T' g) _ _ _ _ (recorded_send (under.the_field T T' g).row _ _ (under.the_type T T' g).to_one
+      (struct_send (shape (under.the_type T T' g)) (core_send, (book.the_send T g, (share.the_send T g, (plain_send _ _ _ _ _, (s, tt)))))))
+
+  pub engine_sync : IsSync (Engine.the_row T T' g)
+  engine_sync = search (sendable, crosses, state_send) depth 60
 
 -- ---- what a thread is started with
 fields_send : (Ts : List RattleType) → AllSend Ts → FieldsHave IsSend (parts Ts)
