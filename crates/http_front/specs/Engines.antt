@@ -1,12 +1,12 @@
 -- What an engine answers a connection, on behalf of one of its clients: by the list of all that it gave that client.
-use Rattle.std.specs.Prelude.{◌≡◌, ◌×◌, ◌⊎◌, ℕ, ◌+◌, Bool, true, false, List, [], ◌∷◌, ◌++◌, Option, None, Some, Result, Ok, Err, ⊤, ⊥}
+use Rattle.std.specs.Prelude.{◌≡◌, ◌⊎◌, ℕ, ◌+◌, Bool, true, false, List, [], ◌∷◌, ◌++◌, Option, None, Some, Ok}
 use Rattle.kv_model.specs.declared.ids.Ids.{Ids}
 use Rattle.kv_model.specs.declared.call.Command.{Command}
 use Rattle.kv_model.specs.Commands.{call_of}
 use Rattle.kv_model.specs.Requests.{request_of}
 use Rattle.trim_core.specs.declared.trimmer.Trim.{Trim}
 use Rattle.gateway_read.specs.declared.bad.Bad.{Bad}
-use Rattle.gateway_read.specs.Parts.{Fails}
+use Rattle.gateway_read.specs.Reading.{Fails}
 use Rattle.http_head.specs.Requests.{Asked}
 use Rattle.json_gateway.specs.declared.outcome.Message.TheVariants as message
 use Rattle.json_gateway.specs.declared.outcome.Outcome.{Outcome}
