@@ -20,7 +20,11 @@ use Rattle.clap.specs.declared.parser.matches.ArgMatches.TheViews.{out-SubComman
 use Rattle.clap.specs.declared.parser.matches.SubCommand.{SubCommand}
 use Rattle.command_line.specs.declared.filters.Filter.{Filter}
 use Rattle.command_line.specs.declared.filters.Filter.TheVariants as filter
-use Rattle.command_line.specs.Arguments.{IsCommand, program, word_of}
+use Rattle.command_line.specs.declared.words.Args.{Args}
+use Rattle.command_line.specs.declared.words.Args.TheVariants as args
+use Rattle.command_line.specs.Arguments.{Asks, IsCommand, asks_serve, program, word_of}
+use Rattle.commands.specs.declared.fault.Fault.{Fault}
+use Rattle.commands.specs.declared.fault.Fault.TheVariants as fault
 
 pub is_taken : (words : List Text) (command : Filter) → IsCommand words command → takes program words ≡ true
 unfolding clap_on_literals program
@@ -222,3 +226,12 @@ is_answered words a m same two has free =
     let none : fault_of program words ≡ [] = sym (ap (λ (x : App). fault_of x words) same) ∙ free (ap is_simple_and_free same ∙ is_plain) in
     let (command, is) = is_command words two none in
     (command, is, is_met words command m is (subst (λ (x : App). HasMatchesOf x words m) same has))
+
+-- ---- the commands that have no options
+
+-- where they fail by want of memory alone, and none asks for a server, all that is asked for fails so
+pub fails_so : (words : List Text) (f : Fault) → ((command : Filter) → IsCommand words command → f ≡ fault.Memory)
+    → asks_serve words ≡ false → (a : Args) → Asks words a → f ≡ fault.Memory
+fails_so words f memory none args.Replay asks = memory filter.Replay asks
+fails_so words f memory none args.Check asks = memory filter.Check asks
+fails_so words f memory none (args.Serve s) asks = absurd (true≢false (sym asks.0 ∙ none))

@@ -1,7 +1,15 @@
 -- The words of a command line.
-use Rattle.std.specs.Prelude.{◌≡◌, ℕ, ◌<◌, ◌≤◌, ◌^◌, List, [], ◌∷◌, Bool, true, false, nat_eq, codes}
+use Rattle.std.specs.Prelude.{◌≡◌, ℕ, ◌<◌, ◌≤◌, ◌^◌, List, [], ◌∷◌, drop, Bool, true, false, nat_eq, codes}
+use Rattle.std.specs.Prelude.{Option, Some, MatchOption}
 use Rattle.std.specs.Cmp.Lexicographic.{pointwise}
-use Rattle.clap.specs.Simple.{App, new_app, on_top, with_subcommand}
+use Rattle.std.specs.List.{list_any}
+use Rattle.std.specs.Str.Parse.{IsNumeral, digits_value, without_leading_plus}
+use Rattle.clap.specs.Faults.{fault_of}
+use Rattle.clap.specs.Simple.{App, matches_of, new_app, new_rule, on_top, with_rule, with_subcommand}
+use Rattle.clap.specs.Walk.{Row, Rule, first_of, one_of}
+use Rattle.clap.specs.Matches.{first_value, one_text}
+use Rattle.clap.specs.declared.parser.matches.Found.{Found}
+use Rattle.clap.specs.declared.builder.value_parser.ValueParser.TheVariants as value
 use Rattle.command_line.specs.declared.words.Args.{Args}
 use Rattle.command_line.specs.declared.words.Args.TheVariants as args
 use Rattle.command_line.specs.declared.words.Serve.{Serve}
@@ -39,6 +47,48 @@ abbrev pub asks_serve : List (List ℕ) → Bool
 asks_serve (name ∷ word ∷ rest) = pointwise nat_eq word (codes "serve")
 asks_serve _ = false
 
+-- it would end the options, and what stands behind it would be taken for a name
+abbrev pub is_end_of_options : List ℕ → Bool
+is_end_of_options word = pointwise nat_eq word (codes "--")
+
+-- an option, and one that has a number of 64 bits
+abbrev pub option_rule : List ℕ → Rule
+option_rule name = record (new_rule name) { long = Some name }
+
+abbrev pub number_rule : List ℕ → Rule
+number_rule name = record (option_rule name) { parser = Some (value.Unsigned 0 18446744073709551615) }
+
+abbrev pub address_rule : Rule
+address_rule = record (option_rule (codes "listen")) { required = true }
+
+-- what clap reads: the options of a server
+unfoldable pub serving : App
+serving = with_rule (with_rule (with_rule (with_rule (with_rule (new_app (codes "serve")) address_rule)
+    (number_rule (codes "workers"))) (number_rule (codes "connections"))) (number_rule (codes "cluster-id")))
+    (number_rule (codes "member-id"))
+
+-- what clap finds for them in the words of a command line
+abbrev pub options_in : List (List ℕ) → List Row
+options_in words = matches_of serving (drop 1 words)
+
+-- the number that a text gives by its decimal digits, before which a plus may stand, or this one where there is no text
+abbrev pub IsNumber : Option (List ℕ) → ℕ → ℕ → Type 0
+IsNumber text otherwise n = MatchOption text (n ≡ otherwise)
+    (λ t. IsNumeral 10 (without_leading_plus t) × (n ≡ digits_value 10 (without_leading_plus t)))
+
+-- each option of a server is what stands for its name, or what it is otherwise; an address as it is written, and a
+-- number as it is read
+pub record IsGiven (written read : List ℕ → Option (List ℕ)) (s : Serve) : Type 0 where
+  pub listen : written (codes "listen") ≡ Some s.listen.now
+  pub workers : IsNumber (read (codes "workers")) 8 s.workers
+  pub connections : IsNumber (read (codes "connections")) 0 s.connections
+  pub cluster : IsNumber (read (codes "cluster-id")) 1 s.cluster
+  pub member : IsNumber (read (codes "member-id")) 1 s.member
+
+-- by what clap found
+abbrev pub IsFound : Found → Serve → Type 0
+IsFound f = IsGiven (first_value f) (one_text f)
+
 -- the numbers of a server are within their ranges
 pub record IsInRange (s : Serve) : Type 0 where
   pub workers : (2 ≤ s.workers) × (s.workers ≤ 32)
@@ -46,8 +96,15 @@ pub record IsInRange (s : Serve) : Type 0 where
   pub cluster : (1 ≤ s.cluster) × (s.cluster < 2 ^ 63)
   pub member : (1 ≤ s.member) × (s.member < 2 ^ 63)
 
+-- behind the word of the command stand the options, no word ends them, and clap finds no fault in them
+pub record AsksToServe (words : List (List ℕ)) (s : Serve) : Type 0 where
+  pub options : list_any is_end_of_options (drop 1 words) ≡ false
+  pub taken : fault_of serving (drop 1 words) ≡ []
+  pub given : IsGiven (λ name. first_of name (options_in words)) (λ name. one_of name (options_in words)) s
+  pub range : IsInRange s
+
 -- the words ask for this
 abbrev pub Asks : List (List ℕ) → Args → Type 0
 Asks words args.Replay = IsCommand words filter.Replay
 Asks words args.Check = IsCommand words filter.Check
-Asks words (args.Serve s) = (asks_serve words ≡ true) × IsInRange s
+Asks words (args.Serve s) = (asks_serve words ≡ true) × AsksToServe words s

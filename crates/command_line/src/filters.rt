@@ -1,8 +1,9 @@
 //! The commands that take standard input to standard output.
-ghost use Rattle.std.specs.Prelude.{◌≡◌, IfOk, IfErr, MatchOption, Ok, Some};
+ghost use Rattle.std.specs.Prelude.{◌≡◌, true, IfOk, IfErr, MatchOption, Ok, Some};
 ghost use Rattle.std.specs.Prelude.{map, option_map, string_bytes};
 ghost use Rattle.clap.specs.Words.{app_of, kind_of};
 ghost use Rattle.command_line.specs.Arguments.{IsCommand, IsNoCommand, program, word_of};
+ghost use Rattle.commands.specs.Faults.{is_of_words};
 
 use clap::error::ErrorKind;
 use clap::{Command, Error};
@@ -29,6 +30,7 @@ pub(crate) fn filter_of(alloc: Global, words: &[String]) -> Result<Filter, Fault
         → IsCommand (map string_bytes words.now) command → fault ≡ Fault.Memory) }
     ensures other { IfErr result (λ fault.
         IsNoCommand (map string_bytes words.now) → fault ≡ Fault.Arguments) }
+    ensures fault { IfErr result (λ fault. is_of_words fault ≡ true) }
 {
     // clap would pass over a last `--`.
     if words.len() != 2 {
@@ -45,8 +47,9 @@ pub(crate) fn filter_of(alloc: Global, words: &[String]) -> Result<Filter, Fault
 
 /// The command that clap read, which is one of the program's.
 fn asked(name: Option<&str>) -> Result<Filter, Fault>
-    ensures { (command : Filter) → option_map (λ word. word.now) name.entry ≡ Some (word_of command)
-        → result ≡ Ok command }
+    ensures command { (command : Filter)
+        → option_map (λ word. word.now) name.entry ≡ Some (word_of command) → result ≡ Ok command }
+    ensures fault { IfErr result (λ fault. is_of_words fault ≡ true) }
 {
     match name {
         Some(word) => named(word).ok_or(Fault::Arguments),
@@ -74,6 +77,7 @@ fn without_memory(words: &[String]) -> Fault
     ensures memory { (command : Filter) → IsCommand (map string_bytes words.now) command
         → result ≡ Fault.Memory }
     ensures other { IsNoCommand (map string_bytes words.now) → result ≡ Fault.Arguments }
+    ensures fault { is_of_words result ≡ true }
 {
     match words {
         [_, word] if named(word.as_str()).is_some() => Fault::Memory,
@@ -98,6 +102,7 @@ fn fault_of(error: &Error, words: &[String]) -> Fault
     ensures memory { kind_of error.now ≡ ErrorKind.OutOfMemory → (command : Filter)
         → IsCommand (map string_bytes words.now) command → result ≡ Fault.Memory }
     ensures other { IsNoCommand (map string_bytes words.now) → result ≡ Fault.Arguments }
+    ensures fault { is_of_words result ≡ true }
 {
     match error.kind() {
         ErrorKind::OutOfMemory => without_memory(words),

@@ -15,7 +15,7 @@
 //! ```
 //!
 //! The words of `replay` and `check` are read by `filters`. What a server does is told by
-//! `http_pool`.
+//! `http_front`.
 //!
 //! The tests stand in the crate `server_tests`, in `src/streams.rt` and `src/serving.rt`.
 #![tactic(auto)]

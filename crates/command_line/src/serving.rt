@@ -1,15 +1,19 @@
 //! `serve`: the store over HTTP.
-ghost use Rattle.std.specs.Prelude.{◌≡◌, ℕ, false, true, IfErr, OnOk};
+ghost use Rattle.std.specs.Prelude.{◌≡◌, ◌-◌, ◌/◌, ◌^◌, min, false, true, Ok, Err, IfOk, IfErr, OnOk};
+ghost use Rattle.std.specs.Prelude.{MatchResult};
+ghost use Rattle.std.specs.Time.{instant_nanos};
 ghost use Rattle.std.specs.Io.KnownBytes.{Appends};
 ghost use Rattle.commands.specs.Faults.{is_write};
-ghost use Rattle.command_line.specs.Serving.{closing_line};
+ghost use Rattle.command_line.specs.Serving.{IsOfCore, IsOfRun, asks_to_serve, closing_line};
+ghost use Rattle.command_line.specs.Serving.{connections_of};
 ghost use Rattle.commands.specs.Writes.{AppendsFront, Writes};
+ghost use Rattle.engine_lock.specs.Locked.{IsStanding};
 
 use crate::words::{Args, Serve};
-use commands::{Fault, write_number};
+use commands::{Fault, Front, write_number};
 use engine_lock::{Engine, EngineName, NoFeed, Opening};
-use http_pool::{Clock, MOST_CONNECTIONS, OpenGate, pool};
-use json_gateway::Ids;
+use http_front::{Clock, MOST_CONNECTIONS, OpenGate, pool};
+use json_gateway::{Core, Ids};
 use std::alloc::Global;
 use std::io::Write;
 use std::marker::Brand;
@@ -29,12 +33,17 @@ struct SinceStart<'x, R: time::Clock> {
 impl<'x, R: time::Clock> Clock for SinceStart<'x, R> {
     fn now(&self) -> u64 {
         match (Instant::now(self.rt), self.start) {
-            (Ok(now), Some(start)) => {
-                u64::try_from(now.saturating_duration_since(start).as_millis()).unwrap_or(u64::MAX)
-            }
+            (Ok(now), Some(start)) => millis_between(start, now),
             _ => 0,
         }
     }
+}
+
+/// The milliseconds from a moment to another; 0 where that is not later.
+fn millis_between(start: Instant, now: Instant) -> u64
+    ensures { result ≡ min ((instant_nanos now - instant_nanos start) / 1000000) (2 ^ 64 - 1) }
+{
+    u64::try_from(now.saturating_duration_since(start).as_millis()).unwrap_or(u64::MAX)
 }
 
 /// Serves the connections that come in at a listener, as the arguments ask, and writes the line
@@ -43,10 +52,10 @@ impl<'x, R: time::Clock> Clock for SinceStart<'x, R> {
 /// The moments by which leases end are milliseconds since its start. Nothing is written before it
 /// has ended.
 ///
-/// Fails with `Fault::Arguments` where the arguments do not ask to serve, with `Fault::Memory`
-/// where memory is wanting for the engine, and with `Fault::Server` as `http_pool::pool` fails;
-/// then nothing is written. Fails with `Fault::Write` where the line could not be written; then a
-/// front of it was.
+/// Fails with `Fault::Arguments` where the arguments do not ask to serve, and else with
+/// `Fault::Memory` where memory is wanting for the engine, and with `Fault::Server` as
+/// `http_front::pool` fails; then nothing is written. Fails with `Fault::Write` where the line could
+/// not be written; then a front of it was.
 pub fn serve_on<R: Wait + Threads + time::Clock + Sync, W: Write>(
     rt: &R,
     alloc: Global,
@@ -54,16 +63,34 @@ pub fn serve_on<R: Wait + Threads + time::Clock + Sync, W: Write>(
     args: &Args<'_>,
     w: &mut W,
 ) -> Result<(), Fault>
-    ensures ok { OnOk result ((revision : ℕ)
-        × Appends (W.contents w.old) (W.contents w.new) (closing_line revision)) }
+    ensures ok { OnOk result ((core : _) × IsStanding core
+        × Appends (W.contents w.old) (W.contents w.new) (closing_line core.store.revision)) }
     ensures unwritten { IfErr result (λ fault. is_write fault ≡ false → w.new ≡ w.old) }
-    ensures cut { IfErr result (λ fault. is_write fault ≡ true → (revision : ℕ)
-        × AppendsFront (W.contents w.old) (W.contents w.new) (closing_line revision)) }
+    ensures cut { IfErr result (λ fault. is_write fault ≡ true → (core : _) × IsStanding core
+        × AppendsFront (W.contents w.old) (W.contents w.new) (closing_line core.store.revision)) }
+    ensures fault { IfErr result (λ fault. asks_to_serve args.now ≡ true
+        → is_write fault ≡ false → IsOfRun fault) }
+    ensures unasked { asks_to_serve args.now ≡ false → result ≡ Err Fault.Arguments }
 {
     let Args::Serve(serve) = args else {
         return Err(Fault::Arguments);
     };
-    match run_server(rt, alloc, listener, serve) {
+    tell_end(w, run_server(rt, alloc, listener, serve))
+}
+
+/// Writes the last line of a server that has ended at a revision, or gives why it did not end so.
+fn tell_end<W: Write>(w: &mut W, ended: Result<u64, Fault>) -> Result<(), Fault>
+    requires { IfErr ended (λ fault. is_write fault ≡ false) }
+    ensures ok { OnOk result (MatchResult ended
+        (λ revision. Appends (W.contents w.old) (W.contents w.new) (closing_line revision))
+        (λ fault. ⊥)) }
+    ensures unwritten { IfErr result (λ fault. is_write fault ≡ false
+        → (w.new ≡ w.old) × (ended ≡ Err fault)) }
+    ensures cut { IfErr result (λ fault. is_write fault ≡ true → MatchResult ended
+        (λ revision. AppendsFront (W.contents w.old) (W.contents w.new) (closing_line revision))
+        (λ fault. ⊥)) }
+{
+    match ended {
         Ok(revision) => match write_closing(w, revision) {
             Ok(()) => Ok(()),
             Err(error) => Err(Fault::Write(error)),
@@ -94,12 +121,14 @@ fn run_server<R: Wait + Threads + time::Clock + Sync>(
     listener: &TcpListener,
     serve: &Serve<'_>,
 ) -> Result<u64, Fault>
-    ensures { IfErr result (λ fault. is_write fault ≡ false) }
+    ensures revision { IfOk result IsOfCore }
+    ensures fault { IfErr result (λ fault. is_write fault ≡ false) }
+    ensures kind { IfErr result IsOfRun }
 {
     closed_revision::<Brand, R>(rt, alloc, Opening::new(NoFeed), listener, serve)
 }
 
-fn closed_revision<L: EngineName, R: Wait + Threads + time::Clock + Sync>(
+fn closed_revision<L: EngineName + Send + Sync, R: Wait + Threads + time::Clock + Sync>(
     rt: &R,
     alloc: Global,
     opening: Opening<NoFeed>,
@@ -108,33 +137,75 @@ fn closed_revision<L: EngineName, R: Wait + Threads + time::Clock + Sync>(
 ) -> Result<u64, Fault>
     requires name { opening.name ≡ L.Ledger.name }
     requires parts { opening.parts ≡ L.Ledger.parts }
-    ensures { IfErr result (λ fault. is_write fault ≡ false) }
+    ensures revision { IfOk result IsOfCore }
+    ensures fault { IfErr result (λ fault. is_write fault ≡ false) }
+    ensures kind { IfErr result IsOfRun }
 {
-    let ids = Ids {
-        cluster: serve.cluster,
-        member: serve.member,
-    };
-    let Ok(engine) = Engine::<L, NoFeed>::new(alloc, opening, ids) else {
+    let Ok(engine) = Engine::<L, NoFeed>::new(alloc, opening, ids_of(serve)) else {
         return Err(Fault::Memory);
     };
+    run_pool(rt, alloc, engine, listener, serve)
+}
+
+/// The cluster and the member that answer.
+fn ids_of(serve: &Serve<'_>) -> Ids
+    ensures cluster { result.cluster ≡ serve.now.cluster }
+    ensures member { result.member ≡ serve.now.member }
+{
+    Ids {
+        cluster: serve.cluster,
+        member: serve.member,
+    }
+}
+
+/// After how many connections a server ends.
+fn connections_of(serve: &Serve<'_>) -> u64
+    ensures { result ≡ connections_of serve.now }
+{
+    match serve.connections {
+        0 => MOST_CONNECTIONS,
+        given => given,
+    }
+}
+
+/// Runs a server over an engine that answers by its ids.
+fn run_pool<L: EngineName + Send + Sync, R: Wait + Threads + time::Clock + Sync>(
+    rt: &R,
+    alloc: Global,
+    engine: Engine<L, NoFeed>,
+    listener: &TcpListener,
+    serve: &Serve<'_>,
+) -> Result<u64, Fault>
+    requires cluster { engine.cluster ≡ serve.now.cluster }
+    requires member { engine.member ≡ serve.now.member }
+    ensures revision { IfOk result IsOfCore }
+    ensures fault { IfErr result (λ fault. is_write fault ≡ false) }
+    ensures kind { IfErr result IsOfRun }
+{
     let clock = SinceStart {
         rt,
         start: Instant::now(rt).ok(),
     };
-    let connections = match serve.connections {
-        0 => MOST_CONNECTIONS,
-        given => given,
-    };
-    match pool(
+    let workers = serve.workers;
+    let connections = connections_of(serve);
+    ended(pool(
         rt,
         alloc,
         engine,
         &OpenGate,
         &clock,
         listener,
-        serve.workers,
+        workers,
         connections,
-    ) {
+    ))
+}
+
+/// The revision of the core that a server gave back, or why it gave none.
+fn ended(made: Result<Core, Front>) -> Result<u64, Fault>
+    ensures { MatchResult made (λ core. result ≡ Ok core.store.revision)
+        (λ front. result ≡ Err (Fault.Server front)) }
+{
+    match made {
         Ok(core) => Ok(core.status().revision),
         Err(front) => Err(Fault::Server(front)),
     }

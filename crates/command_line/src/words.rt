@@ -1,7 +1,13 @@
 //! The program's arguments.
-ghost use Rattle.std.specs.Prelude.{◌≡◌, ◌≤◌, ℕ, List, false, IfOk, IfErr, IfSome, map};
-ghost use Rattle.std.specs.Prelude.{string_bytes};
-ghost use Rattle.command_line.specs.Arguments.{Asks, IsCommand, IsInRange, IsNoCommand, asks_serve};
+ghost use Rattle.std.specs.Prelude.{◌≡◌, ◌≢◌, ◌≤◌, ◌||◌, ℕ, List, false, true, IfOk, IfErr, map};
+ghost use Rattle.std.specs.Prelude.{if◌then◌else◌, nat_lt, unwrap_or, string_bytes, None, Some};
+ghost use Rattle.std.specs.Prelude.{MatchOption};
+ghost use Rattle.std.specs.List.{list_any};
+ghost use Rattle.clap.specs.Words.{app_of, found_of, kind_of, one_text, rule_of};
+ghost use Rattle.command_line.specs.Arguments.{Asks, AsksToServe, IsCommand, IsFound, IsInRange};
+ghost use Rattle.command_line.specs.Arguments.{IsNoCommand, IsNumber, asks_serve, is_end_of_options};
+ghost use Rattle.command_line.specs.Arguments.{number_rule, serving};
+ghost use Rattle.commands.specs.Faults.{is_of_words};
 
 use crate::filters::{Filter, filter_of};
 use clap::error::ErrorKind;
@@ -44,13 +50,15 @@ const MOST: u64 = 9_223_372_036_854_775_807;
 /// to 2^63 - 1, which are 1 otherwise.
 ///
 /// Fails with `Fault::Arguments` for any other words; where the command is not `serve`, whether or
-/// not there is memory. Fails with `Fault::Memory` where memory is wanting to read them.
+/// not there is memory. Fails with `Fault::Memory` where memory is wanting to read them; nothing
+/// else refuses words that ask for something.
 pub fn arguments<'a>(alloc: Global, words: &'a [String]) -> Result<Args<'a>, Fault>
     ensures ok { IfOk result (Asks (map string_bytes words.now)) }
-    ensures memory { IfErr result (λ fault. (command : Filter)
-        → IsCommand (map string_bytes words.now) command → fault ≡ Fault.Memory) }
+    ensures memory { IfErr result (λ fault. (args : Args)
+        → Asks (map string_bytes words.now) args → fault ≡ Fault.Memory) }
     ensures other { IfErr result (λ fault. IsNoCommand (map string_bytes words.now)
         → asks_serve (map string_bytes words.now) ≡ false → fault ≡ Fault.Arguments) }
+    ensures fault { IfErr result (λ fault. is_of_words fault ≡ true) }
 {
     if is_serve(words) {
         return match serve_of(alloc, words) {
@@ -77,13 +85,16 @@ fn is_serve(words: &[String]) -> bool
 
 /// Reads the words of `serve`, the program's name first.
 fn serve_of<'a>(alloc: Global, words: &'a [String]) -> Result<Serve<'a>, Fault>
-    ensures { IfOk result IsInRange }
+    ensures ok { IfOk result (AsksToServe (map string_bytes words.now)) }
+    ensures memory { IfErr result (λ fault. (s : Serve)
+        → AsksToServe (map string_bytes words.now) s → fault ≡ Fault.Memory) }
+    ensures fault { IfErr result (λ fault. is_of_words fault ≡ true) }
 {
     let Some((_, words)) = words.split_first() else {
         return Err(Fault::Arguments);
     };
     // clap would pass over a last `--`.
-    if words.iter().any(|word| word.as_str() == "--") {
+    if ends_options(words) {
         return Err(Fault::Arguments);
     }
     let Ok(command) = serve_command(alloc) else {
@@ -95,9 +106,26 @@ fn serve_of<'a>(alloc: Global, words: &'a [String]) -> Result<Serve<'a>, Fault>
     }
 }
 
-fn serve_command<'a>(alloc: Global) -> Result<Command<'a>, AllocError> {
+/// Whether some word is `--`.
+fn ends_options(words: &[String]) -> bool
+    ensures { result ≡ list_any (λ word. is_end_of_options (string_bytes word)) words.now }
+{
+    words.iter().any(|word| is_end_of_options(word.as_str()))
+}
+
+fn is_end_of_options(word: &str) -> bool
+    ensures { result ≡ is_end_of_options word.now }
+{
+    word == "--"
+}
+
+/// What clap reads: the options of `serve`.
+fn serve_command<'a>(alloc: Global) -> Result<Command<'a>, AllocError>
+    ensures { IfOk result (λ command. app_of command ≡ serving) }
+{
+    let listen = Arg::new(alloc, "listen").long("listen").required(true);
     Command::new(alloc, "serve")
-        .arg(Arg::new(alloc, "listen").long("listen").required(true))?
+        .arg(listen)?
         .arg(number(alloc, "workers"))?
         .arg(number(alloc, "connections"))?
         .arg(number(alloc, "cluster-id"))?
@@ -105,7 +133,10 @@ fn serve_command<'a>(alloc: Global) -> Result<Command<'a>, AllocError> {
 }
 
 /// An option that has a number.
-fn number<'a>(alloc: Global, name: &'a str) -> Arg<'a> {
+fn number<'a>(alloc: Global, name: &'a str) -> Arg<'a>
+    ensures rule { rule_of result ≡ number_rule name.entry.now }
+    ensures local { result.global ≡ false }
+{
     Arg::new(alloc, name)
         .long(name)
         .value_parser(clap::value_parser!(u64))
@@ -113,21 +144,25 @@ fn number<'a>(alloc: Global, name: &'a str) -> Arg<'a> {
 
 /// What these words ask for.
 fn asked<'a>(matches: &ArgMatches<'a>) -> Result<Serve<'a>, Fault>
-    ensures { IfOk result IsInRange }
+    ensures range { IfOk result IsInRange }
+    ensures found { IfOk result (IsFound (found_of matches.now)) }
+    ensures other { IfErr result (λ _. (s : Serve)
+        → IsFound (found_of matches.now) s → IsInRange s → ⊥) }
+    ensures fault { IfErr result (λ fault. fault ≡ Fault.Arguments) }
 {
     let Some(listen) = matches.get_str("listen") else {
         return Err(Fault::Arguments);
     };
-    let Some(workers) = within(matches.get_one::<u64>("workers"), 8, 2, 32) else {
+    let Some(workers) = number_of(matches, "workers", 8, 2, 32) else {
         return Err(Fault::Arguments);
     };
-    let Some(connections) = within(matches.get_one::<u64>("connections"), 0, 0, MOST) else {
+    let Some(connections) = number_of(matches, "connections", 0, 0, MOST) else {
         return Err(Fault::Arguments);
     };
-    let Some(cluster) = within(matches.get_one::<u64>("cluster-id"), 1, 1, MOST) else {
+    let Some(cluster) = number_of(matches, "cluster-id", 1, 1, MOST) else {
         return Err(Fault::Arguments);
     };
-    let Some(member) = within(matches.get_one::<u64>("member-id"), 1, 1, MOST) else {
+    let Some(member) = number_of(matches, "member-id", 1, 1, MOST) else {
         return Err(Fault::Arguments);
     };
     Ok(Serve {
@@ -139,11 +174,31 @@ fn asked<'a>(matches: &ArgMatches<'a>) -> Result<Serve<'a>, Fault>
     })
 }
 
+/// The number of an option, or the one that stands for none, where it is in its range.
+fn number_of(
+    matches: &ArgMatches<'_>,
+    name: &str,
+    otherwise: u64,
+    least: u64,
+    most: u64,
+) -> Option<u64>
+    ensures { MatchOption result
+        ((n : ℕ) → IsNumber (one_text (found_of matches.now) name.now) otherwise n
+        → least ≤ n → n ≤ most → ⊥)
+        (λ n. IsNumber (one_text (found_of matches.now) name.now) otherwise n
+        × (least ≤ n) × (n ≤ most)) }
+{
+    match matches.try_get_one::<u64>(name) {
+        Ok(given) => within(given, otherwise, least, most),
+        Err(_) => None,
+    }
+}
+
 /// The number that was given, or the one that stands for none, where it is in its range.
 fn within(given: Option<u64>, otherwise: u64, least: u64, most: u64) -> Option<u64>
-    requires least { least ≤ otherwise }
-    requires most { otherwise ≤ most }
-    ensures { IfSome result (λ n. (least ≤ n) × (n ≤ most)) }
+    ensures { result ≡ (if nat_lt (unwrap_or given otherwise) least
+        || nat_lt most (unwrap_or given otherwise) then None
+        else Some (unwrap_or given otherwise)) }
 {
     let number = given.unwrap_or(otherwise);
     if number < least || number > most {
@@ -153,7 +208,10 @@ fn within(given: Option<u64>, otherwise: u64, least: u64, most: u64) -> Option<u
 }
 
 /// Which fault it is that clap took the words for an error.
-fn fault_of(error: &Error) -> Fault {
+fn fault_of(error: &Error) -> Fault
+    ensures memory { kind_of error.now ≡ ErrorKind.OutOfMemory → result ≡ Fault.Memory }
+    ensures other { kind_of error.now ≢ ErrorKind.OutOfMemory → result ≡ Fault.Arguments }
+{
     match error.kind() {
         ErrorKind::OutOfMemory => Fault::Memory,
         _ => Fault::Arguments,

@@ -3,7 +3,7 @@ ghost use Rattle.std.specs.Prelude.{◌≡◌};
 
 use crate::texts::{ONES, PUT, PUT_REPLY, Still};
 use engine_lock::{Engine, EngineName, NoFeed, Opening};
-use http_pool::{OpenGate, work};
+use http_front::{OpenGate, work};
 use http_reply::{Counted, Front};
 use std::alloc::Global;
 use std::marker::Brand;

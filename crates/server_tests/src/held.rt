@@ -3,7 +3,7 @@ ghost use Rattle.std.specs.Prelude.{◌≡◌};
 
 use crate::texts::{LAST_PUT, LAST_PUT_REPLIES, ONES, Still};
 use engine_lock::{Engine, EngineName, NoFeed, Opening};
-use http_pool::{Gate, pool};
+use http_front::{Gate, pool};
 use std::alloc::Global;
 use std::io::Write;
 use std::marker::Brand;
@@ -49,7 +49,7 @@ impl<'x, R: time::Clock> Gate for SecondFirst<'x, R> {
 
 /// Serves two connections with two workers: whether the first was held until the second was
 /// answered, and the revision of the core that is left.
-fn served<L: EngineName, R: Wait + Threads + time::Clock + Sync>(
+fn served<L: EngineName + Send + Sync, R: Wait + Threads + time::Clock + Sync>(
     rt: &R,
     alloc: Global,
     opening: Opening<NoFeed>,

@@ -1,5 +1,5 @@
 //! One connection over a store, a server's threads, and the program's arguments and streams: what
-//! no clause can say of `http_front`, `http_pool`, `commands` and `command_line`, that they succeed
+//! no clause can say of `http_front`, `commands` and `command_line`, that they succeed
 //! with ample memory, that two connections are answered side by side, and the bytes of requests and
 //! replies from outside. They stand in a crate above, for the tests of a crate have it proved once
 //! more; what scripts and certificates are answered is in `tests/rows.d`. It has nothing but tests.

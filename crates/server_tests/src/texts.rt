@@ -1,5 +1,5 @@
 //! Requests and their replies, as bytes (RFC 9112; the etcd documentation's JSON gateway).
-use http_pool::Clock;
+use http_front::Clock;
 use json_gateway::Ids;
 
 /// The member's numbers.
