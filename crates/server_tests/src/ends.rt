@@ -14,7 +14,7 @@ use std::thread::Threads;
 use std::time;
 
 /// How a server with so many workers ends: by the revision of the core that is left.
-fn ended<L: EngineName, R: Wait + Threads + time::Clock + Sync>(
+fn ended<L: EngineName + Send + Sync, R: Wait + Threads + time::Clock + Sync>(
     rt: &R,
     alloc: Global,
     opening: Opening<NoFeed>,

@@ -49,7 +49,7 @@ impl<'x, R: time::Clock> Gate for SecondFirst<'x, R> {
 
 /// Serves two connections with two workers: whether the first was held until the second was
 /// answered, and the revision of the core that is left.
-fn served<L: EngineName, R: Wait + Threads + time::Clock + Sync>(
+fn served<L: EngineName + Send + Sync, R: Wait + Threads + time::Clock + Sync>(
     rt: &R,
     alloc: Global,
     opening: Opening<NoFeed>,
