@@ -1,5 +1,5 @@
 -- The line that a server writes when it has ended.
-use Rattle.std.proofs.Common.{ℕ, List, Option, Result, Ok, Err, OnOk, IfOk, MatchResult, sym, subst}
+use Rattle.std.proofs.Common.{ℕ, List, Option, Result, Ok, Err, OnOk, IfOk, MatchResult, subst}
 use Rattle.std.specs.Io.KnownBytes.{Appends}
 use Rattle.engine_lock.specs.Locked.{IsStanding}
 use Rattle.command_line.specs.Serving.{IsOfCore, closing_line}

@@ -14,7 +14,7 @@ use commands::{Fault, Front, write_number};
 use engine_lock::{Engine, EngineName, NoFeed, Opening};
 use http_front::{Clock, MOST_CONNECTIONS, OpenGate, pool};
 use json_gateway::{Core, Ids};
-use std::alloc::Global;
+use std::alloc::{AllocError, Global};
 use std::io::Write;
 use std::marker::Brand;
 use std::net::TcpListener;
@@ -141,10 +141,24 @@ fn closed_revision<L: EngineName + Send + Sync, R: Wait + Threads + time::Clock 
     ensures fault { IfErr result (λ fault. is_write fault ≡ false) }
     ensures kind { IfErr result IsOfRun }
 {
-    let Ok(engine) = Engine::<L, NoFeed>::new(alloc, opening, ids_of(serve)) else {
+    let Ok(engine) = engine_of::<L>(alloc, opening, serve) else {
         return Err(Fault::Memory);
     };
     run_pool(rt, alloc, engine, listener, serve)
+}
+
+/// An engine that answers by the ids of a server.
+fn engine_of<L: EngineName>(
+    alloc: Global,
+    opening: Opening<NoFeed>,
+    serve: &Serve<'_>,
+) -> Result<Engine<L, NoFeed>, AllocError>
+    requires name { opening.name ≡ L.Ledger.name }
+    requires parts { opening.parts ≡ L.Ledger.parts }
+    ensures cluster { IfOk result (λ engine. engine.cluster ≡ serve.now.cluster) }
+    ensures member { IfOk result (λ engine. engine.member ≡ serve.now.member) }
+{
+    Engine::new(alloc, opening, ids_of(serve))
 }
 
 /// The cluster and the member that answer.

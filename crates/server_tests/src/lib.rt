@@ -12,10 +12,16 @@ mod ends;
 #[cfg(test)]
 mod held;
 #[cfg(test)]
+mod long_rows;
+#[cfg(test)]
 mod rows;
+#[cfg(test)]
+mod scripts;
 #[cfg(test)]
 mod serving;
 #[cfg(test)]
 mod streams;
 #[cfg(test)]
 mod texts;
+#[cfg(test)]
+mod trimmed;

@@ -54,18 +54,23 @@ fn slow_reader(good: usize) -> Trickle<'static> {
     }
 }
 
-/// Takes at most three bytes a write. Once it has `good` bytes it fails, or takes nothing, and
-/// after that it would take all.
+/// Takes at most three bytes a write, and is interrupted before each. Once it has `good` bytes it
+/// fails, or takes nothing, and after that it would take all.
 #[derive(Drop)]
-struct Choppy {
-    got: Vec<u8>,
+pub struct Choppy {
+    pub got: Vec<u8>,
     good: usize,
     fails: bool,
     flushes: bool,
+    interrupts: bool,
 }
 
 impl Write for Choppy {
     fn write(&mut self, buf: &[u8]) -> io::Result<usize> {
+        self.interrupts = !self.interrupts;
+        if self.interrupts {
+            return Err(io::Error::from(ErrorKind::Interrupted));
+        }
         let room = self.good.saturating_sub(self.got.len());
         if room == 0 && !buf.is_empty() {
             self.good = usize::MAX;
@@ -89,12 +94,13 @@ impl Write for Choppy {
     }
 }
 
-fn small_writer(alloc: Global, good: usize, fails: bool, flushes: bool) -> Choppy {
+pub fn small_writer(alloc: Global, good: usize, fails: bool, flushes: bool) -> Choppy {
     Choppy {
         got: Vec::new(alloc),
         good,
         fails,
         flushes,
+        interrupts: false,
     }
 }
 
@@ -150,6 +156,14 @@ fn is_verdict_written(alloc: Global, fails: bool) -> bool {
     matches!(ended, Ok(Verdict::Unreadable(1))) && out.got.as_slice() == VERDICT
 }
 
+/// Whether a writer that fails to hand on the verdict is told of.
+fn is_verdict_kept_back(alloc: Global) -> bool {
+    let mut text = SCRIPT;
+    let mut out = small_writer(alloc, usize::MAX, true, false);
+    let ended = check(alloc, &mut text, &mut out);
+    matches!(ended, Err(Fault::Write(_))) && out.got.as_slice() == VERDICT
+}
+
 #[test]
 fn writes_of_a_check(rt: HostRuntime) {
     for good in 0..VERDICT.len() {
@@ -164,6 +178,7 @@ fn writes_of_a_check(rt: HostRuntime) {
     }
     assert!(rt; is_verdict_written(rt.alloc(), true));
     assert!(rt; is_verdict_written(rt.alloc(), false));
+    assert!(rt; is_verdict_kept_back(rt.alloc()));
 }
 
 /// Whether a script ends where a write fails, or takes nothing, after these bytes, and nothing more

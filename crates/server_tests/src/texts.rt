@@ -22,6 +22,19 @@ pub(crate) const LAST_PUT: &[u8] =
     b"POST /v3/kv/put HTTP/1.1\r\nHost: t\r\nConnection: close\r\nContent-Length: 29\r\n\r\n\
     {\"key\":\"Zm9v\",\"value\":\"YmFy\"}";
 
+/// Three puts of a key, a compaction at the last, and a read of it.
+pub(crate) const COMPACTED_PUTS: &[u8] =
+    b"POST /v3/kv/put HTTP/1.1\r\nHost: t\r\nContent-Length: 29\r\n\r\n\
+    {\"key\":\"Zm9v\",\"value\":\"YmFy\"}\
+    POST /v3/kv/put HTTP/1.1\r\nHost: t\r\nContent-Length: 29\r\n\r\n\
+    {\"key\":\"Zm9v\",\"value\":\"YmFy\"}\
+    POST /v3/kv/put HTTP/1.1\r\nHost: t\r\nContent-Length: 29\r\n\r\n\
+    {\"key\":\"Zm9v\",\"value\":\"YmFy\"}\
+    POST /v3/kv/compaction HTTP/1.1\r\nHost: t\r\nContent-Length: 16\r\n\r\n\
+    {\"revision\":\"4\"}\
+    POST /v3/kv/range HTTP/1.1\r\nHost: t\r\nContent-Length: 14\r\n\r\n\
+    {\"key\":\"Zm9v\"}";
+
 /// Its replies at the revisions 2 and 3.
 pub(crate) const LAST_PUT_REPLIES: [&str; 2] = [
     "HTTP/1.1 200 OK\r\nContent-Type: application/json\r\nContent-Length: 76\r\n\
