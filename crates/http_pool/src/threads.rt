@@ -45,8 +45,8 @@ pub fn pool<L, F, G, C, R>(
     connections: u64,
 ) -> Result<Core, Front>
 where
-    L: EngineName,
-    F: Feed,
+    L: EngineName + Send + Sync,
+    F: Feed + Send + Sync,
     G: Gate + Sync,
     C: Clock + Sync,
     R: Wait + Threads + time::Clock + Sync,
@@ -144,8 +144,8 @@ fn run_threads<L, F, G, C, R>(
     expirer: Client<L, F>,
 ) -> Served<L, F>
 where
-    L: EngineName,
-    F: Feed,
+    L: EngineName + Send + Sync,
+    F: Feed + Send + Sync,
     G: Gate + Sync,
     C: Clock + Sync,
     R: Wait + Threads + time::Clock + Sync,
@@ -165,8 +165,8 @@ fn serve_trimmed<'s, E, L, F, G, C, R>(
     expirer: Client<L, F>,
 ) -> Served<L, F>
 where
-    L: EngineName + 's,
-    F: Feed + 's,
+    L: EngineName + Send + Sync + 's,
+    F: Feed + Send + Sync + 's,
     G: Gate + Sync + 's,
     C: Clock + Sync + 's,
     R: Wait + Threads + time::Clock + Sync + 's,
@@ -199,8 +199,8 @@ fn serve_expiring<'s, E, L, F, G, C, R>(
     trims: bool,
 ) -> Served<L, F>
 where
-    L: EngineName + 's,
-    F: Feed + 's,
+    L: EngineName + Send + Sync + 's,
+    F: Feed + Send + Sync + 's,
     G: Gate + Sync + 's,
     C: Clock + Sync + 's,
     R: Wait + Threads + time::Clock + Sync + 's,
@@ -229,8 +229,8 @@ fn start_all<'s, E, L, F, G, C, R>(
     all: bool,
 ) -> (Vec<JoinHandle<Worked<L, F>>>, Option<Trouble>)
 where
-    L: EngineName + 's,
-    F: Feed + 's,
+    L: EngineName + Send + Sync + 's,
+    F: Feed + Send + Sync + 's,
     G: Gate + Sync + 's,
     C: Clock + Sync + 's,
     R: Wait + Threads + time::Clock + Sync + 's,
@@ -252,8 +252,8 @@ fn start_trimming<'s, E, L, F, G, C, R>(
     shared: &'s Shared<'s, L, F, G, C>,
 ) -> Option<JoinHandle<()>>
 where
-    L: EngineName + 's,
-    F: Feed + 's,
+    L: EngineName + Send + Sync + 's,
+    F: Feed + Send + Sync + 's,
     G: Sync + 's,
     C: Sync + 's,
     R: Wait + time::Clock + Sync + 's,
@@ -274,8 +274,8 @@ fn start_expiring<'s, E, L, F, G, C, R>(
     client: Client<L, F>,
 ) -> Option<JoinHandle<Client<L, F>>>
 where
-    L: EngineName + 's,
-    F: Feed + 's,
+    L: EngineName + Send + Sync + 's,
+    F: Feed + Send + Sync + 's,
     G: Sync + 's,
     C: Clock + Sync + 's,
     R: Wait + time::Clock + Sync + 's,
@@ -298,8 +298,8 @@ fn start_workers<'s, E, L, F, G, C, R>(
     clients: Vec<Client<L, F>>,
 ) -> (Vec<JoinHandle<Worked<L, F>>>, Option<Trouble>)
 where
-    L: EngineName + 's,
-    F: Feed + 's,
+    L: EngineName + Send + Sync + 's,
+    F: Feed + Send + Sync + 's,
     G: Gate + Sync + 's,
     C: Clock + Sync + 's,
     R: Wait + time::Clock + Sync + 's,
@@ -328,8 +328,8 @@ fn start_working<'s, E, L, F, G, C, R>(
     client: Client<L, F>,
 ) -> Option<JoinHandle<Worked<L, F>>>
 where
-    L: EngineName + 's,
-    F: Feed + 's,
+    L: EngineName + Send + Sync + 's,
+    F: Feed + Send + Sync + 's,
     G: Gate + Sync + 's,
     C: Clock + Sync + 's,
     R: Wait + time::Clock + Sync + 's,
