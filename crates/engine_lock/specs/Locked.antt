@@ -162,3 +162,30 @@ pub record Drops (number : ℕ) (stood : Bool) : Type 0 where
   pub new : CoreState
   pub stands : IsStanding old
   pub ends : EndsWatch number old new stood
+
+-- ---- and by a client that had made so many changes: the core had all of these
+
+pub record Sees (made : ℕ) (old : CoreState) : Type 0 where
+  pub stood : IsStanding old
+  pub seen : 1 + made ≤ old.store.revision
+
+-- the watch of this number was told so
+pub record TellsTo (ids : Ids) (made number : ℕ) (m : Message) : Type 0 where
+  pub old : CoreState
+  pub new : CoreState
+  pub sees : Sees made old
+  pub tells : TellsFrom ids number old new m
+
+-- it was ended, if there was one
+pub record DropsFor (made number : ℕ) (stood : Bool) : Type 0 where
+  pub old : CoreState
+  pub new : CoreState
+  pub sees : Sees made old
+  pub ends : EndsWatch number old new stood
+
+-- a trimming step tells so
+pub record TrimsFor (made : ℕ) (t : Trim) : Type 0 where
+  pub old : CoreState
+  pub new : CoreState
+  pub sees : Sees made old
+  pub trims : TrimsOnce old new t

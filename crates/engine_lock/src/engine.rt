@@ -4,6 +4,7 @@ ghost use Rattle.std.specs.Prelude.{[], ◌∷◌, ◌++◌};
 ghost use Rattle.kv_model.specs.Commands.{call_of};
 ghost use Rattle.kv_model.specs.declared.refusal.Refusal.TheVariants.{NoPlace, NoWatch};
 ghost use Rattle.engine_lock.specs.Locked.{Drops, IsStanding, Submits, SubmitsExpiry, Tells, Trims};
+ghost use Rattle.engine_lock.specs.Locked.{DropsFor, TellsTo, TrimsFor};
 ghost use Rattle.engine_lock.specs.Locked.{plus, rise, rise_of_expiry, told_to};
 ghost use Rattle.engine_lock.specs.declared.past.Given.TheVariants as given;
 
@@ -117,7 +118,7 @@ impl<L: EngineName, F: Feed> Engine<L, F> {
     }
 
     /// As [`Engine::deliver`], for a client: it was given just that message, and nothing where the
-    /// watch is caught up or no memory was found.
+    /// watch is caught up or no memory was found. The core had all changes that the client had made.
     pub fn deliver_for<R: Wait>(
         &self,
         rt: &R,
@@ -125,6 +126,7 @@ impl<L: EngineName, F: Feed> Engine<L, F> {
         number: u64,
     ) -> Result<Message, AllocError>
         ensures tells { IfOk result (λ m. Tells self.now number m) }
+        ensures sees { IfOk result (λ m. TellsTo self.now client.old.made number m) }
         ensures given { client.new ≡ told_to client.old number result }
     {
         locked(rt, &self.state).deliver_for(self.alloc, &self.ids, client, number)
@@ -140,7 +142,7 @@ impl<L: EngineName, F: Feed> Engine<L, F> {
     }
 
     /// As [`Engine::drop_watch`], for a client: it was given that this watch was ended, or that
-    /// there was none.
+    /// there was none, in a core that had all changes that the client had made.
     pub fn drop_watch_for<R: Wait>(
         &self,
         rt: &R,
@@ -148,6 +150,7 @@ impl<L: EngineName, F: Feed> Engine<L, F> {
         number: u64,
     ) -> Result<(), Refusal>
         ensures drops { Drops number (is_ok result) }
+        ensures sees { DropsFor client.old.made number (is_ok result) }
         ensures missing { IfErr result (λ e. e ≡ NoWatch) }
         ensures given { client.new ≡ plus client.old (given.Dropped number (is_ok result)) }
     {
@@ -163,9 +166,11 @@ impl<L: EngineName, F: Feed> Engine<L, F> {
         Ok(locked(rt, &self.state).trim())
     }
 
-    /// As [`Engine::trim_once`], for a client: it was given just that step.
+    /// As [`Engine::trim_once`], for a client: it was given just that step, of a core that had all
+    /// changes that the client had made.
     pub fn trim_once_for<R: Wait>(&self, rt: &R, client: &mut Client<L, F>) -> Result<Trim, Refusal>
         ensures trims { IfOk result (λ t. Trims t) }
+        ensures sees { IfOk result (λ t. TrimsFor client.old.made t) }
         ensures given { IfOk result (λ t. client.new ≡ plus client.old (given.Trimmed t)) }
         ensures made { is_ok result ≡ true }
     {

@@ -10,6 +10,7 @@ ghost use Rattle.request_core.specs.Commands.{TrimsOnce};
 ghost use Rattle.request_core.specs.State.{after_moment};
 ghost use Rattle.engine_lock.specs.Locked.{Drops, EndsWatch, IsStanding, MakesExpiry, Performs};
 ghost use Rattle.engine_lock.specs.Locked.{Submits, SubmitsExpiry, Tells, TellsFrom, Trims};
+ghost use Rattle.engine_lock.specs.Locked.{DropsFor, Sees, TellsTo, TrimsFor};
 ghost use Rattle.engine_lock.specs.Locked.{plus, rise, rise_of_expiry, told_to};
 ghost use Rattle.engine_lock.specs.declared.past.Given.TheVariants as given;
 
@@ -128,6 +129,15 @@ impl<L: EngineName, F: Feed> State<L, F> {
         step
     }
 
+    /// The core has all changes that a client made. Does nothing.
+    fn see(&mut self, client: &mut Client<L, F>)
+        ensures sees { Sees client.old.made self.old.core }
+        ensures same { client.new ≡ client.old }
+        ensures unchanged { self.new ≡ self.old }
+    {
+        audit(&mut self.book, client);
+    }
+
     /// Tells a watch what it is told next.
     pub(crate) fn deliver(
         &mut self,
@@ -155,10 +165,12 @@ impl<L: EngineName, F: Feed> State<L, F> {
         ensures told { IfOk result (λ m.
             TellsFrom ids.now number self.old.core self.new.core m) }
         ensures tells { IfOk result (λ m. Tells ids.now number m) }
+        ensures sees { IfOk result (λ m. TellsTo ids.now client.old.made number m) }
         ensures given { client.new ≡ told_to client.old number result }
         ensures clients { self.new.clients ≡ self.old.clients }
         ensures unchanged { OnErr result (self.new ≡ self.old) }
     {
+        self.see(client);
         let told = self.deliver(alloc, ids, number);
         client.note_told(number, &told);
         told
@@ -183,11 +195,13 @@ impl<L: EngineName, F: Feed> State<L, F> {
     ) -> Result<(), Refusal>
         ensures ends { EndsWatch number self.old.core self.new.core (is_ok result) }
         ensures drops { Drops number (is_ok result) }
+        ensures sees { DropsFor client.old.made number (is_ok result) }
         ensures missing { IfErr result (λ e. e ≡ NoWatch) }
         ensures given { client.new ≡ plus client.old (given.Dropped number (is_ok result)) }
         ensures clients { self.new.clients ≡ self.old.clients }
         ensures unchanged { OnErr result (self.new ≡ self.old) }
     {
+        self.see(client);
         let ended = self.drop_watch(number);
         client.note_dropped(number, ended.is_ok());
         ended
@@ -206,9 +220,11 @@ impl<L: EngineName, F: Feed> State<L, F> {
     pub(crate) fn trim_for(&mut self, client: &mut Client<L, F>) -> Trim
         ensures trims { TrimsOnce self.old.core self.new.core result }
         ensures may { Trims result }
+        ensures sees { TrimsFor client.old.made result }
         ensures given { client.new ≡ plus client.old (given.Trimmed result) }
         ensures clients { self.new.clients ≡ self.old.clients }
     {
+        self.see(client);
         let step = self.trim();
         client.note_trimmed(&step);
         step
