@@ -5,17 +5,17 @@ use Rattle.kv_model.specs.declared.call.Command.{Command}
 use Rattle.kv_model.specs.declared.refusal.Refusal.{Refusal}
 use Rattle.trim_core.specs.declared.trimmer.Trim.{Trim}
 use Rattle.json_gateway.specs.declared.outcome.Outcome.{Outcome}
-use Rattle.engine_lock.specs.Locked.{Caller, Trims, plus, rise}
+use Rattle.engine_lock.specs.Locked.{Caller, TrimsFor, plus, rise}
 use Rattle.engine_lock.specs.declared.past.Given.TheVariants as given
 use Rattle.http_front.specs.Ends.{IsDone}
 use Rattle.http_front.specs.Engines.{AreTrimmed, AreTrimmedWhere, with_done}
 
 -- the last step, which says that trimming is done
-pub done_last : (c c' : Caller) (t k : Trim) → Trims t → t ≡ k → IsDone k → c' ≡ plus c (given.Trimmed t) → AreTrimmed c c'
+pub done_last : (c c' : Caller) (t k : Trim) → TrimsFor c.made t → t ≡ k → IsDone k → c' ≡ plus c (given.Trimmed t) → AreTrimmed c c'
 done_last c c' t k h e d is = subst (λ (x : Caller). AreTrimmed c x) (sym is) (AreTrimmed.last t h (subst IsDone (sym e) d))
 
 -- a step before others
-pub others : (c c' : Caller) (r : Result Trim Refusal) → is_ok r ≡ true → IfOk r (λ t. Trims t) → IfOk r (λ t. c' ≡ plus c (given.Trimmed t))
+pub others : (c c' : Caller) (r : Result Trim Refusal) → is_ok r ≡ true → IfOk r (λ t. TrimsFor c.made t) → IfOk r (λ t. c' ≡ plus c (given.Trimmed t))
     → (d : Caller) → AreTrimmed c' d → AreTrimmed c d
 others c c' (Ok t) ok h e d later = AreTrimmed.more t h (subst (λ (x : Caller). AreTrimmed x d) e later)
 others c c' (Err f) ok h e d later = absurd (true≢false (sym ok))

@@ -21,8 +21,8 @@ use Rattle.http_front.specs.Ends.{IsDone}
 
 -- trimming steps were made for a client, up to one that says that trimming is done
 pub data AreTrimmed : Caller → Caller → Type 0 where
-  last : {c : Caller} (t : Trim) → lock.Trims t → IsDone t → AreTrimmed c (plus c (given.Trimmed t))
-  more : {c c' : Caller} (t : Trim) → lock.Trims t → AreTrimmed (plus c (given.Trimmed t)) c' → AreTrimmed c c'
+  last : {c : Caller} (t : Trim) → lock.TrimsFor c.made t → IsDone t → AreTrimmed c (plus c (given.Trimmed t))
+  more : {c c' : Caller} (t : Trim) → lock.TrimsFor c.made t → AreTrimmed (plus c (given.Trimmed t)) c' → AreTrimmed c c'
 
 -- they were made where an answer waits for them
 abbrev pub AreTrimmedWhere : Bool → Caller → Caller → Type 0
@@ -53,13 +53,13 @@ pub record Refused (c : Caller) (a : Asked) (o : Outcome) (c' : Caller) : Type 0
 abbrev pub Answers : Ids → Caller → Asked → Outcome → Caller → Type 0
 Answers ids c a o c' = Did ids c a o c' ⊎ Refused c a o c'
 
--- A stream is told what the engine told its watch. It ends where there is no such watch, or its client has left.
+-- A stream is told what the engine told its watch, from a core that had all changes that the client had made. It ends where there is no such watch, or its client has left.
 abbrev pub Tells : Ids → Caller → ℕ → Told → Caller → Type 0
-Tells ids c n (told.Text x) c' = lock.Tells ids n (message.Text x) × (c' ≡ plus c (given.Told n (message.Text x)))
+Tells ids c n (told.Text x) c' = lock.TellsTo ids c.made n (message.Text x) × (c' ≡ plus c (given.Told n (message.Text x)))
 Tells ids c n told.End c' = (c' ≡ plus c (given.Told n message.NoWatch)) ⊎ (c' ≡ c)
 Tells ids c n told.Memory c' = ⊥
 
 -- Behind a reply the watch that its request made is ended.
 abbrev pub Finishes : Caller → Option ℕ → Caller → Type 0
 Finishes c None c' = c' ≡ c
-Finishes c (Some n) c' = (stood : Bool) × lock.Drops n stood × (c' ≡ plus c (given.Dropped n stood))
+Finishes c (Some n) c' = (stood : Bool) × lock.DropsFor c.made n stood × (c' ≡ plus c (given.Dropped n stood))
