@@ -1,0 +1,75 @@
+//! Trimming goes on beside the connections, whatever was done before.
+ghost use Rattle.std.specs.Prelude.{◌≡◌};
+
+use crate::texts::{COMPACTED_PUTS, ONES, Still};
+use engine_lock::{Engine, EngineName, NoFeed, Opening};
+use http_pool::{Gate, pool};
+use std::alloc::Global;
+use std::io::Write;
+use std::marker::Brand;
+use std::net::{Shutdown, TcpListener, TcpStream};
+use std::sync::Wait;
+use std::test::Fail;
+use std::thread::Threads;
+use std::time::Duration;
+use std::{thread, time};
+
+/// How long a request is held back, in milliseconds: longer than trimming rests.
+const HELD: u64 = 200;
+
+/// Holds each request back for a while.
+#[derive(Drop)]
+struct Slowly<'x, R: time::Clock> {
+    rt: &'x R,
+}
+
+impl<'x, R: time::Clock> Gate for Slowly<'x, R> {
+    fn before(&self, _call: u64) {
+        thread::sleep(self.rt, Duration::from_millis(HELD));
+    }
+
+    fn after(&self, _call: u64) {}
+}
+
+/// Serves one connection: the revision of the core that is left, and how many versions it has.
+fn served<L: EngineName + Send + Sync, R: Wait + Threads + time::Clock + Sync>(
+    rt: &R,
+    alloc: Global,
+    opening: Opening<NoFeed>,
+    listener: &TcpListener,
+) -> Option<(u64, u64)>
+    requires name { opening.name ≡ L.Ledger.name }
+    requires parts { opening.parts ≡ L.Ledger.parts }
+{
+    let engine = Engine::<L, NoFeed>::new(alloc, opening, ONES).ok()?;
+    let gate = Slowly { rt };
+    match pool(rt, alloc, engine, &gate, &Still, listener, 2, 1) {
+        Ok(core) => {
+            let status = core.status();
+            Some((status.revision, status.versions))
+        }
+        Err(_) => None,
+    }
+}
+
+fn run_served<R: Wait + Threads + time::Clock + Sync>(
+    rt: &R,
+    alloc: Global,
+    listener: &TcpListener,
+) -> Option<(u64, u64)> {
+    served::<Brand, R>(rt, alloc, Opening::new(NoFeed), listener)
+}
+
+/// Trimming has found nothing to do before the first put; three puts of a key and a compaction later
+/// it has taken two versions out, without a request that waits for that.
+#[test]
+fn trimming_goes_on(rt: HostRuntime) -> Result<(), Fail> {
+    let alloc = rt.alloc();
+    let listener = TcpListener::bind(&rt, "127.0.0.1:0")?;
+    let client = TcpStream::connect(&rt, listener.local_addr()?)?;
+    let mut peer = &client;
+    peer.write_all(COMPACTED_PUTS)?;
+    client.shutdown(Shutdown::Write)?;
+    assert_eq!(rt; run_served(&rt, alloc, &listener), Some((4, 1)));
+    Ok(())
+}
