@@ -3,7 +3,7 @@ ghost use Rattle.std.specs.Prelude.{◌≡◌};
 
 use crate::texts::{COMPACTED_PUTS, ONES, Still};
 use engine_lock::{Engine, EngineName, NoFeed, Opening};
-use http_pool::{Gate, pool};
+use http_front::{Gate, pool};
 use std::alloc::Global;
 use std::io::Write;
 use std::marker::Brand;
