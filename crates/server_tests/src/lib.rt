@@ -2,7 +2,8 @@
 //! no clause can say of `http_front`, `commands` and `command_line`, that they succeed
 //! with ample memory, that two connections are answered side by side, and the bytes of requests and
 //! replies from outside. They stand in a crate above, for the tests of a crate have it proved once
-//! more; what scripts and certificates are answered is in `tests/rows.d`. It has nothing but tests.
+//! more. The worked rows of scripts and certificates are run over memory here (`scripts`,
+//! `long_rows`), and with more of them on the program by `tests/rows`. It has nothing but tests.
 #![tactic(auto)]
 
 #[cfg(test)]
