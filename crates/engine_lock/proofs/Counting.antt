@@ -1,12 +1,11 @@
 -- What a command and a step of expiry do to the revision, and that the core goes on standing for a world.
-use Rattle.std.proofs.Common.{◌≡◌, ◌≤◌, inl, inr, ℕ, ◌+◌, Bool, true, false, cond, Option, None, Some, Result, Ok, Err, refl, sym, ◌∙◌, ap, subst, arith}
+use Rattle.std.proofs.Common.{◌≡◌, ◌≤◌, inl, inr, ℕ, ◌+◌, Bool, false, cond, Option, None, Some, Result, Ok, Err, refl, sym, ◌∙◌, ap, subst, arith}
 use Rattle.std.specs.Prelude.{is_some, IfOk, IfErr}
 use Rattle.kv_model.specs.declared.refusal.Refusal.{Refusal}
 use Rattle.kv_model.specs.declared.ids.Ids.{Ids}
 use Rattle.kv_model.specs.Calls.{Call}
 use Rattle.kv_model.specs.Answers.{Response}
 use Rattle.kv_model.specs.World.{World, at_moment, revision}
-use Rattle.kv_model.specs.Told as told
 use Rattle.kv_model.specs.Step.{Made, made_in, perform, expire, world_of}
 use Rattle.kv_model.specs.Wire.{Loss, IsChange, raised}
 use Rattle.store_laws.specs.Growth.{RaisesByOne, says_raised}

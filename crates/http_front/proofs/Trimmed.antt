@@ -1,5 +1,5 @@
 -- What a client is given by a command, and by the trimming that its answer waits for.
-use Rattle.std.proofs.Common.{◌≡◌, ℕ, ◌+◌, Bool, true, false, List, [], ◌∷◌, ◌++◌, Result, Ok, Err, sym, subst, true≢false}
+use Rattle.std.proofs.Common.{◌≡◌, ℕ, ◌+◌, Bool, true, [], ◌∷◌, ◌++◌, Result, Ok, Err, sym, subst, true≢false}
 use Rattle.std.specs.Prelude.{IfOk, is_ok}
 use Rattle.kv_model.specs.declared.call.Command.{Command}
 use Rattle.kv_model.specs.declared.refusal.Refusal.{Refusal}

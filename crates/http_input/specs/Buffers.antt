@@ -1,5 +1,5 @@
 -- What a clause reads of a buffer. No public clause cites this module.
-use Rattle.std.specs.Prelude.{◌≡◌, ℕ, ◌-◌, ◌<◌, ◌≤◌, List, ◌++◌, length, Bool, true, false, Option, Result, Ok}
+use Rattle.std.specs.Prelude.{◌≡◌, ℕ, ◌-◌, ◌<◌, ◌≤◌, List, length, Bool, true, false, Option, Result, Ok}
 use Rattle.std.specs.Prelude.{Err, slice_range}
 use Rattle.std.specs.Io.KnownBytes.{IsAtEnd}
 use Rattle.http_reply.specs.declared.front.Front.{Front}

@@ -1,5 +1,5 @@
 -- The messages of a watch, one after the other.
-use Rattle.std.proofs.Common.{◌≡◌, ◌≤◌, ℕ, ◌+◌, ◌-◌, arith, List, [], ◌++◌, Bool, true, Option, Result, Ok, Err, Vec, Global, refl, sym, ◌∙◌, ap, subst, append_assoc}
+use Rattle.std.proofs.Common.{◌≡◌, ℕ, ◌+◌, List, ◌++◌, Bool, true, Option, Result, Ok, Err, Vec, Global, sym, ◌∙◌, ap, subst, append_assoc}
 use Rattle.http_reply.specs.declared.front.Front.{Front}
 use Rattle.http_reply.specs.declared.front.Front.TheVariants as front
 use Rattle.http_reply.specs.Replies.{chunk, last_chunk, stream_head}

@@ -1,9 +1,9 @@
 -- A connection's bytes are read as requests in one way.
-use Rattle.std.proofs.Common.{◌≡◌, ◌≤◌, ℕ, ◌+◌, arith, List, [], ◌∷◌, ◌++◌, length, Result, Ok, Err, inl, inr, refl, sym, ◌∙◌, ap, subst}
+use Rattle.std.proofs.Common.{◌≡◌, ◌≤◌, ℕ, arith, List, [], ◌∷◌, ◌++◌, length, inl, inr, refl, sym, ◌∙◌, ap, subst}
 use Rattle.httparse.specs.Grammar.{RequestHead}
 use Rattle.httparse.proofs.GrammarLemmas.{request_unique}
-use Rattle.http_head.specs.Heads.{body_length, marks_of}
-use Rattle.http_head.specs.Requests.{Asked, IsCut, ReadsAsked}
+use Rattle.http_head.specs.Heads.{marks_of}
+use Rattle.http_head.specs.Requests.{Asked, ReadsAsked}
 use Rattle.http_loop.specs.Laws.{AreAsked, IsNeverCutToo, IsReadInOneWay}
 
 -- two lists that go on differ in length or are the same, and what follows too

@@ -15,7 +15,7 @@ use Rattle.json_gateway.specs.declared.outcome.Settled.TheVariants as settled
 use Rattle.json_gateway.specs.Outcomes.{IsBare, is_accepted}
 use Rattle.json_gateway.specs.Runs.{command_view, ending_view}
 use Rattle.json_gateway.specs.Steps.{Steps}
-use Rattle.http_loop.specs.Served.{Answers, Finishes, Leaves, Serves, ServesOf, Stands, Tells, ids_alone}
+use Rattle.http_loop.specs.Served.{Answers, Finishes, Leaves, ServesOf, Stands, Tells, ids_alone}
 use Rattle.http_loop.specs.Answered as any
 use Rattle.http_loop.specs.Answered.{IsTold, most_messages, streamed}
 use Rattle.http_loop.specs.Connections.{AreMessages, Conn, IsAnswered, IsOutcome, IsStream, Standing, dropped, event_of, path_asked, with_world}

@@ -1,5 +1,5 @@
 -- What the requests of a connection are answered, over a world of the store and what is kept of it (RFC 9112).
-use Rattle.std.specs.Prelude.{◌≡◌, ℕ, ◌+◌, ◌<◌, ◌≤◌, List, [], ◌++◌, length, take, Bool, true, false, if◌then◌else◌}
+use Rattle.std.specs.Prelude.{◌≡◌, ℕ, ◌+◌, ◌≤◌, List, [], ◌++◌, length, Bool, true, false, if◌then◌else◌}
 use Rattle.std.specs.Prelude.{nat_eq, Option, None, Some, Result, Ok, Err, codes}
 use Rattle.std.specs.Cmp.Lexicographic.{pointwise}
 use Rattle.kv_model.specs.declared.ids.Ids.{Ids}
@@ -11,7 +11,7 @@ use Rattle.kv_model.specs.Headline.{Keeping, Keeps}
 use Rattle.kv_model.specs.Watches.{deliver}
 use Rattle.kv_model.specs.Wire.{WireEvent, WireTold, WireOutcome, wire_step, is_free, takes_memory, MayLose, message_to}
 use Rattle.kv_model.specs.World.{World, without_watch}
-use Rattle.http_head.specs.Heads.{Fault, Names, bad_head, bad_length, too_long, window}
+use Rattle.http_head.specs.Heads.{Fault, Names, window}
 use Rattle.http_head.specs.Requests.{Asked, IsCut, ReadsAsked, path_of}
 use Rattle.http_reply.specs.declared.front.Front.{Front}
 use Rattle.http_reply.specs.declared.front.Front.TheVariants as front

@@ -1,6 +1,5 @@
 use Rattle.kv_model.specs.Commands.{call_of}
-use Rattle.engine_lock.proofs.Counting.{Counted, ended}
-use Rattle.engine_lock.specs.Locked.{rise}
+use Rattle.engine_lock.proofs.Counting.{ended}
 use Rattle.engine_lock.proofs.steps.performed.Goals as goal
 
 pub returns-clause-stands : goal.returns-clause-stands
