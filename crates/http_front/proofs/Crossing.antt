@@ -16,6 +16,16 @@ use Rattle.http_front.proofs.door.Door.TheSendSync as door
 pub shared_sync : (a : NamedLft) (T F G C : RattleType) (g : Ghosts T.Denot) → IsSend F → IsSync G → IsSync C → IsSync (Shared.the_row a T F G C g)
 shared_sync a T F G C g f s u =
     let listener : IsSync TcpListener.the_row = search (sendable, crosses) depth 20 in
-    recorded_sync (Shared.the_field a T F G C g).row _ _ (Shared.the_type a T F G C g).to_one (struct_sync (shape (Shared.the_type a T F G C g))
-        (shr_sync _ _ _ (engine_sync T F g f), (shr_sync _ _ _ s, (shr_sync _ _ _ u, (shr_sync _ _ _ listener,
-        (mutex.the_sync Door.the_row door.the_send, (flag.the_field_sync, tt)))))))
+    recorded_sync (Shared.the_field a T F G C g).row _ _ (Shared.the_type a T F G C g).to_one (struct_sync (shape (Shared.the_type a T F G C g)) (
+      shr_sync _ _ _ (engine_sync T F g f),
+      (
+        shr_sync _ _ _ s,
+        (
+          shr_sync _ _ _ u,
+          (
+            shr_sync _ _ _ listener,
+            (mutex.the_sync Door.the_row door.the_send, (flag.the_field_sync, tt)),
+          ),
+        ),
+      ),
+    ))
