@@ -36,4 +36,4 @@ mod writing;
 pub use alone::serve_alone;
 pub use answering::{Answering, Told};
 pub use serving::serve_all;
-pub use writing::{Turn, command_path, decline, turn_after, write_settled};
+pub use writing::command_path;
