@@ -1,40 +1,34 @@
-// Preloaded into the program by tests/allocations. Refuses the allocation whose number, from 1, REFUSE gives, or each from
-// the number that REFUSE_FROM gives on. At the end it writes how many were asked for to the descriptor REFUSE_REPORT.
+// Preloaded into the program by tests/refusing.py, which shares a page with it: how many allocations were asked for, the
+// number, from 1, of the one that is refused, the number from which on each is refused, and how many were refused.
 typedef __SIZE_TYPE__ size_t;
 
 extern void *__libc_malloc(size_t size);
 extern void *__libc_realloc(void *block, size_t size);
 extern char *getenv(const char *name);
 extern int atoi(const char *text);
-extern int dprintf(int file, const char *format, ...);
-extern long syscall(long number, ...);
+extern void *mmap(void *at, size_t size, int protection, int flags, int file, long offset);
 
-static int asked, refused, refused_from, report;
+struct page {
+  int asked, alone, from, refused;
+};
 
-static int number(const char *name) {
-  const char *text = getenv(name);
-  return text ? atoi(text) : 0;
-}
+static struct page none, *page = &none;
 
 __attribute__((constructor)) static void start(void) {
-  refused = number("REFUSE");
-  refused_from = number("REFUSE_FROM");
-  report = number("REFUSE_REPORT");
-  asked = 0;
-}
-
-__attribute__((destructor)) static void stop(void) { dprintf(report, "%d\n", asked); }
-
-// A program with threads ends by this, and runs no destructor.
-_Noreturn void _exit(int status) {
-  stop();
-  for (;;)
-    syscall(231, status);
+  const char *file = getenv("REFUSALS");
+  // To be read and written, and shared.
+  void *shared = file ? mmap(0, sizeof(struct page), 1 | 2, 1, atoi(file), 0) : (void *)-1;
+  if (shared != (void *)-1)
+    page = shared;
 }
 
 static int is_refused(void) {
-  int at = __atomic_add_fetch(&asked, 1, __ATOMIC_RELAXED);
-  return at == refused || (refused_from && at >= refused_from);
+  int at = __atomic_add_fetch(&page->asked, 1, __ATOMIC_SEQ_CST);
+  int from = __atomic_load_n(&page->from, __ATOMIC_SEQ_CST);
+  if (at != __atomic_load_n(&page->alone, __ATOMIC_SEQ_CST) && (from == 0 || at < from))
+    return 0;
+  __atomic_add_fetch(&page->refused, 1, __ATOMIC_SEQ_CST);
+  return 1;
 }
 
 void *malloc(size_t size) { return is_refused() ? 0 : __libc_malloc(size); }

@@ -2,7 +2,7 @@
 use crate::fixtures::{Line, Row, verdict};
 use kv_model::version::Rev;
 use std::alloc::Global;
-use witness_core::{Least, NeedFault};
+use witness_core::{Least, Need, NeedFault};
 
 /// A floor, a revision, versions and claims, and what a check says of them.
 type Case = (
@@ -25,7 +25,7 @@ const B: &[u8] = b"b";
 const TWO: [Row; 2] = [(2, 0, X, true), (2, 1, Y, true)];
 
 /// The claims of the two.
-const BOTH: [Line; 2] = [(2, 0, true, 2), (2, 1, true, 2)];
+const BOTH: [Line; 2] = [(2, 0, Need::Range(2)), (2, 1, Need::Range(2))];
 
 /// Puts of a at 2, 4 and 5, and of b at 3.
 const FOUR: [Row; 4] = [
@@ -52,21 +52,25 @@ static TRANSACTIONS: [Case; 9] = [
         0,
         2,
         &TWO,
-        &[(2, 0, true, 2)],
+        &[(2, 0, Need::Range(2))],
         Err(NeedFault::NoNeed(Rev { main: 2, sub: 1 })),
     ),
     (
         0,
         2,
         &TWO,
-        &[(2, 0, true, 2), (2, 1, true, 2), (2, 1, true, 2)],
+        &[
+            (2, 0, Need::Range(2)),
+            (2, 1, Need::Range(2)),
+            (2, 1, Need::Range(2)),
+        ],
         Err(NeedFault::Extra),
     ),
     (
         0,
         2,
         &[(2, 0, X, true), (2, 0, Y, true)],
-        &[(2, 0, true, 2), (2, 0, true, 2)],
+        &[(2, 0, Need::Range(2)), (2, 0, Need::Range(2))],
         Err(NeedFault::NotRising(Rev { main: 2, sub: 0 })),
     ),
     (
@@ -105,10 +109,10 @@ static PUTS: [Case; 5] = [
         5,
         &FOUR,
         &[
-            (2, 0, true, 2),
-            (3, 0, true, 3),
-            (4, 0, true, 5),
-            (5, 0, true, 5),
+            (2, 0, Need::Range(2)),
+            (3, 0, Need::Range(3)),
+            (4, 0, Need::Range(5)),
+            (5, 0, Need::Range(5)),
         ],
         Err(NeedFault::NeedUnmet(Rev { main: 4, sub: 0 })),
     ),
@@ -117,10 +121,10 @@ static PUTS: [Case; 5] = [
         5,
         &FOUR,
         &[
-            (2, 0, true, 2),
-            (3, 0, true, 3),
-            (4, 0, true, 4),
-            (5, 0, true, 5),
+            (2, 0, Need::Range(2)),
+            (3, 0, Need::Range(3)),
+            (4, 0, Need::Range(4)),
+            (5, 0, Need::Range(5)),
         ],
         Ok(Least { count: 4 }),
     ),
@@ -128,7 +132,11 @@ static PUTS: [Case; 5] = [
         0,
         5,
         &FOUR,
-        &[(2, 0, true, 2), (3, 0, true, 3), (5, 0, true, 5)],
+        &[
+            (2, 0, Need::Range(2)),
+            (3, 0, Need::Range(3)),
+            (5, 0, Need::Range(5)),
+        ],
         Err(NeedFault::NoNeed(Rev { main: 4, sub: 0 })),
     ),
     (
@@ -136,10 +144,10 @@ static PUTS: [Case; 5] = [
         5,
         &FOUR,
         &[
-            (2, 0, true, 3),
-            (3, 0, true, 4),
-            (4, 0, true, 4),
-            (5, 0, true, 5),
+            (2, 0, Need::Range(3)),
+            (3, 0, Need::Range(4)),
+            (4, 0, Need::Range(4)),
+            (5, 0, Need::Range(5)),
         ],
         Err(NeedFault::NeedUnmet(Rev { main: 2, sub: 0 })),
     ),
@@ -148,10 +156,10 @@ static PUTS: [Case; 5] = [
         4,
         &FOUR,
         &[
-            (2, 0, true, 2),
-            (3, 0, true, 3),
-            (4, 0, true, 4),
-            (5, 0, true, 5),
+            (2, 0, Need::Range(2)),
+            (3, 0, Need::Range(3)),
+            (4, 0, Need::Range(4)),
+            (5, 0, Need::Range(5)),
         ],
         Err(NeedFault::NeedUnmet(Rev { main: 5, sub: 0 })),
     ),
@@ -163,29 +171,98 @@ static TOMBSTONES: [Case; 4] = [
         0,
         3,
         &PUT_AND_GONE,
-        &[(2, 0, true, 2), (3, 0, false, 3)],
+        &[(2, 0, Need::Range(2)), (3, 0, Need::Watch(3))],
         Ok(Least { count: 2 }),
     ),
     (
         0,
         3,
         &PUT_AND_GONE,
-        &[(2, 0, false, 3), (3, 0, false, 3)],
+        &[(2, 0, Need::Watch(3)), (3, 0, Need::Watch(3))],
         Err(NeedFault::NeedUnmet(Rev { main: 2, sub: 0 })),
     ),
     (
         3,
         3,
         &PUT_AND_GONE,
-        &[(2, 0, true, 3), (3, 0, false, 3)],
+        &[(2, 0, Need::Range(3)), (3, 0, Need::Watch(3))],
         Err(NeedFault::NeedUnmet(Rev { main: 2, sub: 0 })),
     ),
     (
         0,
         3,
         &PUT_AND_GONE,
-        &[(2, 0, true, 2), (3, 0, true, 3)],
+        &[(2, 0, Need::Range(2)), (3, 0, Need::Range(3))],
         Err(NeedFault::NeedUnmet(Rev { main: 3, sub: 0 })),
+    ),
+];
+
+/// A put answers a watch with previous values where the next version of its key is of the revision
+/// asked for, which is not below the floor.
+static PREVIOUS: [Case; 7] = [
+    (
+        3,
+        3,
+        &PUT_AND_GONE,
+        &[(2, 0, Need::Prev(3)), (3, 0, Need::Watch(3))],
+        Ok(Least { count: 2 }),
+    ),
+    (
+        3,
+        3,
+        &PUT_AND_GONE,
+        &[(2, 0, Need::Prev(2)), (3, 0, Need::Watch(3))],
+        Err(NeedFault::NeedUnmet(Rev { main: 2, sub: 0 })),
+    ),
+    (
+        4,
+        4,
+        &PUT_AND_GONE,
+        &[(2, 0, Need::Prev(3)), (3, 0, Need::Watch(3))],
+        Err(NeedFault::NeedUnmet(Rev { main: 2, sub: 0 })),
+    ),
+    (
+        0,
+        3,
+        &PUT_AND_GONE,
+        &[(2, 0, Need::Range(2)), (3, 0, Need::Prev(3))],
+        Err(NeedFault::NeedUnmet(Rev { main: 3, sub: 0 })),
+    ),
+    (
+        4,
+        5,
+        &FOUR,
+        &[
+            (2, 0, Need::Prev(4)),
+            (3, 0, Need::Range(4)),
+            (4, 0, Need::Prev(5)),
+            (5, 0, Need::Range(5)),
+        ],
+        Ok(Least { count: 4 }),
+    ),
+    (
+        4,
+        5,
+        &FOUR,
+        &[
+            (2, 0, Need::Prev(5)),
+            (3, 0, Need::Range(4)),
+            (4, 0, Need::Range(4)),
+            (5, 0, Need::Range(5)),
+        ],
+        Err(NeedFault::NeedUnmet(Rev { main: 2, sub: 0 })),
+    ),
+    (
+        4,
+        5,
+        &FOUR,
+        &[
+            (2, 0, Need::Prev(4)),
+            (3, 0, Need::Range(4)),
+            (4, 0, Need::Range(4)),
+            (5, 0, Need::Prev(5)),
+        ],
+        Err(NeedFault::NeedUnmet(Rev { main: 5, sub: 0 })),
     ),
 ];
 
@@ -215,6 +292,12 @@ fn judges_puts_of_one_key(rt: HostRuntime) {
 #[test]
 fn judges_tombstones(rt: HostRuntime) {
     let wrong = first_wrong(rt.alloc(), TOMBSTONES.as_slice());
+    assert_eq!(rt; wrong, None);
+}
+
+#[test]
+fn judges_previous_values(rt: HostRuntime) {
+    let wrong = first_wrong(rt.alloc(), PREVIOUS.as_slice());
     assert_eq!(rt; wrong, None);
 }
 

@@ -124,9 +124,12 @@ fn shows_a_fresh_store(rt: HostRuntime) {
     assert_eq!(rt; first_wrong_of_fresh(rt.alloc(), FRESH.as_slice()), None);
 }
 
-/// What is needed at 3 and at 4, where the store is compacted there.
+/// What is needed at 3, where the store is compacted there: a tombstone, and the put before it.
+const BEFORE: (Rev, Need) = (Rev { main: 2, sub: 0 }, Need::Prev(3));
+
 const GONE: (Rev, Need) = (Rev { main: 3, sub: 0 }, Need::Watch(3));
 
+/// What is needed at 4, where the store is compacted there.
 const LAST: (Rev, Need) = (Rev { main: 4, sub: 0 }, Need::Range(4));
 
 /// A put of a, its tombstone, and a put of b.
@@ -154,12 +157,12 @@ const COMPACTED_AT_TOMBSTONE: [Row; 7] = [
     Row::Append(4, b"b", true),
     Row::Compact(3),
     Row::Trim,
-    Row::Needs(([Some(GONE), Some(LAST)], 2)),
-    Row::Judged(Ok(Least { count: 2 })),
+    Row::Needs(([Some(BEFORE), Some(GONE)], 3)),
+    Row::Judged(Ok(Least { count: 3 })),
 ];
 
 #[test]
-fn needs_a_tombstone_at_the_compaction(rt: HostRuntime) {
+fn needs_a_tombstone_at_the_compaction_and_its_put(rt: HostRuntime) {
     assert_eq!(rt;
         first_wrong_of_fresh(rt.alloc(), COMPACTED_AT_TOMBSTONE.as_slice()),
         None

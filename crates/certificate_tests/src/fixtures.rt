@@ -9,8 +9,8 @@ use witness_core::{Certificate, Claim, Dump, Least, Need, NeedFault, check, make
 /// A version: its revision, its key, and whether it is a put.
 pub(crate) type Row = (u64, u64, &'static [u8], bool);
 
-/// A claim: the version's revision, whether it is a Range, and the revision asked for.
-pub(crate) type Line = (u64, u64, bool, u64);
+/// A claim: the version's revision, and its need.
+pub(crate) type Line = (u64, u64, Need);
 
 /// What a check says, and nothing where a dump or a certificate could not be made.
 pub(crate) type Verdict = Option<Result<Least, NeedFault>>;
@@ -47,12 +47,7 @@ fn dump_of(alloc: Global, floor: u64, revision: u64, rows: &[Row]) -> Dump {
 }
 
 fn claim(line: Line) -> Claim {
-    let (main, sub, is_range, revision) = line;
-    let need = if is_range {
-        Need::Range(revision)
-    } else {
-        Need::Watch(revision)
-    };
+    let (main, sub, need) = line;
     Claim {
         rev: Rev { main, sub },
         need,

@@ -3,13 +3,13 @@ use certificate_text::{Unreadable, read, write};
 use std::alloc::{AllocError, Global};
 
 /// One revision put two keys.
-pub(crate) const TWO_KEYS: &str = "dump 1\nfloor 0\nrevision 2\nput 2 0 :eA== 2 1 0 :MQ==\n\
-put 2 1 :eQ== 2 1 0 :Mg==\nend\nneeds 1\nrange 2 0 2\nrange 2 1 2\nend\n";
+pub(crate) const TWO_KEYS: &str = "dump 2\nfloor 0\nrevision 2\nput 2 0 :eA== 2 1 0 :MQ==\n\
+put 2 1 :eQ== 2 1 0 :Mg==\nend\nneeds 2\nrange 2 0 2\nrange 2 1 2\nend\n";
 
 /// A key was put four times, and another once; one of the needs is unmet.
-pub(crate) const UNMET: &str = "dump 1\nfloor 0\nrevision 5\nput 2 0 :YQ== 2 1 0 :MQ==\n\
+pub(crate) const UNMET: &str = "dump 2\nfloor 0\nrevision 5\nput 2 0 :YQ== 2 1 0 :MQ==\n\
 put 3 0 :Yg== 3 1 0 :MQ==\nput 4 0 :YQ== 2 2 0 :MQ==\nput 5 0 :YQ== 2 3 0 :MQ==\nend\n\
-needs 1\nrange 2 0 2\nrange 3 0 3\nrange 4 0 5\nrange 5 0 5\nend\n";
+needs 2\nrange 2 0 2\nrange 3 0 3\nrange 4 0 5\nrange 5 0 5\nend\n";
 
 /// The line at which a text is unreadable; 0 for one that is read.
 pub(crate) fn stops_at(alloc: Global, text: &[u8]) -> Option<u64> {

@@ -7,15 +7,16 @@ const TEXTS: [&str; 6] = [
     TWO_KEYS,
     UNMET,
     // a fresh store
-    "dump 1\nfloor 0\nrevision 1\nend\nneeds 1\nend\n",
+    "dump 2\nfloor 0\nrevision 1\nend\nneeds 2\nend\n",
     // one key, after trimming
-    "dump 1\nfloor 4\nrevision 4\nput 4 0 :Yg== 4 1 0 :MQ==\nend\nneeds 1\nrange 4 0 4\nend\n",
-    // a tombstone at the floor
-    "dump 1\nfloor 3\nrevision 3\ngone 3 0 :YQ==\nend\nneeds 1\nwatch 3 0 3\nend\n",
+    "dump 2\nfloor 4\nrevision 4\nput 4 0 :Yg== 4 1 0 :MQ==\nend\nneeds 2\nrange 4 0 4\nend\n",
+    // a tombstone at the floor, and the put before it
+    "dump 2\nfloor 3\nrevision 3\nput 2 0 :YQ== 2 1 0 :MQ==\ngone 3 0 :YQ==\nend\n\
+needs 2\nprev 2 0 3\nwatch 3 0 3\nend\n",
     // the limits of each number, an empty key and an empty value, a floor above the revision
-    "dump 1\nfloor 9223372036854775807\nrevision 0\nput 9223372036854775807 18446744073709551615 : \
+    "dump 2\nfloor 9223372036854775807\nrevision 0\nput 9223372036854775807 18446744073709551615 : \
 9223372036854775807 9223372036854775807 -9223372036854775808 :\n\
-put 0 0 : 0 0 9223372036854775807 :AA==\nend\nneeds 1\n\
+put 0 0 : 0 0 9223372036854775807 :AA==\nend\nneeds 2\n\
 watch 9223372036854775807 18446744073709551615 9223372036854775807\nrange 0 0 0\nend\n",
 ];
 
@@ -42,14 +43,15 @@ fn come_back(rt: HostRuntime) {
 /// Each field goes to its place.
 #[test]
 fn fields(rt: HostRuntime) {
-    let text = b"dump 1\nfloor 2\nrevision 9\nput 3 4 :a2V5 5 6 -7 :dmFs\ngone 8 1 :Zm9v\nend\n\
-needs 1\nrange 3 4 5\nwatch 8 1 6\nend\n";
+    let text = b"dump 2\nfloor 2\nrevision 9\nput 3 4 :a2V5 5 6 -7 :dmFs\ngone 8 1 :Zm9v\nend\n\
+needs 2\nrange 3 4 5\nwatch 8 1 6\nprev 9 2 7\nend\n";
     let expected = "Dump { floor: 2, revision: 9, versions: [\
 Version { rev: Rev { main: 3, sub: 4 }, key: b\"key\", \
 body: Put { create: 5, version: 6, lease: -7, value: b\"val\" } }, \
 Version { rev: Rev { main: 8, sub: 1 }, key: b\"foo\", body: Gone }] } \
 Certificate { claims: [Claim { rev: Rev { main: 3, sub: 4 }, need: Range(5) }, \
-Claim { rev: Rev { main: 8, sub: 1 }, need: Watch(6) }] }";
+Claim { rev: Rev { main: 8, sub: 1 }, need: Watch(6) }, \
+Claim { rev: Rev { main: 9, sub: 2 }, need: Prev(7) }] }";
     assert!(&rt; prints(rt.alloc(), text, expected));
     assert_eq!(&rt; stops_at(rt.alloc(), text), Some(0));
 }

@@ -6,12 +6,12 @@ use std::alloc::{AllocError, Global};
 type Case = (usize, &'static str, u64);
 
 const HEADS: [Case; 18] = [
-    (1, "dump 2", 1),
-    (1, "dump 1 ", 1),
-    (1, " dump 1", 1),
-    (1, "dump  1", 1),
-    (1, "dump 1\r", 1),
-    (1, "DUMP 1", 1),
+    (1, "dump 1", 1),
+    (1, "dump 2 ", 1),
+    (1, " dump 2", 1),
+    (1, "dump  2", 1),
+    (1, "dump 2\r", 1),
+    (1, "DUMP 2", 1),
     (1, "", 1),
     (2, "floor -1", 2),
     (2, "floor +1", 2),
@@ -51,17 +51,18 @@ const VERSIONS: [Case; 25] = [
     (4, "gone 2 0", 4),
     (5, "Put 2 1 :eQ== 2 1 0 :Mg==", 5),
     (5, "range 2 0 2", 5),
-    (6, "needs 1", 6),
+    (6, "needs 2", 6),
 ];
 
-const NEEDS: [Case; 14] = [
+const NEEDS: [Case; 15] = [
     (6, "End", 6),
-    (7, "needs 2", 7),
+    (7, "needs 1", 7),
     (7, "end", 7),
     (8, "range 2 0 9223372036854775808", 8),
     (8, "range 2 0", 8),
     (8, "range 2 0 2 2", 8),
-    (8, "prev 2 0 2", 8),
+    (8, "prev 2 0", 8),
+    (8, "Prev 2 0 2", 8),
     (8, "gone 2 0 :eA==", 8),
     (9, "watch 2 01 2", 9),
     (9, "watch 2 1 2 ", 9),
@@ -120,9 +121,9 @@ fn needs(rt: HostRuntime) {
 fn missing(rt: HostRuntime) {
     assert_eq!(&rt; stops_at(rt.alloc(), b""), Some(1));
     assert_eq!(&rt; stops_at(rt.alloc(), b"\n"), Some(1));
-    assert_eq!(&rt; stops_at(rt.alloc(), b"dump 1"), Some(2));
+    assert_eq!(&rt; stops_at(rt.alloc(), b"dump 2"), Some(2));
     assert_eq!(&rt;
-        stops_at(rt.alloc(), b"dump 1\nfloor 0\nrevision 1\nend\nneeds 1"),
+        stops_at(rt.alloc(), b"dump 2\nfloor 0\nrevision 1\nend\nneeds 2"),
         Some(6)
     );
 }

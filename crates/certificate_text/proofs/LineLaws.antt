@@ -72,6 +72,8 @@ need_above p (Need.range r) is_rev is_need =
     ((omega arith, (omega arith, (omega arith, (omega arith, (omega arith, tt))))), (revision_above p.main is_rev.0, (decimal_above p.sub is_rev.1, (revision_above r is_need, tt))))
 need_above p (Need.watch r) is_rev is_need =
     ((omega arith, (omega arith, (omega arith, (omega arith, (omega arith, tt))))), (revision_above p.main is_rev.0, (decimal_above p.sub is_rev.1, (revision_above r is_need, tt))))
+need_above p (Need.prev r) is_rev is_need =
+    ((omega arith, (omega arith, (omega arith, (omega arith, tt)))), (revision_above p.main is_rev.0, (decimal_above p.sub is_rev.1, (revision_above r is_need, tt))))
 
 -- ---- a line and its fields
 
@@ -101,18 +103,18 @@ word_is word known e = told_same word known (sym e)
 line_read : (line : List ℕ) (fields : List (List ℕ)) (A : Type 0) → (fields_of line ≡ fields) × A → (line ≡ line_of fields) × A
 line_read line fields A found = (line_again line ∙ ap line_of found.0, found.1)
 
--- a line whose word is one of two is read as the one or the other reads what follows
-one_word : {X : Type 0} (Is : List (List ℕ) → X → Type 0) (a b word : List ℕ) (xs : List (List ℕ)) (x : X) (f g : Option X)
-    → (f ≡ Some x → Is (a ∷ xs) x) → (g ≡ Some x → Is (b ∷ xs) x) → (is other : Bool) → same_text word a ≡ is
-    → same_text word b ≡ other → cond is f (cond other g None) ≡ Some x → Is (word ∷ xs) x
-one_word Is a b word xs x f g k l true other e h found = subst (λ w. Is (w ∷ xs) x) (sym (word_is word a e)) (k found)
-one_word Is a b word xs x f g k l false true e h found = subst (λ w. Is (w ∷ xs) x) (sym (word_is word b h)) (l found)
-one_word Is a b word xs x f g k l false false e h found = cc found
+-- a line is read as its word has what follows read, where it is this word, and else as another may be
+one_word : {X : Type 0} (Is : List (List ℕ) → X → Type 0) (a word : List ℕ) (xs : List (List ℕ)) (x : X) (f g : Option X)
+    → (f ≡ Some x → Is (a ∷ xs) x) → (g ≡ Some x → Is (word ∷ xs) x) → (is : Bool) → same_text word a ≡ is
+    → cond is f g ≡ Some x → Is (word ∷ xs) x
+one_word Is a word xs x f g k other true e found = subst (λ w. Is (w ∷ xs) x) (sym (word_is word a e)) (k found)
+one_word Is a word xs x f g k other false e found = other found
 
 version_fields : (fields : List (List ℕ)) (v : Version) → version_by fields ≡ Some v → IsFieldsOf fields v
 version_fields [] v e = cc e
 version_fields (word ∷ xs) v e =
-    one_word IsFieldsOf (codes "put") (codes "gone") word xs v _ _ (put_read xs v) (gone_read xs v) _ _ refl refl e
+    one_word IsFieldsOf (codes "put") word xs v _ _ (put_read xs v)
+    (λ f. one_word IsFieldsOf (codes "gone") word xs v _ None (gone_read xs v) (λ g. cc g) _ refl f) _ refl e
 
 -- the version of a line is written so
 pub version_read : (line : List ℕ) (v : Version) → version_of line ≡ Some v → (line ≡ version_line v) × IsVersion v
@@ -150,10 +152,17 @@ watch_read xs claim e =
     let found = claim_read Need.watch xs claim e in
     subst (IsNeedOf (codes "watch" ∷ xs)) (sym found.1) (ap (λ rest. codes "watch" ∷ rest) found.2, (found.3, found.4))
 
+prev_read : (xs : List (List ℕ)) (claim : Claim) → claim_by Need.prev xs ≡ Some claim → IsNeedOf (codes "prev" ∷ xs) claim
+prev_read xs claim e =
+    let found = claim_read Need.prev xs claim e in
+    subst (IsNeedOf (codes "prev" ∷ xs)) (sym found.1) (ap (λ rest. codes "prev" ∷ rest) found.2, (found.3, found.4))
+
 claim_fields : (fields : List (List ℕ)) (claim : Claim) → claim_at fields ≡ Some claim → IsNeedOf fields claim
 claim_fields [] claim e = cc e
 claim_fields (word ∷ xs) claim e =
-    one_word IsNeedOf (codes "range") (codes "watch") word xs claim _ _ (range_read xs claim) (watch_read xs claim) _ _ refl refl e
+    one_word IsNeedOf (codes "range") word xs claim _ _ (range_read xs claim)
+    (λ f. one_word IsNeedOf (codes "watch") word xs claim _ _ (watch_read xs claim)
+    (λ g. one_word IsNeedOf (codes "prev") word xs claim _ None (prev_read xs claim) (λ h. cc h) _ refl g) _ refl f) _ refl e
 
 -- the claim of a line is written so
 pub claim_line_read : (line : List ℕ) (claim : Claim) → claim_of line ≡ Some claim → (line ≡ claim_line claim) × IsClaim claim
@@ -163,10 +172,12 @@ claim_line_read line claim e = line_read line _ _ (claim_fields (fields_of line)
 need_again : (p : Rev) (need : Need) → IsRev p → IsNeed need → claim_at (need_fields p need) ≡ Some (record { rev = p; need = need })
 need_again p (Need.range r) is_rev is_need = claim_again Need.range p r is_rev is_need
 need_again p (Need.watch r) is_rev is_need = claim_again Need.watch p r is_rev is_need
+need_again p (Need.prev r) is_rev is_need = claim_again Need.prev p r is_rev is_need
 
 some_need : (p : Rev) (need : Need) → 0 < length (need_fields p need)
 some_need p (Need.range r) = omega arith
 some_need p (Need.watch r) = omega arith
+some_need p (Need.prev r) = omega arith
 
 pub claim_line_again : (claim : Claim) → IsClaim claim → claim_of (claim_line claim) ≡ Some claim
 unfolding claim_of

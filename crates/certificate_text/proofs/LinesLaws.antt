@@ -96,10 +96,10 @@ split_feed (b ∷ bs) =
     ∙ feed_by b (slice_split (is 10) bs) (is 10 b) (some_parts 10 bs)
 
 abbrev front_of : Dump → List Claim → List (List ℕ)
-front_of d claims = dump_lines d ++ codes "needs 1" ∷ map claim_line claims
+front_of d claims = dump_lines d ++ codes "needs 2" ∷ map claim_line claims
 
 last_is_end : (d : Dump) (claims : List Claim) → text_lines d claims ≡ front_of d claims ++ codes "end" ∷ []
-last_is_end d claims = sym (append_assoc (dump_lines d) (codes "needs 1" ∷ map claim_line claims) (codes "end" ∷ []))
+last_is_end d claims = sym (append_assoc (dump_lines d) (codes "needs 2" ∷ map claim_line claims) (codes "end" ∷ []))
 
 pub lines_of_text : (text : List ℕ) (d : Dump) (claims : List Claim) → AreInLimits d claims → IsTextOf text d claims → lines_of text ≡ text_lines d claims
 lines_of_text text d claims h (inl e) = ap lines_of e ∙ ap lines_of_parts (split_written (text_lines d claims) (text_clear d claims h)) ∙ lines_ended (text_lines d claims)

@@ -148,6 +148,7 @@ body_is_no_end p key Gone = refl
 need_is_no_end : (p : Rev) (need : Need) → same_text (line_of (need_fields p need)) (codes "end") ≡ false
 need_is_no_end p (Need.range r) = refl
 need_is_no_end p (Need.watch r) = refl
+need_is_no_end p (Need.prev r) = refl
 
 -- ---- steps that give the same in another shape
 
@@ -196,7 +197,7 @@ abbrev Head : Type 0
 Head = ((⊤ × ℕ) × ℕ) × List Version
 
 abbrev opening : Lines → Read Head
-opening = both (both (both (line_by (exactly (codes "dump 1"))) (line_by (numbered (codes "floor")))) (line_by (numbered (codes "revision")))) (up_to_end version_of)
+opening = both (both (both (line_by (exactly (codes "dump 2"))) (line_by (numbered (codes "floor")))) (line_by (numbered (codes "revision")))) (up_to_end version_of)
 
 abbrev dump_from : Head → Dump
 dump_from p = record { floor = p.0.0.1; revision = p.0.1; versions = p.1 }
@@ -238,17 +239,17 @@ head_behind (Err ls) f n vs = refl
 
 same_dump : (ls : Lines) → dump_of ls ≡ (opening ls >>= from_head)
 unfolding dump_of
-same_dump ls = head_behind (line_by (exactly (codes "dump 1")) ls) (line_by (numbered (codes "floor"))) (line_by (numbered (codes "revision"))) (up_to_end version_of)
+same_dump ls = head_behind (line_by (exactly (codes "dump 2")) ls) (line_by (numbered (codes "floor"))) (line_by (numbered (codes "revision"))) (up_to_end version_of)
 
 abbrev HeadLimits : Head → Type 0
 HeadLimits p = ((⊤ × IsRevision p.0.0.1) × IsRevision p.0.1) × AllByRecursion IsVersion p.1
 
 opening_reader : IsReader opening (λ p. dump_lines (dump_from p)) HeadLimits
 opening_reader =
-    both_reader (both (both (line_by (exactly (codes "dump 1"))) (line_by (numbered (codes "floor")))) (line_by (numbered (codes "revision")))) (up_to_end version_of) _ _ _ _
-    (both_reader (both (line_by (exactly (codes "dump 1"))) (line_by (numbered (codes "floor")))) (line_by (numbered (codes "revision"))) _ _ _ _
-    (both_reader (line_by (exactly (codes "dump 1"))) (line_by (numbered (codes "floor"))) _ _ _ _
-    (line_reader _ _ _ (exactly_is (codes "dump 1") refl)) (line_reader _ _ _ (numbered_is (codes "floor") floor_above refl)))
+    both_reader (both (both (line_by (exactly (codes "dump 2"))) (line_by (numbered (codes "floor")))) (line_by (numbered (codes "revision")))) (up_to_end version_of) _ _ _ _
+    (both_reader (both (line_by (exactly (codes "dump 2"))) (line_by (numbered (codes "floor")))) (line_by (numbered (codes "revision"))) _ _ _ _
+    (both_reader (line_by (exactly (codes "dump 2"))) (line_by (numbered (codes "floor"))) _ _ _ _
+    (line_reader _ _ _ (exactly_is (codes "dump 2") refl)) (line_reader _ _ _ (numbered_is (codes "floor") floor_above refl)))
     (line_reader _ _ _ (numbered_is (codes "revision") revision_above refl)))
     (all_reader version_of version_line IsVersion version_is (λ v. body_is_no_end v.rev v.key v.body))
 
@@ -258,7 +259,7 @@ dump_reader = moved opening dump_of (λ p. dump_lines (dump_from p)) HeadLimits 
 -- ---- its needs
 
 abbrev closing : Lines → Read (⊤ × List Claim)
-closing = both (line_by (exactly (codes "needs 1"))) (up_to_end claim_of)
+closing = both (line_by (exactly (codes "needs 2"))) (up_to_end claim_of)
 
 abbrev from_needs : (⊤ × List Claim) × Lines → Result (List Claim × Lines) Lines
 from_needs x = Ok (x.0.1, x.1)
@@ -273,14 +274,14 @@ needs_behind (Err ls) claims = refl
 
 same_needs : (ls : Lines) → needs_of ls ≡ (closing ls >>= from_needs)
 unfolding needs_of
-same_needs ls = needs_behind (line_by (exactly (codes "needs 1")) ls) (up_to_end claim_of)
+same_needs ls = needs_behind (line_by (exactly (codes "needs 2")) ls) (up_to_end claim_of)
 
 abbrev NeedsLimits : ⊤ × List Claim → Type 0
 NeedsLimits p = ⊤ × AllByRecursion IsClaim p.1
 
 closing_reader : IsReader closing (λ p. needs_lines p.1) NeedsLimits
 closing_reader =
-    both_reader (line_by (exactly (codes "needs 1"))) (up_to_end claim_of) _ _ _ _ (line_reader _ _ _ (exactly_is (codes "needs 1") refl))
+    both_reader (line_by (exactly (codes "needs 2"))) (up_to_end claim_of) _ _ _ _ (line_reader _ _ _ (exactly_is (codes "needs 2") refl))
     (all_reader claim_of claim_line IsClaim claim_is (λ claim. need_is_no_end claim.rev claim.need))
 
 needs_reader : IsReader needs_of needs_lines (λ claims. NeedsLimits (tt, claims))

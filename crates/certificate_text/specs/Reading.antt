@@ -131,7 +131,8 @@ version_by (word ∷ xs) = if same_text word (codes "put") then put_of xs
 abbrev pub claim_at : List (List ℕ) → Option Claim
 claim_at [] = None
 claim_at (word ∷ xs) = if same_text word (codes "range") then claim_by Need.range xs
-    else (if same_text word (codes "watch") then claim_by Need.watch xs else None)
+    else (if same_text word (codes "watch") then claim_by Need.watch xs
+    else (if same_text word (codes "prev") then claim_by Need.prev xs else None))
 
 unfoldable pub alone : List (List ℕ) → Option ℕ
 alone xs = do

@@ -1,4 +1,4 @@
--- The text of a dump and of what its versions are needed for: format 1.
+-- The text of a dump and of what its versions are needed for: format 2.
 use Rattle.std.specs.Prelude.{◌≡◌, ⊤, ℕ, ◌<◌, ◌^◌, List, [], ◌∷◌, ◌++◌, map, codes, decimal, FitsSigned}
 use Rattle.std.specs.Fmt.{signed_decimal}
 use Rattle.std.specs.Int.{w64}
@@ -31,6 +31,7 @@ body_fields p key Gone = codes "gone" ∷ decimal p.main ∷ decimal p.sub ∷ b
 abbrev pub need_fields : Rev → Need → List (List ℕ)
 need_fields p (Need.range r) = codes "range" ∷ decimal p.main ∷ decimal p.sub ∷ decimal r ∷ []
 need_fields p (Need.watch r) = codes "watch" ∷ decimal p.main ∷ decimal p.sub ∷ decimal r ∷ []
+need_fields p (Need.prev r) = codes "prev" ∷ decimal p.main ∷ decimal p.sub ∷ decimal r ∷ []
 
 -- a line is its fields, parted by one space
 abbrev pub line_of : List (List ℕ) → List ℕ
@@ -53,11 +54,11 @@ abbrev pub ended : List (List ℕ) → List (List ℕ)
 ended ls = ls ++ codes "end" ∷ []
 
 abbrev pub dump_lines : Dump → List (List ℕ)
-dump_lines d = codes "dump 1" ∷ number_line (codes "floor") d.floor ∷ number_line (codes "revision") d.revision
+dump_lines d = codes "dump 2" ∷ number_line (codes "floor") d.floor ∷ number_line (codes "revision") d.revision
     ∷ ended (map version_line d.versions)
 
 abbrev pub needs_lines : List Claim → List (List ℕ)
-needs_lines claims = codes "needs 1" ∷ ended (map claim_line claims)
+needs_lines claims = codes "needs 2" ∷ ended (map claim_line claims)
 
 abbrev pub text_lines : Dump → List Claim → List (List ℕ)
 text_lines d claims = dump_lines d ++ needs_lines claims
@@ -88,6 +89,7 @@ IsVersion v = IsRev v.rev × IsBytes v.key × IsBody v.body
 abbrev pub IsNeed : Need → Type 0
 IsNeed (Need.range r) = IsRevision r
 IsNeed (Need.watch r) = IsRevision r
+IsNeed (Need.prev r) = IsRevision r
 
 abbrev pub IsClaim : Claim → Type 0
 IsClaim claim = IsRev claim.rev × IsNeed claim.need

@@ -41,7 +41,7 @@ if_none_left a (line ∷ ls) = Err (line ∷ ls)
 
 unfoldable pub dump_of : List (List ℕ) → Read Dump
 dump_of ls = do
-  head ← line_by (exactly (codes "dump 1")) ls
+  head ← line_by (exactly (codes "dump 2")) ls
   floor ← line_by (numbered (codes "floor")) head.1
   revision ← line_by (numbered (codes "revision")) floor.1
   versions ← up_to_end version_of revision.1
@@ -49,7 +49,7 @@ dump_of ls = do
 
 unfoldable pub needs_of : List (List ℕ) → Read (List Claim)
 needs_of ls = do
-  head ← line_by (exactly (codes "needs 1")) ls
+  head ← line_by (exactly (codes "needs 2")) ls
   up_to_end claim_of head.1
 
 unfoldable pub text_read : List (List ℕ) → Result (Dump × List Claim) (List (List ℕ))

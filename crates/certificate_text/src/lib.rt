@@ -1,4 +1,4 @@
-//! The text of a dump and of what its versions are needed for, format 1: written and read.
+//! The text of a dump and of what its versions are needed for, format 2: written and read.
 //!
 //! The one contract: [`write`] gives the text of what it is handed, and [`read`] gives what a text
 //! is of, or the number of the first line at which no text goes on. `specs/Texts.antt` says what
@@ -6,15 +6,17 @@
 //! ended by a line feed:
 //!
 //! ```text
-//! dump 1
-//! floor 0
-//! revision 3
+//! dump 2
+//! floor 3
+//! revision 4
 //! put 2 0 :eA== 2 1 0 :MQ==
 //! gone 3 0 :eA==
+//! put 4 0 :eQ== 4 1 0 :MQ==
 //! end
-//! needs 1
-//! range 2 0 2
+//! needs 2
+//! prev 2 0 3
 //! watch 3 0 3
+//! range 4 0 4
 //! end
 //! ```
 //!

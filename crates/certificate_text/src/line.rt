@@ -56,7 +56,7 @@ fn gone_of(alloc: Global, fields: &mut Fields<'_>) -> Result<Version, Unfit>
     Ok(Version { rev, key, body })
 }
 
-/// The claim of a line `range MAIN SUB R` or `watch MAIN SUB R`.
+/// The claim of a line `range MAIN SUB R`, `watch MAIN SUB R` or `prev MAIN SUB R`.
 #[tactic(auto, unfolding(crate::specs::Reading::claim_of))]
 pub(crate) fn claim_of(line: &[u8]) -> Result<Claim, Unfit>
     ensures { Gives (λ c. c) result (reading.claim_of line.now) }
@@ -67,6 +67,8 @@ pub(crate) fn claim_of(line: &[u8]) -> Result<Claim, Unfit>
         range_of(&mut fields)
     } else if word == b"watch".as_slice() {
         watch_of(&mut fields)
+    } else if word == b"prev".as_slice() {
+        prev_of(&mut fields)
     } else {
         Err(Unfit::Form)
     }
@@ -91,6 +93,17 @@ fn watch_of(fields: &mut Fields<'_>) -> Result<Claim, Unfit>
     let revision = fields.revision()?;
     fields.end()?;
     let need = Need::Watch(revision);
+    Ok(Claim { rev, need })
+}
+
+#[tactic(auto, unfolding(crate::specs::Reading::claim_by))]
+fn prev_of(fields: &mut Fields<'_>) -> Result<Claim, Unfit>
+    ensures { Gives (λ c. c) result (reading.claim_by SeenNeed.prev fields.old) }
+{
+    let rev = fields.rev()?;
+    let revision = fields.revision()?;
+    fields.end()?;
+    let need = Need::Prev(revision);
     Ok(Claim { rev, need })
 }
 

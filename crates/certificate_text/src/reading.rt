@@ -87,7 +87,7 @@ fn text_read(alloc: Global, text: &[u8]) -> Result<(Dump, Certificate), Stop<'_>
 fn dump_of(alloc: Global, text: &[u8]) -> Result<(Dump, &[u8]), Stop<'_>>
     ensures { Reads (λ x. x) result (walking.dump_of (lines_of text.now)) }
 {
-    let ((), rest) = expect(b"dump 1", text)?;
+    let ((), rest) = expect(b"dump 2", text)?;
     let (floor, rest) = number_line(b"floor", rest)?;
     let (revision, rest) = number_line(b"revision", rest)?;
     let (versions, rest) = versions_up_to_end(alloc, rest)?;
@@ -103,7 +103,7 @@ fn dump_of(alloc: Global, text: &[u8]) -> Result<(Dump, &[u8]), Stop<'_>>
 fn needs_of(alloc: Global, text: &[u8]) -> Result<(Certificate, &[u8]), Stop<'_>>
     ensures { Reads (λ x. x) result (walking.needs_of (lines_of text.now)) }
 {
-    let ((), rest) = expect(b"needs 1", text)?;
+    let ((), rest) = expect(b"needs 2", text)?;
     let (claims, rest) = claims_up_to_end(alloc, rest)?;
     Ok((Certificate { claims }, rest))
 }

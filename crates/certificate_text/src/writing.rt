@@ -26,7 +26,7 @@ fn write_dump(out: &mut String, dump: &Dump) -> Result<(), AllocError>
     ensures { OnOk result (string_bytes out.new
         ≡ string_bytes out.old ++ written (texts.dump_lines dump.now)) }
 {
-    out.push_str("dump 1\n")?;
+    out.push_str("dump 2\n")?;
     write_number(out, "floor", dump.floor)?;
     write_number(out, "revision", dump.revision)?;
     write_list(out, &dump.versions)
@@ -55,7 +55,7 @@ fn write_needs(out: &mut String, certificate: &Certificate) -> Result<(), AllocE
     ensures { OnOk result (string_bytes out.new
         ≡ string_bytes out.old ++ written (texts.needs_lines certificate.now)) }
 {
-    out.push_str("needs 1\n")?;
+    out.push_str("needs 2\n")?;
     write_claims(out, &certificate.claims)?;
     out.push_str("end\n")
 }
@@ -188,6 +188,10 @@ fn write_claim(out: &mut String, claim: &Claim) -> Result<(), AllocError>
         }
         Need::Watch(revision) => {
             push_rev(out, "watch", claim.rev)?;
+            push_number(out, revision)?;
+        }
+        Need::Prev(revision) => {
+            push_rev(out, "prev", claim.rev)?;
             push_number(out, revision)?;
         }
     }

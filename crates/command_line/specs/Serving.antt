@@ -1,6 +1,6 @@
 -- A server: how it answers, and what it writes when it has ended.
 use Rattle.std.specs.Prelude.{◌≡◌, ⊤, ℕ, ◌-◌, ◌^◌, List, [], ◌∷◌, ◌++◌, Bool, true, false, ◌==◌, if◌then◌else◌, codes, decimal}
-use Rattle.engine_lock.specs.Locked.{IsStanding}
+use Rattle.engine_lock.specs.Fits.{IsStanding}
 use Rattle.http_front.specs.Ends.{IsOfServer}
 use Rattle.commands.specs.declared.fault.Fault.{Fault}
 use Rattle.commands.specs.declared.fault.Fault.TheVariants as fault

@@ -7,14 +7,14 @@ ghost use Rattle.commands.specs.Faults.{is_write};
 ghost use Rattle.command_line.specs.Serving.{IsOfCore, IsOfRun, asks_to_serve, closing_line};
 ghost use Rattle.command_line.specs.Serving.{connections_of};
 ghost use Rattle.commands.specs.Writes.{AppendsFront, Writes};
-ghost use Rattle.engine_lock.specs.Locked.{IsStanding};
+ghost use Rattle.engine_lock.specs.Fits.{IsStanding};
 
 use crate::words::{Args, Serve};
 use commands::{Fault, Front, write_number};
-use engine_lock::{Engine, EngineName, NoFeed, Opening};
+use engine_lock::{Engine, EngineName, Opening};
 use http_front::{Clock, MOST_CONNECTIONS, OpenGate, pool};
 use json_gateway::{Core, Ids};
-use std::alloc::{AllocError, Global};
+use std::alloc::Global;
 use std::io::Write;
 use std::marker::Brand;
 use std::net::TcpListener;
@@ -125,38 +125,37 @@ fn run_server<R: Wait + Threads + time::Clock + Sync>(
     ensures fault { IfErr result (λ fault. is_write fault ≡ false) }
     ensures kind { IfErr result IsOfRun }
 {
-    closed_revision::<Brand, R>(rt, alloc, Opening::new(NoFeed), listener, serve)
+    match Opening::new(alloc, rt) {
+        Ok(opening) => closed_revision::<Brand, R>(rt, alloc, opening, listener, serve),
+        Err(_) => Err(Fault::Memory),
+    }
 }
 
 fn closed_revision<L: EngineName + Send + Sync, R: Wait + Threads + time::Clock + Sync>(
     rt: &R,
     alloc: Global,
-    opening: Opening<NoFeed>,
+    opening: Opening,
     listener: &TcpListener,
     serve: &Serve<'_>,
 ) -> Result<u64, Fault>
     requires name { opening.name ≡ L.Ledger.name }
     requires parts { opening.parts ≡ L.Ledger.parts }
+    requires book { opening.book ≡ L.book }
     ensures revision { IfOk result IsOfCore }
     ensures fault { IfErr result (λ fault. is_write fault ≡ false) }
     ensures kind { IfErr result IsOfRun }
 {
-    let Ok(engine) = engine_of::<L>(alloc, opening, serve) else {
-        return Err(Fault::Memory);
-    };
+    let engine = engine_of::<L>(alloc, opening, serve);
     run_pool(rt, alloc, engine, listener, serve)
 }
 
 /// An engine that answers by the ids of a server.
-fn engine_of<L: EngineName>(
-    alloc: Global,
-    opening: Opening<NoFeed>,
-    serve: &Serve<'_>,
-) -> Result<Engine<L, NoFeed>, AllocError>
+fn engine_of<L: EngineName>(alloc: Global, opening: Opening, serve: &Serve<'_>) -> Engine<L>
     requires name { opening.name ≡ L.Ledger.name }
     requires parts { opening.parts ≡ L.Ledger.parts }
-    ensures cluster { IfOk result (λ engine. engine.cluster ≡ serve.now.cluster) }
-    ensures member { IfOk result (λ engine. engine.member ≡ serve.now.member) }
+    requires book { opening.book ≡ L.book }
+    ensures cluster { result.cluster ≡ serve.now.cluster }
+    ensures member { result.member ≡ serve.now.member }
 {
     Engine::new(alloc, opening, ids_of(serve))
 }
@@ -186,7 +185,7 @@ fn connections_of(serve: &Serve<'_>) -> u64
 fn run_pool<L: EngineName + Send + Sync, R: Wait + Threads + time::Clock + Sync>(
     rt: &R,
     alloc: Global,
-    engine: Engine<L, NoFeed>,
+    engine: Engine<L>,
     listener: &TcpListener,
     serve: &Serve<'_>,
 ) -> Result<u64, Fault>

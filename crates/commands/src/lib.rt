@@ -18,7 +18,7 @@
 //! AT 2000                                               at 2000
 //! EXPIRE                                                expired 7 revision 2
 //! TRIM                                                  done 1
-//! CERTIFY                                               dump 1
+//! CERTIFY                                               dump 2
 //!                                                       ..
 //! ```
 //!

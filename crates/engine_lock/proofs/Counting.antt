@@ -1,6 +1,8 @@
 -- What a command and a step of expiry do to the revision, and that the core goes on standing for a world.
 use Rattle.std.proofs.Common.{◌≡◌, ◌≤◌, inl, inr, ℕ, ◌+◌, Bool, false, cond, Option, None, Some, Result, Ok, Err, refl, sym, ◌∙◌, ap, subst, arith}
+use Rattle.std.proofs.Common.{List, ◌++◌}
 use Rattle.std.specs.Prelude.{is_some, IfOk, IfErr}
+use Rattle.kv_model.specs.Feed.{Published}
 use Rattle.kv_model.specs.declared.refusal.Refusal.{Refusal}
 use Rattle.kv_model.specs.declared.ids.Ids.{Ids}
 use Rattle.kv_model.specs.Calls.{Call}
@@ -21,12 +23,14 @@ use Rattle.json_gateway.specs.declared.outcome.Settled.TheVariants as settled
 use Rattle.json_gateway.specs.declared.outcome.Outcome.{Outcome}
 use Rattle.json_gateway.specs.Endings.{EndsAs}
 use Rattle.json_gateway.specs.Outcomes.{is_accepted}
-use Rattle.engine_lock.specs.Locked.{Enters, IsStanding, IsLocked, MakesExpiry, Performs, Submits, SubmitsExpiry}
+use Rattle.engine_lock.specs.declared.past.Given.{Given}
+use Rattle.engine_lock.specs.Fits.{IsLocked, change_by, change_by_expiry}
+use Rattle.engine_lock.specs.Locked.{Caller, Enters, IsTold, MakesExpiry, Performs, Submits, SubmitsExpiry, with_done}
 use Rattle.engine_lock.specs.Locked.{rise, rise_of_step, rise_of_expiry}
 
-pub record Counted (old new : CoreState) (up : ℕ) : Type 0 where
-  pub stands : IsStanding new
-  pub rose : new.store.revision ≡ old.store.revision + up
+-- the revision rose by so much
+abbrev pub Counted : CoreState → CoreState → ℕ → Type 0
+Counted old new up = new.store.revision ≡ old.store.revision + up
 
 -- what is told of the revision is what it rose by
 rise_is : (w u : World) (up : Option ℕ) → RaisesByOne w u → up ≡ raised w u → revision u ≡ revision w + rise up
@@ -35,16 +39,10 @@ rise_is w u up (inr h) e = rw (e ∙ h.1) h.0
 
 stepped : (old new : CoreState) (w u : World) (up : Option ℕ) → StandsFor old.store w → StandsFor new.store u → RaisesByOne w u
     → up ≡ raised w u → Counted old new (rise up)
-stepped old new w u up h k s e = record {
-  stands = (u, k);
-  rose = k.revision_is ∙ rise_is w u up s e ∙ ap (λ r. r + rise up) (sym h.revision_is);
-}
+stepped old new w u up h k s e = k.revision_is ∙ rise_is w u up s e ∙ ap (λ r. r + rise up) (sym h.revision_is)
 
 stayed : (old new : CoreState) (w : World) (up : Option ℕ) → StandsFor old.store w → new ≡ old → up ≡ None → Counted old new (rise up)
-stayed old new w up h same none = record {
-  stands = (w, subst (λ (s : CoreState). StandsFor s.store w) (sym same) h);
-  rose = ap (λ (s : CoreState). s.store.revision) same ∙ rw none (omega arith);
-}
+stayed old new w up h same none = ap (λ (s : CoreState). s.store.revision) same ∙ rw none (omega arith)
 
 lost_raised : (w : World) (call : Call) (l : Loss) (made : Made) → IsChange w call l made → l.raised ≡ raised w (world_of w made)
 lost_raised w call l (Ok made) h = ap (λ (x : Loss). x.raised) h.1
@@ -84,38 +82,66 @@ expired e old new w h x =
 pub made : (r : Result Expiry Refusal) (old new : CoreState) (w : World) → StandsFor old.store w → IfOk r (λ e. Expires old new e)
     → IfErr r (λ e. RefusesExpiry old new e) → Counted old new (rise_of_expiry r)
 made (Ok e) old new w h done refused = expired e old new w h done
-made (Err e) old new w h done refused = record {
-  stands = (w, subst (λ (s : CoreState). StandsFor s.store w) (sym refused.kept) h);
-  rose = ap (λ (s : CoreState). s.store.revision) refused.kept ∙ omega arith;
-}
+made (Err e) old new w h done refused = ap (λ (s : CoreState). s.store.revision) refused.kept ∙ omega arith
 
 -- ---- what a holding tells
 
-entered : (made now total : ℕ) (old mid : CoreState) → IsLocked old total → made ≤ total → mid ≡ after_moment old now
-    → ((w : World) → StandsFor old.store w → StandsFor mid.store (at_moment w now)) → Enters made now old
-entered made now total old mid locked most same stands = record {
-  world = locked.0.0;
-  stood = locked.0.1;
-  seen = omega (arith, most, locked.1);
-  moment = subst (λ (s : CoreState). StandsFor s.store (at_moment locked.0.0 now)) same (stands locked.0.0 locked.0.1);
+pub entered : (made now total : ℕ) (old mid : CoreState) (log : List Published) → IsLocked old log total → made ≤ total
+    → mid ≡ after_moment old now → ((w : World) → StandsFor old.store w → StandsFor mid.store (at_moment w now)) → Enters made now old
+entered made now total old mid log locked most same stands = record {
+  world = locked.fits.world;
+  stood = locked.fits.stands;
+  seen = omega (arith, most, locked.counted);
+  moment = subst (λ (s : CoreState). StandsFor s.store (at_moment locked.fits.world now)) same (stands locked.fits.world locked.fits.stands);
 }
 
-pub submitted : (ids : Ids) (made now total : ℕ) (call : Call) (old mid new : CoreState) (o : Outcome) → IsLocked old total → made ≤ total
-    → mid ≡ after_moment old now → ((w : World) → StandsFor old.store w → StandsFor mid.store (at_moment w now))
-    → Performs ids call mid new o → Submits ids made now call o
-submitted ids made now total call old mid new o locked most same stands performs = record {
+pub submitted : (ids : Ids) (c : Caller) (now total : ℕ) (call : Call) (old mid new : CoreState) (log more : List Published) (o : Outcome)
+    → IsLocked old log total → c.made ≤ total → mid ≡ after_moment old now
+    → ((w : World) → StandsFor old.store w → StandsFor mid.store (at_moment w now)) → Performs ids call mid new o
+    → ((w : World) → StandsFor mid.store w → more ≡ log ++ change_by o.settled w call)
+    → (b : Bool) (d : Caller) → IsTold b more c d
+    → Submits ids c now call (record { outcome = o; published = b; revision = new.store.revision }) d
+unfolding entered
+submitted ids c now total call old mid new log more o locked most same stands performs told b d known = record {
   old = old;
   new = new;
-  enters = entered made now total old mid locked most same stands;
+  enters = entered c.made now total old mid log locked most same stands;
   performs = subst (λ s. Performs ids call s new o) same performs;
+  revision = refl;
+  publishes = record {
+    log = log;
+    said = locked.fits.said;
+    told = subst (λ l. IsTold b l c d) (told (at_moment locked.fits.world now) (stands locked.fits.world locked.fits.stands)) known;
+  };
 }
 
-pub submitted_expiry : (made now total : ℕ) (old mid new : CoreState) (r : Result Expiry Refusal) → IsLocked old total → made ≤ total
-    → mid ≡ after_moment old now → ((w : World) → StandsFor old.store w → StandsFor mid.store (at_moment w now))
-    → MakesExpiry mid new r → SubmitsExpiry made now r
-submitted_expiry made now total old mid new r locked most same stands makes = record {
+pub submitted_expiry : (c : Caller) (now total : ℕ) (old mid new : CoreState) (log more : List Published) (r : Result Expiry Refusal)
+    → IsLocked old log total → c.made ≤ total → mid ≡ after_moment old now
+    → ((w : World) → StandsFor old.store w → StandsFor mid.store (at_moment w now)) → MakesExpiry mid new r
+    → ((w : World) → StandsFor mid.store w → more ≡ log ++ change_by_expiry r w)
+    → (b : Bool) (d : Caller) → IsTold b more c d → SubmitsExpiry c now r d
+unfolding entered
+submitted_expiry c now total old mid new log more r locked most same stands makes told b d known = record {
   old = old;
   new = new;
-  enters = entered made now total old mid locked most same stands;
+  enters = entered c.made now total old mid log locked most same stands;
   makes = subst (λ s. MakesExpiry s new r) same makes;
+  published = b;
+  publishes = record {
+    log = log;
+    said = locked.fits.said;
+    told = subst (λ l. IsTold b l c d) (told (at_moment locked.fits.world now) (stands locked.fits.world locked.fits.stands)) known;
+  };
 }
+
+-- ---- what a client is told of at the end of it
+
+pub told_same : (b : Bool) (log : List Published) (c mid later : Caller) (one : Given) (up : ℕ) → mid ≡ with_done c one up
+    → IsTold b log mid later → IsTold b log c later
+told_same b log c mid later one up e h = subst (λ x. IsTold b log x later) e h
+
+pub revised : (ids : Ids) (c : Caller) (now : ℕ) (call : Call) (o : Outcome) (b : Bool) (r s : ℕ) (later : Caller) → r ≡ s
+    → Submits ids c now call (record { outcome = o; published = b; revision = s }) later
+    → Submits ids c now call (record { outcome = o; published = b; revision = r }) later
+revised ids c now call o b r s later e h =
+    subst (λ (n : ℕ). Submits ids c now call (record { outcome = o; published = b; revision = n }) later) (sym e) h

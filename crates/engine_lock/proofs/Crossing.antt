@@ -1,4 +1,4 @@
--- What a client's list is kept in owns nothing, so a client goes from thread to thread, whatever names its engine.
+-- What a client's list is kept in owns nothing, so a client goes from thread to thread, whatever names its engine; its reader and the feed own plain memory alone.
 use mathlib.Core.List.{List, [], ◌∷◌}
 use Prim.Native.Nat.{ℕ}
 use mir.Syntax.{Sym, Ty}
@@ -11,7 +11,7 @@ use denote.Struct.Declared.{shape}
 use denote.Struct.Field.{row_field}
 use denote.Struct.Tuple.{TupleAt, parts, type_at}
 use Rattle.std.specs.contracts.snapshot.Snapshot as Snapshot
-use Rattle.std.specs.declared.sync.ledger.Ledger.{Ghosts}
+use Rattle.std.specs.declared.sync.ledger.Ledger as ledger
 use Rattle.std.proofs.Crossing.{crosses}
 use Rattle.std.proofs.alloc.Global.TheSendSync as heap
 use Rattle.std.proofs.sync.ledger.Book.TheSendSync as book
@@ -23,6 +23,9 @@ use Rattle.lease_book.specs.contracts.book.LeaseBook as LeaseBook
 use Rattle.request_core.below.lease_keys.proofs.index.LeaseKeys.TheSendSync as keys
 use Rattle.request_core.specs.contracts.store.Core as Core
 use Rattle.request_core.specs.contracts.store.Core.TheInside as inside
+use Rattle.snapshot_feed.proofs.feed.Feed.TheSendSync as feed
+use Rattle.snapshot_feed.proofs.reader.SnapReader.TheSendSync as reader
+use Rattle.engine_lock.specs.declared.opening.EngineName as names
 use Rattle.engine_lock.specs.contracts.client.Client as Client
 use Rattle.engine_lock.specs.contracts.engine.Engine as Engine
 use Rattle.engine_lock.specs.contracts.state.State as State
@@ -40,8 +43,8 @@ entry_send = search (sendable, crosses) depth 40
 past_send : IsSend Past.the_row
 past_send = past.send-Past (λ Y _. snapshot_send Y) entry_send
 
-pub client_send : (T T' : RattleType) (g : Ghosts T.Denot) → IsSend (Client.the_row T T' g)
-client_send T T' g = search (sendable, share.the_send, past_send) depth 40
+pub client_send : (T : RattleType) (n : names.Ghosts T.Denot) (g : ledger.Ghosts T.Denot) → IsSend (Client.the_row T n g)
+client_send T n g = search (sendable, share.the_send, past_send, reader.the_send) depth 40
 
 -- ---- an engine, whose core owns plain memory alone
 book_send : IsSend LeaseBook.the_row
@@ -51,12 +54,24 @@ core_send : IsSend Core.the_row
 core_send = view_send inside.the_row _ _ _ _ (recorded_send (inside.the_field).row _ _ (inside.the_type).to_one (struct_send (shape inside.the_type)
     (heap.the_field_send, (tables.the_send, (book_send, (keys.the_send, (hub.the_send, (plain_send _ _ _ _ _, tt))))))))
 
-module _ (T T' : RattleType) (g : Ghosts T.Denot) (s : IsSend T') where
-  state_send : IsSend (State.the_row T T' g)
-  state_send = view_send (under.the_row T T' g) _ _ _ _ (recorded_send (under.the_field T T' g).row _ _ (under.the_type T T' g).to_one
-      (struct_send (shape (under.the_type T T' g)) (core_send, (book.the_send T g, (share.the_send T g, (plain_send _ _ _ _ _, (s, tt)))))))
+module _ (T : RattleType) (n : names.Ghosts T.Denot) (g : ledger.Ghosts T.Denot) where
+  state_send : IsSend (State.the_row T n g)
+  state_send = view_send (under.the_row T n g) _ _ _ _ (recorded_send (under.the_field T n g).row _ _ (under.the_type T n g).to_one
+      (struct_send (shape (under.the_type T n g)) (
+        core_send,
+        (
+          book.the_send T g,
+          (
+            share.the_send T g,
+            (
+              plain_send _ _ _ _ _,
+              (plain_send _ _ _ _ _, (feed.the_send, tt)),
+            ),
+          ),
+        ),
+      )))
 
-  pub engine_sync : IsSync (Engine.the_row T T' g)
+  pub engine_sync : IsSync (Engine.the_row T n g)
   engine_sync = search (sendable, crosses, state_send) depth 60
 
 -- ---- what a thread is started with

@@ -1,3 +1,4 @@
+pub mod Fits
 pub mod Locked
 pub mod PastViews
 pub mod Pasts

@@ -1,15 +1,21 @@
 -- What the lock of an engine keeps, and what is done with its core in one holding.
 use Rattle.std.specs.Prelude.{◌≡◌, ◌≤◌, ℕ, ◌+◌, Bool, true, false, Option, None, Some, Result, Ok, Err}
-use Rattle.std.specs.Prelude.{List, [], ◌∷◌, ◌++◌, if◌then◌else◌, is_some}
+use Rattle.std.specs.Prelude.{List, [], ◌∷◌, ◌++◌, if◌then◌else◌, is_some, MatchBool}
+use mathlib.Core.List.{IsPrefix}
+use Rattle.logbook.specs.Pages.{Book}
 use Rattle.std.specs.declared.alloc.AllocError.{AllocError}
 use Rattle.kv_model.specs.declared.ids.Ids.{Ids}
 use Rattle.kv_model.specs.declared.refusal.Refusal.{Refusal}
 use Rattle.kv_model.specs.Answers.{response_to}
 use Rattle.kv_model.specs.Calls.{Call}
+use Rattle.kv_model.specs.Feed.{Published}
 use Rattle.kv_model.specs.Step.{made_in, perform}
 use Rattle.kv_model.specs.Wire.{IsChange, deliver, is_physical_call, wire_step}
 use Rattle.kv_model.specs.World.{World, at_moment, watch_at, without_watch}
+use Rattle.store_laws.specs.Changes.{untrimmed}
+use Rattle.store_laws.specs.Snapshots.{untrimmed_of}
 use Rattle.store_laws.specs.Stands.{StandsFor}
+use Rattle.snapshot_feed.specs.Seats.{Reads}
 use Rattle.trim_core.specs.declared.trimmer.Trim.{Trim}
 use Rattle.request_core.specs.declared.answer.Expiry.{Expiry}
 use Rattle.request_core.specs.declared.answer.Expiry.TheVariants as expiry
@@ -21,35 +27,36 @@ use Rattle.json_gateway.specs.declared.outcome.Outcome.{Outcome}
 use Rattle.json_gateway.specs.Endings.{Ends, IsCounted, KeepsAs, is_change}
 use Rattle.json_gateway.specs.Outcomes.{IsBare, is_accepted}
 use Rattle.json_gateway.specs.Runs.{message_view}
+use Rattle.engine_lock.specs.declared.engine.Submitted.{Submitted}
 use Rattle.engine_lock.specs.declared.past.Given.{Given}
 use Rattle.engine_lock.specs.declared.past.Given.TheVariants as given
-
--- ---- what the lock keeps
-
--- the core stands for some world
-abbrev pub IsStanding : CoreState → Type 0
-IsStanding core = (w : World) × StandsFor core.store w
-
--- whenever the lock is free: besides, the revision is 1 plus the changes that all clients made
-abbrev pub IsLocked : CoreState → ℕ → Type 0
-IsLocked core total = IsStanding core × (core.store.revision ≡ 1 + total)
+use Rattle.engine_lock.specs.Fits.{IsStanding, change_by, change_by_expiry}
 
 -- ---- what clauses see
 
--- of what an engine is opened with: which ledger it is, and into how many parts its shares are cut
+-- of what an engine is opened with: which ledger it is, into how many parts its shares are cut, and which list of
+-- publications readers are told of
 pub record Opened : Type 0 where
   pub name : ℕ
   pub parts : ℕ
+  pub book : Book
 
--- of a client: how many changes it made, and all that the engine gave it, in order
+-- of a client: how many changes it made, all that the engine gave it, in order, and its reader beside the writers
 pub record Caller : Type 0 where
   pub made : ℕ
   pub given : List Given
+  pub reader : Reads
 
--- of what stands under the lock: the core, and how many clients were made
+-- of what stands under the lock: the core, how many clients were made, and all that readers are told of, with what they
+-- see from the next publication on
 pub record LockState : Type 0 where
   pub core : CoreState
   pub clients : ℕ
+  pub log : List Published
+
+-- a client that has left its reading
+abbrev pub left : Caller → Caller
+left c = record c { reader = record c.reader { inside = false } }
 
 -- ---- what a share rises by
 
@@ -83,6 +90,24 @@ is_quiet (message.Text text) = false
 abbrev pub told_to : Caller → ℕ → Result Message AllocError → Caller
 told_to c number (Err e) = c
 told_to c number (Ok m) = if is_quiet m then c else plus c (given.Told number m)
+
+-- the outcome of a command, and its share of it
+abbrev pub with_done : Caller → Given → ℕ → Caller
+with_done c one up = record c { made = c.made + up; given = c.given ++ one ∷ [] }
+
+-- ---- what a client is told of for its reads
+
+-- where this says so, all of these operations, which begin with all that it knew of; else nothing
+abbrev pub IsTold : Bool → List Published → Caller → Caller → Type 0
+IsTold published log c later =
+    MatchBool published ((later.reader.known ≡ log) × IsPrefix c.reader.known log) (later.reader.known ≡ c.reader.known)
+
+-- what the operations before a holding say is this world, and where the holding published, the client was told of them
+-- and of this change
+pub record Publishes (w : World) (change : List Published) (published : Bool) (c later : Caller) : Type 0 where
+  pub log : List Published
+  pub said : untrimmed_of log ≡ untrimmed w
+  pub told : IsTold published (log ++ change) c later
 
 -- ---- one holding, by the core before it and the core after it
 
@@ -131,19 +156,24 @@ pub record Enters (made now : ℕ) (old : CoreState) : Type 0 where
   pub seen : 1 + made ≤ old.store.revision
   pub moment : StandsFor (after_moment old now).store (at_moment world now)
 
--- and then the command was done, in the same holding
-pub record Submits (ids : Ids) (made now : ℕ) (call : Call) (o : Outcome) : Type 0 where
+-- and then the command was done, in the same holding, which told the client what the model's change is in that world
+pub record Submits (ids : Ids) (c : Caller) (now : ℕ) (call : Call) (s : Submitted) (later : Caller) : Type 0 where
   pub old : CoreState
   pub new : CoreState
-  pub enters : Enters made now old
-  pub performs : Performs ids call (after_moment old now) new o
+  pub enters : Enters c.made now old
+  pub performs : Performs ids call (after_moment old now) new s.outcome
+  pub revision : s.revision ≡ new.store.revision
+  pub publishes : Publishes (at_moment enters.world now) (change_by s.outcome.settled (at_moment enters.world now) call)
+      s.published c later
 
 -- or the step of expiry was made
-pub record SubmitsExpiry (made now : ℕ) (r : Result Expiry Refusal) : Type 0 where
+pub record SubmitsExpiry (c : Caller) (now : ℕ) (r : Result Expiry Refusal) (later : Caller) : Type 0 where
   pub old : CoreState
   pub new : CoreState
-  pub enters : Enters made now old
+  pub enters : Enters c.made now old
   pub makes : MakesExpiry (after_moment old now) new r
+  pub published : Bool
+  pub publishes : Publishes (at_moment enters.world now) (change_by_expiry r (at_moment enters.world now)) published c later
 
 -- the watch of this number is told so in some world
 abbrev pub Tells : Ids → ℕ → Message → Type 0

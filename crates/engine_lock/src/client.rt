@@ -1,57 +1,76 @@
-//! A client of an engine, its share of the changes, and what it was given.
-ghost use Rattle.std.specs.Prelude.{◌≡◌, []};
-ghost use Rattle.engine_lock.specs.Locked.{is_quiet, plus, told_to};
+//! A client of an engine, its share of the changes, what it was given, and its reader.
+ghost use Rattle.std.specs.Prelude.{◌≡◌, ◌+◌, [], true, OnOk, OnErr, IfErr};
+ghost use mathlib.Core.List.{IsPrefix};
+ghost use Rattle.kv_model.specs.declared.refusal.Refusal.TheVariants.{NoPlace};
+ghost use Rattle.store_laws.specs.Snapshots.{untrimmed_of};
+ghost use Rattle.snapshot_feed.specs.Answers.{AnswersOf, ReadsOrNot};
+ghost use Rattle.snapshot_feed.specs.States.{appended};
+ghost use Rattle.engine_lock.specs.Fits.{Fits};
+ghost use Rattle.engine_lock.specs.Locked.{IsTold, is_quiet, left, plus, told_to, with_done};
+ghost use Rattle.engine_lock.specs.Locked.{rise};
 ghost use Rattle.engine_lock.specs.declared.past.Given.TheVariants as given;
 
-use crate::opening::{EngineName, Feed};
+use crate::opening::EngineName;
 use crate::past::{Entry, Past};
 use json_gateway::{Expiry, Message, Outcome, Refusal, Trim};
-use kv_model::call::Command;
-use std::alloc::AllocError;
-use std::marker::{Model, PhantomData};
+use kv_model::call::{Command, RangeQuery};
+use range_view::RangeReply;
+use request_core::store::Core;
+use snapshot_feed::{Feed, SnapReader};
+use std::alloc::{AllocError, Global};
+use std::marker::Model;
 use std::snapshot::Snapshot;
+use std::sync::Wait;
 use std::sync::ledger::Share;
 
-/// A client of the engine `L`: how many changes it made there, and all that the engine gave it,
-/// which takes no memory, since only clauses read it. It goes from thread to thread, and one thread
-/// at a time submits by it.
+/// A client of the engine `L`: how many changes it made there, its reader beside the writers, and
+/// all that the engine gave it, which takes no memory, since only clauses read it. It goes from
+/// thread to thread, and one thread at a time submits by it.
+///
+/// [`Client::enter`] begins a reading and [`Client::leave`] ends it; so does each call of the engine
+/// that is given the client, before it asks for the lock. While a reading lasts, the second
+/// publication after it began waits for it, under the lock: so leave it before anything else waits.
 #[derive(Drop)]
-pub struct Client<L: EngineName, F: Feed> {
+pub struct Client<L: EngineName> {
     pub(crate) share: Share<L>,
     pub(crate) made: u64,
     pub(crate) past: Past,
-    pub(crate) feed: PhantomData<F>,
+    pub(crate) reader: SnapReader,
 }
 
-impl<L: EngineName, F: Feed> Model for Client<L, F> {
+impl<L: EngineName> Model for Client<L> {
     ghost use Rattle.std.specs.Prelude.{◌≡◌, refl};
     ghost use Rattle.std.specs.Coded.{code_by, coded_list, coded×, coded_ℕ};
     ghost use Rattle.engine_lock.specs.contracts.past.Given as given;
+    ghost use Rattle.snapshot_feed.specs.contracts.reader.SnapReader as reads;
     ghost use Rattle.engine_lock.specs.Locked.{Caller};
 
     ghost Value = { Caller };
 
-    ghost coded = { code_by _ (coded× coded_ℕ (coded_list given.the_row.coded)) (λ c. (c.made, c.given))
-        (λ p. record { made = p.0; given = p.1 }) (λ _. refl) };
+    ghost coded = { code_by _
+        (coded× coded_ℕ (coded× (coded_list given.the_row.coded) reads.the_row.coded))
+        (λ c. (c.made, (c.given, c.reader)))
+        (λ p. record { made = p.0; given = p.1.0; reader = p.1.1 }) (λ _. refl) };
 
-    ghost view = { λ c. record { made = c.made; given = c.past } };
+    ghost view = { λ c. record { made = c.made; given = c.past; reader = c.reader } };
 
-    ghost invariant = { λ c. (c.share.parts ≡ 1) × (c.made ≡ c.share.amount) };
+    ghost invariant = { λ c. (c.share.parts ≡ 1) × (c.made ≡ c.share.amount)
+        × (c.reader.book ≡ L.book) };
 }
 
-impl<L: EngineName, F: Feed> Client<L, F> {
-    /// A client of this share of one part, that made no change yet.
-    pub(crate) fn of(share: Share<L>) -> Self
+impl<L: EngineName> Client<L> {
+    /// A client of this share of one part, that made no change yet, and reads by this reader.
+    pub(crate) fn of(share: Share<L>, reader: SnapReader) -> Self
         requires parts { share.parts ≡ 1 }
         requires amount { share.amount ≡ 0 }
-        ensures made { result.made ≡ 0 }
-        ensures given { result.given ≡ [] }
+        requires book { reader.book ≡ L.book }
+        ensures { result ≡ record { made = 0; given = []; reader = reader } }
     {
         Client {
             share,
             made: 0,
             past: Past::new(),
-            feed: PhantomData,
+            reader,
         }
     }
 
@@ -61,6 +80,87 @@ impl<L: EngineName, F: Feed> Client<L, F> {
         ensures { result ≡ self.now.made }
     {
         self.made
+    }
+
+    /// Begins a reading of what is published now, and ends the one before it. It shows all that
+    /// this client has read and was told of.
+    ///
+    /// The only refusal is `NoPlace`, where the engine is closed, or where what is published is
+    /// older than what the client knows of, which never comes; then no reading lasts. Takes no
+    /// memory, constant time, and waits for nobody.
+    pub fn enter(&mut self) -> Result<(), Refusal>
+        ensures ok { OnOk result (self.new.reader.inside ≡ true) }
+        ensures begins { IsPrefix self.old.reader.known self.new.reader.known }
+        ensures book { self.new.reader.book ≡ self.old.reader.book }
+        ensures others { self.new ≡ record self.old { reader = self.new.reader } }
+        ensures err { OnErr result (self.new ≡ left self.old) }
+        ensures refusal { IfErr result (λ e. e ≡ NoPlace) }
+    {
+        self.reader.enter()
+    }
+
+    /// Ends the reading, if there is one. Takes no memory, constant time, and waits for nobody.
+    pub fn leave(&mut self)
+        ensures { self.new ≡ left self.old }
+    {
+        self.reader.leave();
+    }
+
+    /// The answer to a Range, lent from what the reading shows: that of the whole history which
+    /// the operations say that the client knows of, of which nothing is trimmed, with its
+    /// compaction and its revision.
+    ///
+    /// The refusals are those of the model, and `Memory` where the list of what is found, or a
+    /// sort, found none. The cost is that of `range_view`'s `View::range`. Waits for nobody.
+    pub fn range(&self, alloc: Global, query: &RangeQuery) -> Result<RangeReply<'_>, Refusal>
+        requires { self.now.reader.inside ≡ true }
+        ensures { AnswersOf (untrimmed_of self.now.reader.known) query.now result }
+    {
+        self.reader.range(alloc, query)
+    }
+
+    /// [`Client::enter`] and [`Client::range`]: the answer of some published history that begins
+    /// with all that this client has read and was told of. The client is borrowed while the reply
+    /// lives, and the reading lasts until it is left; what the client knows of afterwards is known
+    /// only where the two are called apart. The refusals are those of the two.
+    pub fn range_serializable(
+        &mut self,
+        alloc: Global,
+        query: &RangeQuery,
+    ) -> Result<RangeReply<'_>, Refusal>
+        ensures { ReadsOrNot self.old.reader.known query.now result }
+    {
+        match self.enter() {
+            Ok(()) => self.range(alloc, query),
+            Err(refusal) => Err(refusal),
+        }
+    }
+
+    /// Makes all that was appended visible to readers, and takes note of it; says whether it did.
+    /// The client has to have left its reading, since the publication waits for readings.
+    pub(crate) fn publish<R: Wait>(&mut self, rt: &R, core: &Core, feed: &mut Feed) -> bool
+        requires fits { Fits core.now (appended feed.old) }
+        requires book { feed.old.book ≡ L.book }
+        ensures told { IsTold result (appended feed.old) self.old self.new }
+        ensures others { self.new ≡ record self.old { reader = self.new.reader } }
+        ensures feed { (appended feed.new ≡ appended feed.old) × (feed.new.book ≡ feed.old.book) }
+    {
+        if !published(rt, core, feed) {
+            return false;
+        }
+        self.learn(feed)
+    }
+
+    /// Takes note of all that was appended, where readers see all of it; says whether it did.
+    pub(crate) fn learn(&mut self, feed: &Feed) -> bool
+        requires { feed.now.book ≡ L.book }
+        ensures told { IsTold result (appended feed.now) self.old self.new }
+        ensures others { self.new ≡ record self.old { reader = self.new.reader } }
+    {
+        if !feed.is_settled() {
+            return false;
+        }
+        self.reader.learn(&feed.told())
     }
 
     /// It was given this outcome of a command. Does nothing.
@@ -107,6 +207,16 @@ impl<L: EngineName, F: Feed> Client<L, F> {
         self.past
             .add(Entry::Expired(Snapshot::of(&now), Snapshot::of(step)));
     }
+}
+
+/// Makes all that was appended visible to readers; says whether it did.
+pub(crate) fn published<R: Wait>(rt: &R, core: &Core, feed: &mut Feed) -> bool
+    requires { Fits core.now (appended feed.old) }
+    ensures same { (appended feed.new ≡ appended feed.old) × (feed.new.book ≡ feed.old.book) }
+{
+    let _ = core;
+    let done = feed.publish(rt);
+    done.is_ok()
 }
 
 /// Whether a message tells nothing.

@@ -1,16 +1,17 @@
 //! The engine: one event of the core for each holding of its lock.
-ghost use Rattle.std.specs.Prelude.{◌≡◌, ◌+◌, ◌<◌, true, is_ok, map, sum, length, IfOk, IfErr};
+ghost use Rattle.std.specs.Prelude.{◌≡◌, ◌+◌, ◌<◌, is_ok, map, sum, length, IfOk, IfErr, OnErr};
 ghost use Rattle.std.specs.Prelude.{[], ◌∷◌, ◌++◌};
 ghost use Rattle.kv_model.specs.Commands.{call_of};
-ghost use Rattle.kv_model.specs.declared.refusal.Refusal.TheVariants.{NoPlace, NoWatch};
-ghost use Rattle.engine_lock.specs.Locked.{Drops, IsStanding, Submits, SubmitsExpiry, Tells, Trims};
+ghost use Rattle.kv_model.specs.declared.refusal.Refusal.TheVariants.{Memory, NoPlace, NoWatch};
+ghost use Rattle.engine_lock.specs.Fits.{IsStanding};
+ghost use Rattle.engine_lock.specs.Locked.{Drops, Submits, SubmitsExpiry, Tells, Trims};
 ghost use Rattle.engine_lock.specs.Locked.{DropsFor, TellsTo, TrimsFor};
-ghost use Rattle.engine_lock.specs.Locked.{plus, rise, rise_of_expiry, told_to};
+ghost use Rattle.engine_lock.specs.Locked.{left, plus, rise, rise_of_expiry, told_to, with_done};
 ghost use Rattle.engine_lock.specs.declared.past.Given.TheVariants as given;
 
 use crate::client::Client;
 use crate::closing::CloseFault;
-use crate::opening::{EngineName, Feed, Opening};
+use crate::opening::{EngineName, Opening};
 use crate::state::State;
 use json_gateway::{Expiry, Ids, Message, Outcome, Refusal, Trim};
 use kv_model::call::Command;
@@ -29,13 +30,13 @@ const SPINS: u64 = 20;
 
 /// A core that any number of threads share. Clauses see of it by which ids it answers.
 #[derive(Drop)]
-pub struct Engine<L: EngineName, F: Feed> {
+pub struct Engine<L: EngineName> {
     alloc: Global,
     ids: Ids,
-    state: Mutex<State<L, F>>,
+    state: Mutex<State<L>>,
 }
 
-impl<L: EngineName, F: Feed> Model for Engine<L, F> {
+impl<L: EngineName> Model for Engine<L> {
     ghost use Rattle.kv_model.specs.declared.ids.Ids.{Ids as IdsOf};
 
     ghost Value = { IdsOf };
@@ -48,32 +49,42 @@ impl<L: EngineName, F: Feed> Model for Engine<L, F> {
 pub struct Submitted {
     /// Its outcome, as `json_gateway::perform` gives it.
     pub outcome: Outcome,
+    /// Readers see all that the engine has done, and the client was told of it.
+    pub published: bool,
+    /// The store's revision after it.
+    pub revision: u64,
 }
 
-impl<L: EngineName, F: Feed> Engine<L, F> {
-    /// An engine over a new core, that answers by these ids. No client is made yet.
+impl<L: EngineName> Engine<L> {
+    /// An engine over a new core, that answers by these ids. No client is made yet. The opening has
+    /// all the memory that it takes.
     ///
     /// `L` is the name that the opening has: where the function that is generic in it is called
-    /// with `Brand`, the pick of its ghost members is the opening's `name` and `parts`.
-    ///
-    /// `AllocError` comes where what readers will be told of finds no memory; there is nothing of
-    /// it yet, so it never comes today.
-    pub fn new(alloc: Global, opening: Opening<F>, ids: Ids) -> Result<Self, AllocError>
+    /// with `Brand`, the pick of its ghost members is the opening's `name`, `parts` and `book`.
+    pub fn new(alloc: Global, opening: Opening, ids: Ids) -> Self
         requires name { opening.name ≡ L.Ledger.name }
         requires parts { opening.parts ≡ L.Ledger.parts }
-        ensures ids { IfOk result (λ e. e ≡ ids) }
-        ensures made { is_ok result ≡ true }
+        requires book { opening.book ≡ L.book }
+        ensures { result ≡ ids }
     {
-        Ok(Engine {
+        Engine {
             alloc,
             ids,
             state: Mutex::new(State::new(alloc, opening)),
-        })
+        }
     }
 
-    /// A client that made no change and was given nothing yet. `NoPlace` comes once 64 were made,
-    /// however many of them are still there. Takes no memory.
-    pub fn client<R: Wait>(&self, rt: &R) -> Result<Client<L, F>, Refusal>
+    /// The ids that it answers by. Waits for nobody.
+    pub fn ids(&self) -> &Ids
+        ensures { result.now ≡ self.now }
+    {
+        &self.ids
+    }
+
+    /// A client that made no change and was given nothing yet, which has read nothing. `NoPlace`
+    /// comes once 64 were made, however many of them are still there, and where the feed has no
+    /// place for one more reader. Takes no memory.
+    pub fn client<R: Wait>(&self, rt: &R) -> Result<Client<L>, Refusal>
         ensures made { IfOk result (λ c. c.made ≡ 0) }
         ensures given { IfOk result (λ c. c.given ≡ []) }
         ensures full { IfErr result (λ e. e ≡ NoPlace) }
@@ -85,27 +96,32 @@ impl<L: EngineName, F: Feed> Engine<L, F> {
     /// moment stands where the command is refused, too; one before the clock leaves it.
     ///
     /// The outcome is `json_gateway::perform`'s, on a core that stood for some world and that had
-    /// all changes that the client had made (`Submits`). The client's share rises by one where the
-    /// outcome tells a new revision, also where its answer was lost, and else stays.
+    /// all changes that the client had made. Where the result says `published`, the client was told
+    /// of all that was published, which is what that world's history says, followed by the change
+    /// that the model makes there (`Submits`). Each later reading of the client begins with it.
     ///
-    /// The client was given just that outcome. The text of the answer is made while the lock is
-    /// held: the cost is that of `perform`, and of waiting for the lock.
+    /// The client's share rises by one where the outcome tells a new revision, also where its
+    /// answer was lost, and else stays. It was given just that outcome, and its reading is left.
+    ///
+    /// Where something was appended it is published, which waits for the readings that began before
+    /// the last publication. Where that finds no memory `published` is false, and the next
+    /// publication tells of it. The text of the answer is made while the lock is held: the cost is
+    /// that of `perform_to`, of waiting for the lock, and of `Feed::publish`.
     pub fn submit<R: Wait>(
         &self,
         rt: &R,
-        client: &mut Client<L, F>,
+        client: &mut Client<L>,
         now: u64,
         command: &Command,
     ) -> Submitted
-        ensures submits { Submits self.now client.old.made now (call_of command.now)
-            result.outcome }
-        ensures share { client.new.made ≡ client.old.made + rise result.outcome.raised }
-        ensures given { client.new.given
-            ≡ client.old.given ++ given.Done command.now now result.outcome ∷ [] }
+        ensures submits { Submits self.now (left client.old) now (call_of command.now) result
+            client.new }
+        ensures client { client.new ≡ record (with_done client.old
+            (given.Done command.now now result.outcome) (rise result.outcome.raised))
+            { reader = client.new.reader } }
     {
-        Submitted {
-            outcome: locked(rt, &self.state).submit(self.alloc, &self.ids, client, now, command),
-        }
+        client.leave();
+        locked(rt, &self.state).submit(rt, self.alloc, &self.ids, client, now, command)
     }
 
     /// Tells the watch of a number what it is told next, and moves it past that, as
@@ -119,16 +135,18 @@ impl<L: EngineName, F: Feed> Engine<L, F> {
 
     /// As [`Engine::deliver`], for a client: it was given just that message, and nothing where the
     /// watch is caught up or no memory was found. The core had all changes that the client had made.
+    /// Its reading is left.
     pub fn deliver_for<R: Wait>(
         &self,
         rt: &R,
-        client: &mut Client<L, F>,
+        client: &mut Client<L>,
         number: u64,
     ) -> Result<Message, AllocError>
         ensures tells { IfOk result (λ m. Tells self.now number m) }
         ensures sees { IfOk result (λ m. TellsTo self.now client.old.made number m) }
-        ensures given { client.new ≡ told_to client.old number result }
+        ensures given { client.new ≡ told_to (left client.old) number result }
     {
+        client.leave();
         locked(rt, &self.state).deliver_for(self.alloc, &self.ids, client, number)
     }
 
@@ -142,64 +160,74 @@ impl<L: EngineName, F: Feed> Engine<L, F> {
     }
 
     /// As [`Engine::drop_watch`], for a client: it was given that this watch was ended, or that
-    /// there was none, in a core that had all changes that the client had made.
+    /// there was none, in a core that had all changes that the client had made. Its reading is left.
     pub fn drop_watch_for<R: Wait>(
         &self,
         rt: &R,
-        client: &mut Client<L, F>,
+        client: &mut Client<L>,
         number: u64,
     ) -> Result<(), Refusal>
         ensures drops { Drops number (is_ok result) }
         ensures sees { DropsFor client.old.made number (is_ok result) }
         ensures missing { IfErr result (λ e. e ≡ NoWatch) }
-        ensures given { client.new ≡ plus client.old (given.Dropped number (is_ok result)) }
+        ensures given { client.new
+            ≡ plus (left client.old) (given.Dropped number (is_ok result)) }
     {
+        client.leave();
         locked(rt, &self.state).drop_watch_for(client, number)
     }
 
-    /// Makes a trimming step, as `Core::trim_step` does. It is a `Result` since readers will have
-    /// to be told of it, which may find no memory; until then it is never refused, and takes none.
+    /// Makes a trimming step, as `Core::trim_step` does, of which the feed is told before it is
+    /// made. `Memory` comes where the feed finds none for that, and then nothing has changed.
+    ///
+    /// What was appended is published where the step says Done, and after 1,000 steps that were
+    /// not told of; that waits for readings, as [`Engine::submit`] does.
     pub fn trim_once<R: Wait>(&self, rt: &R) -> Result<Trim, Refusal>
         ensures trims { IfOk result (λ t. Trims t) }
-        ensures made { is_ok result ≡ true }
+        ensures refused { IfErr result (λ e. e ≡ Memory) }
     {
-        Ok(locked(rt, &self.state).trim())
+        locked(rt, &self.state).trim(rt)
     }
 
     /// As [`Engine::trim_once`], for a client: it was given just that step, of a core that had all
-    /// changes that the client had made.
-    pub fn trim_once_for<R: Wait>(&self, rt: &R, client: &mut Client<L, F>) -> Result<Trim, Refusal>
+    /// changes that the client had made, and nothing where the step is refused. Its reading is left.
+    pub fn trim_once_for<R: Wait>(&self, rt: &R, client: &mut Client<L>) -> Result<Trim, Refusal>
         ensures trims { IfOk result (λ t. Trims t) }
         ensures sees { IfOk result (λ t. TrimsFor client.old.made t) }
-        ensures given { IfOk result (λ t. client.new ≡ plus client.old (given.Trimmed t)) }
-        ensures made { is_ok result ≡ true }
+        ensures given { IfOk result (λ t. client.new ≡ plus (left client.old) (given.Trimmed t)) }
+        ensures refused { IfErr result (λ e. e ≡ Memory) }
+        ensures same { OnErr result (client.new ≡ left client.old) }
     {
-        Ok(locked(rt, &self.state).trim_for(client))
+        client.leave();
+        locked(rt, &self.state).trim_for(rt, client)
     }
 
     /// Hands in the moment `now`, in milliseconds, and then makes a step of expiry, as
     /// `Core::expire` does, in one holding. The client's share rises by one where the step tells
-    /// that the revision rose, and else stays; it was given just that step. Refused as
+    /// that the revision rose, and else stays; it was given just that step, and its reading is left.
+    /// What the step deleted is published as by [`Engine::submit`] (`SubmitsExpiry`). Refused as
     /// `RevisionsSpent` and as `Memory`, as there; the moment then stands.
     pub fn expire_once<R: Wait>(
         &self,
         rt: &R,
-        client: &mut Client<L, F>,
+        client: &mut Client<L>,
         now: u64,
     ) -> Result<Expiry, Refusal>
-        ensures submits { SubmitsExpiry client.old.made now result }
-        ensures share { client.new.made ≡ client.old.made + rise_of_expiry result }
-        ensures given { client.new.given ≡ client.old.given ++ given.Expired now result ∷ [] }
+        ensures submits { SubmitsExpiry (left client.old) now result client.new }
+        ensures client { client.new ≡ record (with_done client.old (given.Expired now result)
+            (rise_of_expiry result)) { reader = client.new.reader } }
     {
-        locked(rt, &self.state).expire(client, now)
+        client.leave();
+        locked(rt, &self.state).expire(rt, client, now)
     }
 
     /// Ends the engine, and gives back its core, where every client that it made came back. Then
     /// the core's revision is 1 plus the sum of their shares.
     ///
     /// `CloseFault` is Missing: some client did not come, so there are fewer than 64. Takes no
-    /// memory, and waits for nobody.
-    pub fn close(self, clients: Vec<Client<L, F>>) -> Result<Core, CloseFault<L, F>>
+    /// memory. What readers were shown is let go, which waits for their readings; those of the
+    /// clients that came are left first.
+    pub fn close<R: Wait>(self, rt: &R, clients: Vec<Client<L>>) -> Result<Core, CloseFault<L>>
         ensures stands { IfOk result (λ c. IsStanding c) }
         ensures total { IfOk result
             (λ c. c.store.revision ≡ 1 + sum (map (λ x. x.made) clients.items)) }
@@ -210,7 +238,7 @@ impl<L: EngineName, F: Feed> Engine<L, F> {
         let Engine { alloc, ids, state } = self;
         let state = state.into_inner();
         if state.has_all(&clients) {
-            return Ok(state.finish(clients));
+            return Ok(state.finish(rt, clients));
         }
         let engine = Engine {
             alloc,

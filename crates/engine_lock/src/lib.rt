@@ -4,7 +4,7 @@
 //! Each [`Client`] holds a share of the ledger: the number of changes that it made. The one
 //! contract is what the lock keeps: whenever it is free, the core stands for some world of the
 //! model, and its revision is 1 plus the changes of all clients (`IsLocked` in
-//! `specs/Locked.antt`). A share rises by one exactly at a result that says `raised`, so
+//! `specs/Fits.antt`). A share rises by one exactly at a result that says `raised`, so
 //! [`Engine::close`], which asks for all clients, gives back a core whose revision is 1 plus the
 //! sum of their shares.
 //!
@@ -27,10 +27,15 @@
 //! close with a, b             the core, at revision 3
 //! ```
 //!
-//! Which engine a client is of is told by its type: `L` names the ledger ([`EngineName`]). It is
-//! picked where a function generic in `L` is called with `Brand`, and engine and clients live
-//! inside that function. `F` is what readers beside the writer are told of ([`Feed`]), nothing
-//! today.
+//! Beside the lock a client reads what was published ([`Client::enter`], [`Client::range`]), and
+//! waits for nobody. Under the lock the feed of what readers are told of fits the core (`Fits` in
+//! `specs/Fits.antt`): what was appended to it says the history that the core stands for, and makes
+//! of the empty tables what the core keeps. [`Engine::submit`] publishes what it appended, and tells
+//! its client of it, so that each later reading of that client begins with it.
+//!
+//! Which engine a client is of is told by its type: `L` names the ledger and the list of what was
+//! published ([`EngineName`]). It is picked where a function generic in `L` is called with `Brand`,
+//! and engine and clients live inside that function.
 //!
 //! The tests stand in the crate `engine_tests`.
 #![tactic(auto)]
@@ -46,7 +51,7 @@ mod steps;
 pub use client::Client;
 pub use closing::CloseFault;
 pub use engine::{Engine, Submitted};
-pub use opening::{EngineName, Feed, NoFeed, Opening};
+pub use opening::{EngineName, Opening};
 pub use past::Given;
 
 /// How many clients one engine makes in its life.

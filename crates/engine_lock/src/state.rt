@@ -1,136 +1,230 @@
 //! What stands under the lock: the core, the ledger's book, and what readers are told of.
-ghost use Rattle.std.specs.Prelude.{◌≡◌, ◌+◌, ◌≤◌, nat_le, if◌then◌else◌, is_ok, map, sum, length};
+ghost use Rattle.std.specs.Prelude.{◌≡◌, ◌+◌, ◌≤◌, nat_le, is_ok, map, sum, length, ℕ, Bool};
 ghost use Rattle.std.specs.Prelude.{[], ◌∷◌, ◌++◌};
 ghost use Rattle.std.specs.Prelude.{IfOk, IfErr, OnOk, OnErr};
 ghost use Rattle.kv_model.specs.Commands.{call_of};
 ghost use Rattle.kv_model.specs.World.{opening as first_world};
-ghost use Rattle.kv_model.specs.declared.refusal.Refusal.TheVariants.{NoPlace, NoWatch};
+ghost use Rattle.kv_model.specs.declared.refusal.Refusal.TheVariants.{Memory, NoPlace, NoWatch};
 ghost use Rattle.store_laws.specs.Stands.{StandsFor};
 ghost use Rattle.request_core.specs.Commands.{TrimsOnce};
 ghost use Rattle.request_core.specs.State.{after_moment};
-ghost use Rattle.engine_lock.specs.Locked.{Drops, EndsWatch, IsStanding, MakesExpiry, Performs};
+ghost use Rattle.snapshot_feed.specs.States.{appended};
+ghost use Rattle.engine_lock.specs.Fits.{Fits, IsStanding};
+ghost use Rattle.engine_lock.specs.Locked.{Caller, IsTold, Drops, EndsWatch, MakesExpiry, Performs};
 ghost use Rattle.engine_lock.specs.Locked.{Submits, SubmitsExpiry, Tells, TellsFrom, Trims};
 ghost use Rattle.engine_lock.specs.Locked.{DropsFor, Sees, TellsTo, TrimsFor};
-ghost use Rattle.engine_lock.specs.Locked.{plus, rise, rise_of_expiry, told_to};
+ghost use Rattle.engine_lock.specs.Locked.{plus, rise, rise_of_expiry, told_to, with_done};
 ghost use Rattle.engine_lock.specs.declared.past.Given.TheVariants as given;
 
 use crate::MOST_CLIENTS;
-use crate::client::Client;
-use crate::opening::{EngineName, Feed, Opening};
-use crate::steps::{audit, count, dropped, expired, performed, told, trimmed};
+use crate::client::{Client, published};
+use crate::engine::Submitted;
+use crate::opening::{EngineName, Opening};
+use crate::steps::{
+    audit, count_if, dropped, expired, has_raised, is_raised, moved, performed, told, trimmed,
+};
 use json_gateway::{Expiry, Ids, Message, Outcome, Refusal, Trim};
 use kv_model::call::Command;
+use request_core::answer::Status;
 use request_core::store::Core;
+use snapshot_feed::Feed;
 use std::alloc::{AllocError, Global};
 use std::marker::Model;
+use std::sync::Wait;
 use std::sync::ledger::{Book, Ledger, Share};
 
+/// After so many trimming steps readers are told of them, whether trimming is done or not: so no
+/// publication makes more of them in one holding of the lock.
+const MOST_STEPS: u64 = 1000;
+
 /// What stands under the lock. `rest` is what no client has of the ledger: a part for each client
-/// that may still be made, and no amount.
+/// that may still be made, and no amount. `steps` counts the trimming steps since readers were last
+/// told of some.
 #[derive(Drop)]
-pub(crate) struct State<L: EngineName, F: Feed> {
+pub(crate) struct State<L: EngineName> {
     core: Core,
     book: Book<L>,
     rest: Share<L>,
     clients: u64,
-    feed: F,
+    steps: u64,
+    feed: Feed,
 }
 
-impl<L: EngineName, F: Feed> Model for State<L, F> {
+impl<L: EngineName> Model for State<L> {
     ghost use Rattle.std.specs.Prelude.{◌≡◌, ◌+◌};
-    ghost use Rattle.engine_lock.specs.Locked.{IsLocked, LockState};
+    ghost use Rattle.snapshot_feed.specs.States.{appended};
+    ghost use Rattle.engine_lock.specs.Fits.{IsLocked};
+    ghost use Rattle.engine_lock.specs.Locked.{LockState};
 
     ghost Value = { LockState };
 
-    ghost view = { λ s. record { core = s.core; clients = s.clients } };
+    ghost view = { λ s. record { core = s.core; clients = s.clients; log = appended s.feed } };
 
-    ghost invariant = { λ s. IsLocked s.core s.book.total × (L.Ledger.parts ≡ 64)
+    ghost invariant = { λ s. IsLocked s.core (appended s.feed) s.book.total
+        × (s.feed.book ≡ L.book) × (L.Ledger.parts ≡ 64)
         × (s.rest.parts + s.clients ≡ 64) × (s.rest.amount ≡ 0) };
 }
 
-impl<L: EngineName, F: Feed> State<L, F> {
+impl<L: EngineName> State<L> {
     /// A new core, and no client.
-    pub(crate) fn new(alloc: Global, opening: Opening<F>) -> Self
+    pub(crate) fn new(alloc: Global, opening: Opening) -> Self
         requires name { opening.name ≡ L.Ledger.name }
         requires parts { opening.parts ≡ L.Ledger.parts }
+        requires book { opening.book ≡ L.book }
         ensures core { StandsFor result.core.store first_world }
         ensures clients { result.clients ≡ 0 }
+        ensures log { result.log ≡ [] }
     {
         let Opening { blank, feed } = opening;
         let (book, rest) = blank.open::<L>();
         State {
-            core: Core::new(alloc),
+            core: first_core(alloc, &feed),
             book,
             rest,
             clients: 0,
+            steps: 0,
             feed,
         }
     }
 
-    /// One more client. `NoPlace` comes after 64.
-    pub(crate) fn client(&mut self) -> Result<Client<L, F>, Refusal>
+    /// One more client. `NoPlace` comes after 64, and where the feed has no place for a reader.
+    pub(crate) fn client(&mut self) -> Result<Client<L>, Refusal>
         ensures made { IfOk result (λ c. c.made ≡ 0) }
         ensures given { IfOk result (λ c. c.given ≡ []) }
         ensures counted { OnOk result (self.new.clients ≡ self.old.clients + 1) }
-        ensures full { IfErr result (λ e. (e ≡ NoPlace) × (self.old.clients ≡ 64)) }
+        ensures full { IfErr result (λ e. e ≡ NoPlace) }
         ensures core { self.new.core ≡ self.old.core }
+        ensures log { self.new.log ≡ self.old.log }
         ensures unchanged { OnErr result (self.new ≡ self.old) }
     {
         if self.clients >= MOST_CLIENTS {
             return Err(Refusal::NoPlace);
         }
+        let Ok(reader) = self.feed.reader() else {
+            return Err(Refusal::NoPlace);
+        };
         let share = self.rest.split_off(1, 0);
         self.clients += 1;
-        Ok(Client::of(share))
+        Ok(Client::of(share, reader))
     }
 
-    /// Hands in a moment and then does a command; a change is the client's.
-    pub(crate) fn submit(
+    /// The core's numbers.
+    fn status(&self) -> Status
+        ensures { result.revision ≡ self.now.core.store.revision }
+    {
+        self.core.status()
+    }
+
+    /// Hands in a moment and then does a command; a change is the client's. Readers are told of it
+    /// as soon as all that was appended is published.
+    pub(crate) fn submit<R: Wait>(
+        &mut self,
+        rt: &R,
+        alloc: Global,
+        ids: &Ids,
+        client: &mut Client<L>,
+        now: u64,
+        command: &Command,
+    ) -> Submitted
+        ensures submits { Submits ids.now client.old now (call_of command.now) result client.new }
+        ensures client { client.new ≡ record (with_done client.old
+            (given.Done command.now now result.outcome) (rise result.outcome.raised))
+            { reader = client.new.reader } }
+        ensures clients { self.new.clients ≡ self.old.clients }
+    {
+        let before = self.status();
+        let outcome = self.make(alloc, ids, client, now, command);
+        let after = self.status();
+        let published = self.tell(rt, client, has_appended(&before, &after));
+        Submitted {
+            outcome,
+            published,
+            revision: after.revision,
+        }
+    }
+
+    /// Hands in a moment and does a command. Whatever the client is told of then is what the
+    /// holding tells it.
+    fn make(
         &mut self,
         alloc: Global,
         ids: &Ids,
-        client: &mut Client<L, F>,
+        client: &mut Client<L>,
         now: u64,
         command: &Command,
     ) -> Outcome
-        ensures performs { Performs ids.now (call_of command.now) (after_moment self.old.core now)
-            self.new.core result }
-        ensures submits { Submits ids.now client.old.made now (call_of command.now) result }
-        ensures share { client.new.made ≡ client.old.made + rise result.raised }
-        ensures given { client.new.given
-            ≡ client.old.given ++ given.Done command.now now result ∷ [] }
+        ensures submits { (b : Bool) → (c : Caller) → IsTold b self.new.log client.old c
+            → Submits ids.now client.old now (call_of command.now) (record {
+              outcome = result;
+              published = b;
+              revision = self.new.core.store.revision;
+            }) c }
+        ensures client { client.new ≡ with_done client.old (given.Done command.now now result)
+            (rise result.raised) }
         ensures clients { self.new.clients ≡ self.old.clients }
     {
         audit(&mut self.book, client);
-        let _clock = self.core.moment(now);
-        let outcome = performed(alloc, &mut self.core, command, ids);
-        if outcome.raised.is_some() {
-            count(&self.core, &mut self.book, client);
-        }
+        moved(&mut self.core, &self.feed, now);
+        let outcome = performed(alloc, &mut self.core, &mut self.feed, command, ids);
+        let raised = is_raised(&outcome);
+        count_if(&self.core, &mut self.book, client, raised);
         client.note_done(command, now, &outcome);
         outcome
     }
 
+    /// Tells readers of all that was appended, where something was, and then the client, where all
+    /// of it is published; says whether it is.
+    fn tell<R: Wait>(&mut self, rt: &R, client: &mut Client<L>, has_appended: bool) -> bool
+        ensures told { IsTold result self.old.log client.old client.new }
+        ensures others { client.new ≡ record client.old { reader = client.new.reader } }
+        ensures same { self.new ≡ self.old }
+    {
+        if has_appended {
+            client.publish(rt, &self.core, &mut self.feed)
+        } else {
+            client.learn(&self.feed)
+        }
+    }
+
     /// Hands in a moment and then makes a step of expiry; a change is the client's.
-    pub(crate) fn expire(&mut self, client: &mut Client<L, F>, now: u64) -> Result<Expiry, Refusal>
-        ensures makes { MakesExpiry (after_moment self.old.core now) self.new.core result }
-        ensures submits { SubmitsExpiry client.old.made now result }
-        ensures share { client.new.made ≡ client.old.made + rise_of_expiry result }
-        ensures given { client.new.given ≡ client.old.given ++ given.Expired now result ∷ [] }
+    pub(crate) fn expire<R: Wait>(
+        &mut self,
+        rt: &R,
+        client: &mut Client<L>,
+        now: u64,
+    ) -> Result<Expiry, Refusal>
+        ensures submits { SubmitsExpiry client.old now result client.new }
+        ensures client { client.new ≡ record (with_done client.old (given.Expired now result)
+            (rise_of_expiry result)) { reader = client.new.reader } }
+        ensures clients { self.new.clients ≡ self.old.clients }
+    {
+        let before = self.status();
+        let step = self.end(client, now);
+        let after = self.status();
+        let _published = self.tell(rt, client, has_appended(&before, &after));
+        step
+    }
+
+    /// Hands in a moment and makes a step of expiry. Whatever the client is told of then is what
+    /// the holding tells it.
+    fn end(&mut self, client: &mut Client<L>, now: u64) -> Result<Expiry, Refusal>
+        ensures submits { (b : Bool) → (c : Caller) → IsTold b self.new.log client.old c
+            → SubmitsExpiry client.old now result c }
+        ensures client { client.new ≡ with_done client.old (given.Expired now result)
+            (rise_of_expiry result) }
         ensures clients { self.new.clients ≡ self.old.clients }
     {
         audit(&mut self.book, client);
-        self.core.moment(now);
-        let step = expired(&mut self.core);
-        if has_raised(&step) {
-            count(&self.core, &mut self.book, client);
-        }
+        moved(&mut self.core, &self.feed, now);
+        let step = expired(&mut self.core, &mut self.feed);
+        let raised = has_raised(&step);
+        count_if(&self.core, &mut self.book, client, raised);
         client.note_expired(now, &step);
         step
     }
 
-    /// The core has all changes that a client made. Does nothing.
-    fn see(&mut self, client: &mut Client<L, F>)
+    /// A client made at most as many changes as the core has seen. Does nothing.
+    fn see(&mut self, client: &mut Client<L>)
         ensures sees { Sees client.old.made self.old.core }
         ensures same { client.new ≡ client.old }
         ensures unchanged { self.new ≡ self.old }
@@ -151,7 +245,7 @@ impl<L: EngineName, F: Feed> State<L, F> {
         ensures clients { self.new.clients ≡ self.old.clients }
         ensures unchanged { OnErr result (self.new ≡ self.old) }
     {
-        told(alloc, &mut self.core, number, ids)
+        told(alloc, &mut self.core, &self.feed, number, ids)
     }
 
     /// The same, for a client.
@@ -159,7 +253,7 @@ impl<L: EngineName, F: Feed> State<L, F> {
         &mut self,
         alloc: Global,
         ids: &Ids,
-        client: &mut Client<L, F>,
+        client: &mut Client<L>,
         number: u64,
     ) -> Result<Message, AllocError>
         ensures told { IfOk result (λ m.
@@ -184,13 +278,13 @@ impl<L: EngineName, F: Feed> State<L, F> {
         ensures clients { self.new.clients ≡ self.old.clients }
         ensures unchanged { OnErr result (self.new ≡ self.old) }
     {
-        dropped(&mut self.core, number)
+        dropped(&mut self.core, &self.feed, number)
     }
 
     /// The same, for a client.
     pub(crate) fn drop_watch_for(
         &mut self,
-        client: &mut Client<L, F>,
+        client: &mut Client<L>,
         number: u64,
     ) -> Result<(), Refusal>
         ensures ends { EndsWatch number self.old.core self.new.core (is_ok result) }
@@ -207,32 +301,56 @@ impl<L: EngineName, F: Feed> State<L, F> {
         ended
     }
 
-    /// Makes a trimming step.
-    pub(crate) fn trim(&mut self) -> Trim
-        ensures trims { TrimsOnce self.old.core self.new.core result }
-        ensures may { Trims result }
+    /// Makes a trimming step, of which the feed is told first. `Memory` comes where it finds none.
+    pub(crate) fn trim<R: Wait>(&mut self, rt: &R) -> Result<Trim, Refusal>
+        ensures trims { IfOk result (λ t. TrimsOnce self.old.core self.new.core t) }
+        ensures may { IfOk result (λ t. Trims t) }
+        ensures refused { IfErr result (λ e. e ≡ Memory) }
         ensures clients { self.new.clients ≡ self.old.clients }
+        ensures unchanged { OnErr result (self.new ≡ self.old) }
     {
-        trimmed(&mut self.core)
+        let step = trimmed(&mut self.core, &mut self.feed)?;
+        self.show(rt, matches!(step, Trim::Done(_)));
+        Ok(step)
     }
 
     /// The same, for a client.
-    pub(crate) fn trim_for(&mut self, client: &mut Client<L, F>) -> Trim
-        ensures trims { TrimsOnce self.old.core self.new.core result }
-        ensures may { Trims result }
-        ensures sees { TrimsFor client.old.made result }
-        ensures given { client.new ≡ plus client.old (given.Trimmed result) }
+    pub(crate) fn trim_for<R: Wait>(
+        &mut self,
+        rt: &R,
+        client: &mut Client<L>,
+    ) -> Result<Trim, Refusal>
+        ensures trims { IfOk result (λ t. TrimsOnce self.old.core self.new.core t) }
+        ensures may { IfOk result (λ t. Trims t) }
+        ensures sees { IfOk result (λ t. TrimsFor client.old.made t) }
+        ensures given { IfOk result (λ t. client.new ≡ plus client.old (given.Trimmed t)) }
+        ensures same { OnErr result (client.new ≡ client.old) }
+        ensures refused { IfErr result (λ e. e ≡ Memory) }
         ensures clients { self.new.clients ≡ self.old.clients }
+        ensures unchanged { OnErr result (self.new ≡ self.old) }
     {
         self.see(client);
-        let step = self.trim();
+        let step = self.trim(rt)?;
         client.note_trimmed(&step);
-        step
+        Ok(step)
+    }
+
+    /// Tells readers of the trimming steps, where trimming is done or many were made. Where that
+    /// finds no memory the next publication tells of them.
+    fn show<R: Wait>(&mut self, rt: &R, is_done: bool)
+        ensures { self.new ≡ self.old }
+    {
+        if !is_done && self.steps < MOST_STEPS {
+            self.steps += 1;
+            return;
+        }
+        self.steps = 0;
+        published(rt, &self.core, &mut self.feed);
     }
 
     /// Whether these are all clients that were made: none of them can be there twice, so there are
     /// no more.
-    pub(crate) fn has_all(&self, clients: &Vec<Client<L, F>>) -> bool
+    pub(crate) fn has_all(&self, clients: &Vec<Client<L>>) -> bool
         ensures all { result ≡ nat_le self.now.clients (length clients.now.items) }
         ensures most { self.now.clients ≤ 64 }
     {
@@ -240,7 +358,8 @@ impl<L: EngineName, F: Feed> State<L, F> {
     }
 
     /// The core, where all clients came back: then the book's total is the sum of their shares.
-    pub(crate) fn finish(self, clients: Vec<Client<L, F>>) -> Core
+    /// Their readings end first, since the feed's end waits for each of them.
+    pub(crate) fn finish<R: Wait>(self, rt: &R, clients: Vec<Client<L>>) -> Core
         requires { self.clients ≤ length clients.items }
         ensures core { result ≡ self.core }
         ensures stands { IsStanding result }
@@ -250,27 +369,36 @@ impl<L: EngineName, F: Feed> State<L, F> {
             core,
             book,
             rest,
+            feed,
             ..
         } = self;
         let mut book = book;
         let mut all = merge_all(rest, clients);
         book.audit(&mut all);
+        feed.close(rt);
         core
     }
 }
 
-/// Whether a step of expiry raised the revision.
-fn has_raised(step: &Result<Expiry, Refusal>) -> bool
-    ensures { (if result then 1 else 0) ≡ rise_of_expiry step.now }
+/// The core of a new store, beside a feed to which nothing was appended.
+fn first_core(alloc: Global, feed: &Feed) -> Core
+    requires published { feed.now.published ≡ [] }
+    requires pending { feed.now.pending ≡ [] }
+    ensures core { StandsFor result.store first_world }
+    ensures fits { Fits result (appended feed.now) }
+    ensures counted { result.store.revision ≡ 1 }
 {
-    match step {
-        Ok(Expiry::Expired { raised, .. }) => *raised,
-        _ => false,
-    }
+    let _ = feed;
+    Core::new(alloc)
+}
+
+/// Whether what was done between these appended an operation of its own.
+fn has_appended(before: &Status, after: &Status) -> bool {
+    before.revision != after.revision || before.compacted != after.compacted
 }
 
 /// A share, and those of all these clients.
-fn merge_all<L: EngineName, F: Feed>(rest: Share<L>, clients: Vec<Client<L, F>>) -> Share<L>
+fn merge_all<L: EngineName>(rest: Share<L>, clients: Vec<Client<L>>) -> Share<L>
     ensures parts { result.parts ≡ rest.parts + length clients.items }
     ensures most { rest.parts ≤ L.Ledger.parts → result.parts ≤ L.Ledger.parts }
     ensures amount { result.amount ≡ rest.amount + sum (map (λ c. c.made) clients.items) }

@@ -2,7 +2,7 @@
 ghost use Rattle.std.specs.Prelude.{◌≡◌};
 
 use crate::lock_replies::ONES;
-use engine_lock::{Client, CloseFault, Engine, EngineName, MOST_CLIENTS, NoFeed, Opening};
+use engine_lock::{Client, CloseFault, Engine, EngineName, MOST_CLIENTS, Opening};
 use json_gateway::{Expiry, Message, Refusal, Trim, read};
 use std::alloc::Global;
 use std::marker::Brand;
@@ -13,14 +13,13 @@ use std::sync::Wait;
 fn made<L: EngineName, R: Wait>(
     rt: &R,
     alloc: Global,
-    opening: Opening<NoFeed>,
+    opening: Opening,
 ) -> (usize, Option<Refusal>, bool)
     requires name { opening.name ≡ L.Ledger.name }
     requires parts { opening.parts ≡ L.Ledger.parts }
+    requires book { opening.book ≡ L.book }
 {
-    let Ok(engine) = Engine::<L, NoFeed>::new(alloc, opening, ONES) else {
-        return (0, None, false);
-    };
+    let engine = Engine::<L>::new(alloc, opening, ONES);
     let mut clients = Vec::new(alloc);
     let mut refused = None;
     for _ in 0..=MOST_CLIENTS {
@@ -31,11 +30,14 @@ fn made<L: EngineName, R: Wait>(
             Err(refusal) => refused = Some(refusal),
         }
     }
-    (clients.len(), refused, engine.close(clients).is_ok())
+    (clients.len(), refused, engine.close(rt, clients).is_ok())
 }
 
 fn run_made<R: Wait>(rt: &R, alloc: Global) -> (usize, Option<Refusal>, bool) {
-    made::<Brand, R>(rt, alloc, Opening::new(NoFeed))
+    match Opening::new(alloc, rt) {
+        Ok(opening) => made::<Brand, R>(rt, alloc, opening),
+        Err(_) => (0, None, false),
+    }
 }
 
 #[test]
@@ -50,8 +52,8 @@ fn the_client_after_64_has_no_place(rt: HostRuntime) {
 fn posted<L: EngineName, R: Wait>(
     rt: &R,
     alloc: Global,
-    engine: &Engine<L, NoFeed>,
-    client: &mut Client<L, NoFeed>,
+    engine: &Engine<L>,
+    client: &mut Client<L>,
     path: &[u8],
     body: &[u8],
 ) -> u16 {
@@ -82,8 +84,8 @@ struct Said {
 fn begin<L: EngineName, R: Wait>(
     rt: &R,
     alloc: Global,
-    engine: &Engine<L, NoFeed>,
-    client: &mut Client<L, NoFeed>,
+    engine: &Engine<L>,
+    client: &mut Client<L>,
 ) {
     let watch = b"{\"create_request\":{\"key\":\"YQ==\"}}";
     let _watched = posted(rt, alloc, engine, client, b"/v3/watch", watch);
@@ -101,11 +103,7 @@ fn begin<L: EngineName, R: Wait>(
     let _leased = posted(rt, alloc, engine, client, b"/v3/kv/put", leased);
 }
 
-fn call_each<L: EngineName, R: Wait>(
-    rt: &R,
-    engine: &Engine<L, NoFeed>,
-    client: &mut Client<L, NoFeed>,
-) -> Said {
+fn call_each<L: EngineName, R: Wait>(rt: &R, engine: &Engine<L>, client: &mut Client<L>) -> Said {
     Said {
         is_told: matches!(&engine.deliver(rt, 1), Ok(Message::Text(_))),
         is_quiet: matches!(&engine.deliver(rt, 1), Ok(Message::Nothing)),
@@ -118,8 +116,8 @@ fn call_each<L: EngineName, R: Wait>(
 
 fn call_each_for<L: EngineName, R: Wait>(
     rt: &R,
-    engine: &Engine<L, NoFeed>,
-    client: &mut Client<L, NoFeed>,
+    engine: &Engine<L>,
+    client: &mut Client<L>,
 ) -> Said {
     Said {
         is_told: matches!(&engine.deliver_for(rt, client, 1), Ok(Message::Text(_))),
@@ -138,13 +136,14 @@ fn call_each_for<L: EngineName, R: Wait>(
 fn each_call<L: EngineName, R: Wait>(
     rt: &R,
     alloc: Global,
-    opening: Opening<NoFeed>,
+    opening: Opening,
     for_client: bool,
 ) -> Option<Said>
     requires name { opening.name ≡ L.Ledger.name }
     requires parts { opening.parts ≡ L.Ledger.parts }
+    requires book { opening.book ≡ L.book }
 {
-    let engine = Engine::<L, NoFeed>::new(alloc, opening, ONES).ok()?;
+    let engine = Engine::<L>::new(alloc, opening, ONES);
     let mut client = engine.client(rt).ok()?;
     begin(rt, alloc, &engine, &mut client);
     if for_client {
@@ -155,7 +154,8 @@ fn each_call<L: EngineName, R: Wait>(
 }
 
 fn run_each_call<R: Wait>(rt: &R, alloc: Global, for_client: bool) -> Option<Said> {
-    each_call::<Brand, R>(rt, alloc, Opening::new(NoFeed), for_client)
+    let opening = Opening::new(alloc, rt).ok()?;
+    each_call::<Brand, R>(rt, alloc, opening, for_client)
 }
 
 fn said_of_each_call() -> Said {
@@ -194,12 +194,13 @@ fn each_call_for_a_client(rt: HostRuntime) {
 fn closed_twice<L: EngineName, R: Wait>(
     rt: &R,
     alloc: Global,
-    opening: Opening<NoFeed>,
+    opening: Opening,
 ) -> Option<(u8, usize, u64)>
     requires name { opening.name ≡ L.Ledger.name }
     requires parts { opening.parts ≡ L.Ledger.parts }
+    requires book { opening.book ≡ L.book }
 {
-    let engine = Engine::<L, NoFeed>::new(alloc, opening, ONES).ok()?;
+    let engine = Engine::<L>::new(alloc, opening, ONES);
     let first = engine.client(rt).ok()?;
     let mut second = engine.client(rt).ok()?;
     let _put = posted(
@@ -212,30 +213,32 @@ fn closed_twice<L: EngineName, R: Wait>(
     );
     let mut clients = Vec::new(alloc);
     clients.push(first).ok()?;
-    match engine.close(clients) {
+    match engine.close(rt, clients) {
         Ok(_) => None,
-        Err(fault) => closed_with(fault, second),
+        Err(fault) => closed_with(rt, fault, second),
     }
 }
 
 /// An engine that was not closed is closed with one client more.
-fn closed_with<L: EngineName>(
-    fault: CloseFault<L, NoFeed>,
-    client: Client<L, NoFeed>,
+fn closed_with<L: EngineName, R: Wait>(
+    rt: &R,
+    fault: CloseFault<L>,
+    client: Client<L>,
 ) -> Option<(u8, usize, u64)> {
     let number = fault.number();
     let CloseFault { engine, clients } = fault;
     let mut clients = clients;
     let count = clients.len();
     clients.push(client).ok()?;
-    match engine.close(clients) {
+    match engine.close(rt, clients) {
         Ok(core) => Some((number, count, core.status().revision)),
         Err(_) => None,
     }
 }
 
 fn run_closed_twice<R: Wait>(rt: &R, alloc: Global) -> Option<(u8, usize, u64)> {
-    closed_twice::<Brand, R>(rt, alloc, Opening::new(NoFeed))
+    let opening = Opening::new(alloc, rt).ok()?;
+    closed_twice::<Brand, R>(rt, alloc, opening)
 }
 
 #[test]

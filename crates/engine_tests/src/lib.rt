@@ -8,6 +8,10 @@ mod calls;
 #[cfg(test)]
 mod lock_replies;
 #[cfg(test)]
+mod read_back;
+#[cfg(test)]
+mod readers;
+#[cfg(test)]
 mod rows;
 #[cfg(test)]
 mod texts;

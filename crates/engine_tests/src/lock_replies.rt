@@ -3,7 +3,7 @@ ghost use Rattle.std.specs.Prelude.{◌≡◌};
 
 use crate::rows;
 use crate::rows::{Row, Step};
-use engine_lock::{Client, Engine, EngineName, NoFeed, Opening};
+use engine_lock::{Client, Engine, EngineName, Opening};
 use json_gateway::{Expiry, Ids, Message, Trim, read};
 use request_core::store::Core;
 use std::alloc::Global;
@@ -19,8 +19,8 @@ pub(super) const ONES: Ids = Ids {
 fn is_replied<L: EngineName, R: Wait>(
     rt: &R,
     alloc: Global,
-    engine: &Engine<L, NoFeed>,
-    client: &mut Client<L, NoFeed>,
+    engine: &Engine<L>,
+    client: &mut Client<L>,
     now: u64,
     asked: (&str, &str),
     reply: (u16, &str),
@@ -34,12 +34,7 @@ fn is_replied<L: EngineName, R: Wait>(
 }
 
 /// The watch of a number is told this text.
-fn is_text<L: EngineName, R: Wait>(
-    rt: &R,
-    engine: &Engine<L, NoFeed>,
-    number: u64,
-    text: &str,
-) -> bool {
+fn is_text<L: EngineName, R: Wait>(rt: &R, engine: &Engine<L>, number: u64, text: &str) -> bool {
     match &engine.deliver(rt, number) {
         Ok(Message::Text(told)) => told.as_slice() == text.as_bytes(),
         _ => false,
@@ -47,18 +42,18 @@ fn is_text<L: EngineName, R: Wait>(
 }
 
 /// The watch of a number is told nothing.
-fn is_quiet<L: EngineName, R: Wait>(rt: &R, engine: &Engine<L, NoFeed>, number: u64) -> bool {
+fn is_quiet<L: EngineName, R: Wait>(rt: &R, engine: &Engine<L>, number: u64) -> bool {
     matches!(&engine.deliver(rt, number), Ok(Message::Nothing))
 }
 
 /// There is no watch of a number.
-fn is_gone<L: EngineName, R: Wait>(rt: &R, engine: &Engine<L, NoFeed>, number: u64) -> bool {
+fn is_gone<L: EngineName, R: Wait>(rt: &R, engine: &Engine<L>, number: u64) -> bool {
     matches!(&engine.deliver(rt, number), Ok(Message::NoWatch))
 }
 
 /// What a trimming step says: `r` and a main revision where it takes one out, `k` where it leaves
 /// it, `d` and the number of versions.
-fn trimmed<L: EngineName, R: Wait>(rt: &R, engine: &Engine<L, NoFeed>) -> (char, u64) {
+fn trimmed<L: EngineName, R: Wait>(rt: &R, engine: &Engine<L>) -> (char, u64) {
     match engine.trim_once(rt) {
         Ok(Trim::Removed(rev)) => ('r', rev.main),
         Ok(Trim::Kept(rev)) => ('k', rev.main),
@@ -71,8 +66,8 @@ fn trimmed<L: EngineName, R: Wait>(rt: &R, engine: &Engine<L, NoFeed>) -> (char,
 fn is_answered<L: EngineName, R: Wait>(
     rt: &R,
     alloc: Global,
-    engine: &Engine<L, NoFeed>,
-    client: &mut Client<L, NoFeed>,
+    engine: &Engine<L>,
+    client: &mut Client<L>,
     step: &Step,
 ) -> bool {
     match step {
@@ -109,8 +104,8 @@ fn is_answered<L: EngineName, R: Wait>(
 fn first_otherwise<L: EngineName, R: Wait>(
     rt: &R,
     alloc: Global,
-    engine: &Engine<L, NoFeed>,
-    client: &mut Client<L, NoFeed>,
+    engine: &Engine<L>,
+    client: &mut Client<L>,
     steps: &[Step],
 ) -> Option<usize> {
     for (number, step) in steps.iter().enumerate() {
@@ -122,16 +117,17 @@ fn first_otherwise<L: EngineName, R: Wait>(
 }
 
 /// How many versions the dump has of the core of an engine that closes with this one client.
-fn versions_left<L: EngineName>(
+fn versions_left<L: EngineName, R: Wait>(
+    rt: &R,
     alloc: Global,
-    engine: Engine<L, NoFeed>,
-    client: Client<L, NoFeed>,
+    engine: Engine<L>,
+    client: Client<L>,
 ) -> Option<u64> {
     let mut clients = Vec::new(alloc);
     let Ok(()) = clients.push(client) else {
         return None;
     };
-    match engine.close(clients) {
+    match engine.close(rt, clients) {
         Ok(core) => dumped(&core),
         Err(_) => None,
     }
@@ -152,24 +148,26 @@ fn dumped(core: &Core) -> Option<u64> {
 fn run<L: EngineName, R: Wait>(
     rt: &R,
     alloc: Global,
-    opening: Opening<NoFeed>,
+    opening: Opening,
     steps: &[Step],
 ) -> (Option<usize>, Option<u64>)
     requires name { opening.name ≡ L.Ledger.name }
     requires parts { opening.parts ≡ L.Ledger.parts }
+    requires book { opening.book ≡ L.book }
 {
-    let Ok(engine) = Engine::<L, NoFeed>::new(alloc, opening, ONES) else {
-        return (None, None);
-    };
+    let engine = Engine::<L>::new(alloc, opening, ONES);
     let Ok(mut client) = engine.client(rt) else {
         return (None, None);
     };
     let first = first_otherwise(rt, alloc, &engine, &mut client, steps);
-    (first, versions_left(alloc, engine, client))
+    (first, versions_left(rt, alloc, engine, client))
 }
 
 fn run_row<R: Wait>(rt: &R, alloc: Global, steps: &[Step]) -> (Option<usize>, Option<u64>) {
-    run::<Brand, R>(rt, alloc, Opening::new(NoFeed), steps)
+    match Opening::new(alloc, rt) {
+        Ok(opening) => run::<Brand, R>(rt, alloc, opening, steps),
+        Err(_) => (None, None),
+    }
 }
 
 /// How many versions a row's last step says are kept, where that is a trimming step that is done.

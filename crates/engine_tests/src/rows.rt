@@ -99,9 +99,9 @@ const WATCHES_OF_WHAT_IS_COMPACTED: [Step; 11] = [
     Step::Post(0, PUT, PUT_A_1, 200, AT_2),
     Step::Post(0, DELETE, DELETE_A, 200, DELETED_AT_3),
     Step::Post(0, COMPACT, COMPACT_3, 200, AT_3),
-    Step::Removed(2),
+    Step::Kept(2),
     Step::Kept(3),
-    Step::Done(1),
+    Step::Done(2),
     Step::Post(0, WATCH, WATCH_A_FROM_3, 200, CREATED_AT_3),
     Step::Tell(1, DELETE_OF_A),
     Step::Post(0, WATCH, WATCH_A_FROM_2, 200, CREATED_AT_3),
@@ -184,7 +184,7 @@ pub(super) fn a_watch() -> Row {
 }
 
 pub(super) fn watches_of_what_is_compacted() -> Row {
-    (&WATCHES_OF_WHAT_IS_COMPACTED, 1)
+    (&WATCHES_OF_WHAT_IS_COMPACTED, 2)
 }
 
 pub(super) fn compactions() -> Row {

@@ -2,7 +2,7 @@
 ghost use Rattle.std.specs.Prelude.{◌≡◌};
 
 use crate::lock_replies::ONES;
-use engine_lock::{Client, Engine, EngineName, NoFeed, Opening};
+use engine_lock::{Client, Engine, EngineName, Opening};
 use json_gateway::read;
 use std::alloc::Global;
 use std::marker::Brand;
@@ -14,10 +14,10 @@ use std::thread::Threads;
 fn put_often<L: EngineName, R: Wait>(
     rt: &R,
     alloc: Global,
-    engine: &Engine<L, NoFeed>,
-    client: Client<L, NoFeed>,
+    engine: &Engine<L>,
+    client: Client<L>,
     times: u64,
-) -> Client<L, NoFeed> {
+) -> Client<L> {
     let mut client = client;
     let put = read(
         alloc,
@@ -39,12 +39,13 @@ fn put_often<L: EngineName, R: Wait>(
 fn shared<L: EngineName + Send + Sync, R: Threads + Wait + Sync>(
     rt: &R,
     alloc: Global,
-    opening: Opening<NoFeed>,
+    opening: Opening,
 ) -> Option<(u64, u64, u64)>
     requires name { opening.name ≡ L.Ledger.name }
     requires parts { opening.parts ≡ L.Ledger.parts }
+    requires book { opening.book ≡ L.book }
 {
-    let engine = Engine::<L, NoFeed>::new(alloc, opening, ONES).ok()?;
+    let engine = Engine::<L>::new(alloc, opening, ONES);
     let first = engine.client(rt).ok()?;
     let second = engine.client(rt).ok()?;
     let lent = &engine;
@@ -57,14 +58,15 @@ fn shared<L: EngineName + Send + Sync, R: Threads + Wait + Sync>(
     let mut clients = Vec::new(alloc);
     clients.push(first).ok()?;
     clients.push(second).ok()?;
-    match engine.close(clients) {
+    match engine.close(rt, clients) {
         Ok(core) => Some((shares.0, shares.1, core.status().revision)),
         Err(_) => None,
     }
 }
 
 fn run_shared<R: Threads + Wait + Sync>(rt: &R, alloc: Global) -> Option<(u64, u64, u64)> {
-    shared::<Brand, R>(rt, alloc, Opening::new(NoFeed))
+    let opening = Opening::new(alloc, rt).ok()?;
+    shared::<Brand, R>(rt, alloc, opening)
 }
 
 #[test]

@@ -1,23 +1,26 @@
 -- What the threads of a server share, each of them may lend to another.
 use denote.RattleType.{RattleType}
 use denote.Ref.{NamedLft}
-use denote.Param.Send.{IsSend, IsSync, recorded_sync, sendable, shr_sync, struct_sync}
+use denote.Param.Send.{IsSend, IsSync, plain_send, recorded_send, recorded_sync, sendable, shr_sync, struct_send, struct_sync}
 use denote.Struct.Declared.{shape}
-use Rattle.std.specs.declared.sync.ledger.Ledger.{Ghosts}
+use Rattle.std.specs.declared.sync.ledger.Ledger as ledger
+use Rattle.engine_lock.specs.declared.opening.EngineName as names
 use Rattle.std.proofs.Crossing.{crosses}
 use Rattle.std.specs.contracts.net.TcpListener as TcpListener
 use Rattle.std.proofs.sync.Mutex.TheSendSync as mutex
 use Rattle.std.proofs.sync.atomic.AtomicBool.TheSendSync as flag
-use Rattle.engine_lock.proofs.Crossing.{engine_sync}
+use Rattle.engine_lock.proofs.Crossing.{client_send, engine_sync}
 use Rattle.http_front.specs.contracts.door.Door as Door
 use Rattle.http_front.specs.contracts.shared.Shared as Shared
+use Rattle.http_front.specs.contracts.workers.Worked as Worked
 use Rattle.http_front.proofs.door.Door.TheSendSync as door
 
-pub shared_sync : (a : NamedLft) (T F G C : RattleType) (g : Ghosts T.Denot) → IsSend F → IsSync G → IsSync C → IsSync (Shared.the_row a T F G C g)
-shared_sync a T F G C g f s u =
+pub shared_sync : (a : NamedLft) (T G C : RattleType) (n : names.Ghosts T.Denot) (g : ledger.Ghosts T.Denot) → IsSync G → IsSync C
+    → IsSync (Shared.the_row a T G C n g)
+shared_sync a T G C n g s u =
     let listener : IsSync TcpListener.the_row = search (sendable, crosses) depth 20 in
-    recorded_sync (Shared.the_field a T F G C g).row _ _ (Shared.the_type a T F G C g).to_one (struct_sync (shape (Shared.the_type a T F G C g)) (
-      shr_sync _ _ _ (engine_sync T F g f),
+    recorded_sync (Shared.the_field a T G C n g).row _ _ (Shared.the_type a T G C n g).to_one (struct_sync (shape (Shared.the_type a T G C n g)) (
+      shr_sync _ _ _ (engine_sync T n g),
       (
         shr_sync _ _ _ s,
         (
@@ -29,3 +32,8 @@ shared_sync a T F G C g f s u =
         ),
       ),
     ))
+
+-- what a worker hands back goes to who joins it
+pub worked_send : (T : RattleType) (n : names.Ghosts T.Denot) (g : ledger.Ghosts T.Denot) → IsSend (Worked.the_row T n g)
+worked_send T n g = recorded_send (Worked.the_field T n g).row _ _ (Worked.the_type T n g).to_one
+    (struct_send (shape (Worked.the_type T n g)) (client_send T n g, (plain_send _ _ _ _ _, tt)))

@@ -1,3 +1,4 @@
 pub mod Crossing
+pub mod Readings
 pub mod Shares
 pub mod Trimmed

@@ -1,5 +1,5 @@
 -- The share of a client never falls by what answers a connection.
-use Rattle.std.proofs.Common.{◌≡◌, ◌≤◌, ◌⊎◌, inl, inr, ℕ, arith, List, Bool, true, false, Option, None, Some, Result, Ok, Err, refl, ◌∙◌, ap}
+use Rattle.std.proofs.Common.{◌≡◌, ◌≤◌, ◌⊎◌, inl, inr, ℕ, ◌+◌, arith, List, Bool, true, false, Option, None, Some, Result, Ok, Err, refl, ◌∙◌, ap}
 use Rattle.kv_model.specs.declared.ids.Ids.{Ids}
 use Rattle.http_head.specs.Requests.{Asked}
 use Rattle.http_reply.specs.declared.front.Front.{Front}
@@ -10,20 +10,32 @@ use Rattle.http_loop.specs.declared.answering.Told.{Told}
 use Rattle.http_loop.specs.declared.answering.Told.TheVariants as told
 use Rattle.http_loop.specs.Answered.{AreMessages, Conn, IsAnswered, IsStream, IsTold, streamed}
 use Rattle.http_loop.specs.Turned.{NotBegun, Serves}
-use Rattle.http_front.specs.Engines.{Answers, AreTrimmed, AreTrimmedWhere, Finishes, Tells}
+use Rattle.kv_model.specs.declared.call.Command.{Command}
+use Rattle.engine_lock.specs.declared.engine.Submitted.{Submitted}
+use Rattle.http_front.specs.Engines.{Answers, AreTrimmed, Awaits, Does, Finishes, Looks, Tells}
 
 -- ---- one call
 
-trimmed : (c c' : Caller) → AreTrimmed c c' → c'.made ≡ c.made
-trimmed c _ (AreTrimmed.last t h d) = refl
-trimmed c c' (AreTrimmed.more t h later) = trimmed _ c' later
+trimmed : (n : ℕ) (b : Bool) (c c' : Caller) → AreTrimmed n b c c' → c'.made ≡ c.made
+trimmed n _ c _ (AreTrimmed.last t h d) = refl
+trimmed n b c c' (AreTrimmed.more t h later) = trimmed 0 b _ c' later
+trimmed n b c c' (AreTrimmed.again later) = trimmed (n + 1) b _ c' later
+trimmed _ _ c _ AreTrimmed.given_up = refl
 
-trimmed_where : (b : Bool) (c c' : Caller) → AreTrimmedWhere b c c' → c'.made ≡ c.made
-trimmed_where true c c' h = trimmed c c' h
-trimmed_where false c c' h = ap (λ (c : Caller). c.made) h
+awaits : (s : Submitted) (o : Outcome) (c c' : Caller) → Awaits s o c c' → c'.made ≡ c.made
+awaits s _ c _ (Awaits.at_once h) = refl
+awaits s _ c c' (Awaits.behind h t) = trimmed 0 true c c' t
+awaits s _ c c' (Awaits.lost h t) = trimmed 0 false c c' t
+
+does : (ids : Ids) (c c' : Caller) (command : Command) (o : Outcome) → Does ids c command o c' ⊎ Looks ids c command o c' → c.made ≤ c'.made
+does ids c c' command o (inl d) =
+    let first = awaits d.submitted o d.told c' d.awaits in
+    let e = ap (λ (c : Caller). c.made) d.given_is in
+    omega (arith, first, e)
+does ids c c' command o (inr l) = let e = ap (λ (c : Caller). c.made) l.reads.client in omega (arith, e)
 
 answers : (ids : Ids) (c c' : Caller) (a : Asked) (o : Outcome) → Answers ids c a o c' → c.made ≤ c'.made
-answers ids c c' a o (inl did) = let e = trimmed_where o.waits _ c' did.trimmed in omega (arith, e)
+answers ids c c' a o (inl did) = does ids c c' did.command o did.does
 answers ids c c' a o (inr refused) = let e = ap (λ (c : Caller). c.made) refused.same in omega (arith, e)
 
 tells : (ids : Ids) (c c' : Caller) (n : ℕ) (x : Told) → Tells ids c n x c' → c'.made ≡ c.made

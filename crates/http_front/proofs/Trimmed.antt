@@ -1,29 +1,56 @@
--- What a client is given by a command, and by the trimming that its answer waits for.
-use Rattle.std.proofs.Common.{◌≡◌, ℕ, ◌+◌, Bool, true, [], ◌∷◌, ◌++◌, Result, Ok, Err, sym, subst, true≢false}
-use Rattle.std.specs.Prelude.{IfOk, is_ok}
+-- What a client is given by the trimming that an answer waits for, and that it may have read beside the engine before.
+use Rattle.std.proofs.Common.{◌≡◌, ℕ, ◌+◌, Bool, true, false, not, refl, sym, subst}
 use Rattle.kv_model.specs.declared.call.Command.{Command}
-use Rattle.kv_model.specs.declared.refusal.Refusal.{Refusal}
+use Rattle.kv_model.specs.declared.ids.Ids.{Ids}
+use Rattle.kv_model.specs.Commands.{call_of}
 use Rattle.trim_core.specs.declared.trimmer.Trim.{Trim}
 use Rattle.json_gateway.specs.declared.outcome.Outcome.{Outcome}
-use Rattle.engine_lock.specs.Locked.{Caller, TrimsFor, plus, rise}
+use Rattle.engine_lock.specs.Locked.{Caller, Submits, TrimsFor, left, plus, rise, with_done}
 use Rattle.engine_lock.specs.declared.past.Given.TheVariants as given
 use Rattle.http_front.specs.Ends.{IsDone}
-use Rattle.http_front.specs.Engines.{AreTrimmed, AreTrimmedWhere, with_done}
+use Rattle.engine_lock.specs.declared.engine.Submitted.{Submitted}
+use Rattle.http_front.specs.Engines.{AreTrimmed, Awaits, Does, lost_answer}
 
 -- the last step, which says that trimming is done
-pub done_last : (c c' : Caller) (t k : Trim) → TrimsFor c.made t → t ≡ k → IsDone k → c' ≡ plus c (given.Trimmed t) → AreTrimmed c c'
-done_last c c' t k h e d is = subst (λ (x : Caller). AreTrimmed c x) (sym is) (AreTrimmed.last t h (subst IsDone (sym e) d))
+pub done_last : (n : ℕ) (c c' : Caller) (t k : Trim) → TrimsFor c.made t → t ≡ k → IsDone k → c' ≡ plus (left c) (given.Trimmed t)
+    → AreTrimmed n true c c'
+done_last n c c' t k h e d is = subst (λ (x : Caller). AreTrimmed n true c x) (sym is) (AreTrimmed.last t h (subst IsDone (sym e) d))
 
 -- a step before others
-pub others : (c c' : Caller) (r : Result Trim Refusal) → is_ok r ≡ true → IfOk r (λ t. TrimsFor c.made t) → IfOk r (λ t. c' ≡ plus c (given.Trimmed t))
-    → (d : Caller) → AreTrimmed c' d → AreTrimmed c d
-others c c' (Ok t) ok h e d later = AreTrimmed.more t h (subst (λ (x : Caller). AreTrimmed x d) e later)
-others c c' (Err f) ok h e d later = absurd (true≢false (sym ok))
+pub others : (n : ℕ) (b : Bool) (c c' : Caller) (t : Trim) → TrimsFor c.made t → c' ≡ plus (left c) (given.Trimmed t) → (d : Caller)
+    → AreTrimmed 0 b c' d → AreTrimmed n b c d
+others n b c c' t h e d later = AreTrimmed.more t h (subst (λ (x : Caller). AreTrimmed 0 b x d) e later)
 
--- an outcome that was given, and counted
-pub done_is : (c c' : Caller) (command : Command) (now : ℕ) (o : Outcome) → c'.made ≡ c.made + rise o.raised
-    → c'.given ≡ c.given ++ given.Done command now o ∷ [] → c' ≡ with_done c command now o
-done_is c c' command now o e f = λ i. record { made = e i; given = f i }
+-- a refusal before others
+pub refusal : (n : ℕ) (b : Bool) (c c' : Caller) → c' ≡ left c → (d : Caller) → AreTrimmed (n + 1) b c' d → AreTrimmed n b c d
+refusal n b c c' e d later = AreTrimmed.again (subst (λ (x : Caller). AreTrimmed (n + 1) b x d) e later)
 
-pub trimmed_where : (b : Bool) (c d e : Caller) → b ≡ true → c ≡ d → AreTrimmed c e → AreTrimmedWhere b d e
-trimmed_where b c d e is same h = subst (λ (b : Bool). AreTrimmedWhere b d e) (sym is) (subst (λ (x : Caller). AreTrimmed x e) same h)
+-- the refusal by which it is given up
+pub last_refusal : (n : ℕ) (c c' : Caller) → c' ≡ left c → n + 1 ≡ 1000 → AreTrimmed n false c c'
+last_refusal n c c' e is = refusal n false c c' e c' (subst (λ (k : ℕ). AreTrimmed k false c' c') (sym is) AreTrimmed.given_up)
+
+-- what a client does is the same after a reading that it has left
+pub does_left : (ids : Ids) (c d e : Caller) (command : Command) (o : Outcome) → left d ≡ left c → Does ids d command o e → Does ids c command o e
+does_left ids c d e command o same x = record {
+  now = x.now;
+  submitted = x.submitted;
+  told = x.told;
+  submits = subst (λ (k : Caller). Submits ids k x.now (call_of command) x.submitted x.told) same x.submits;
+  given_is = subst (λ (k : Caller). x.told ≡ record (with_done k (given.Done command x.now x.submitted.outcome) (rise x.submitted.outcome.raised))
+      { reader = x.told.reader }) same x.given_is;
+  awaits = x.awaits;
+}
+
+-- ---- an answer that waits for it, or does not
+
+pub off : (b : Bool) → not b ≡ true → b ≡ false
+off true e = let bad : false ≡ true = e in cc
+off false e = refl
+
+pub on : (b : Bool) → not b ≡ false → b ≡ true
+on true e = refl
+on false e = let bad : true ≡ false = e in cc
+
+pub awaits_lost : (s : Submitted) (o : Outcome) (c c' : Caller) → s.outcome.waits ≡ true → o ≡ lost_answer s → AreTrimmed 0 false c c'
+    → Awaits s o c c'
+awaits_lost s o c c' h e t = subst (λ (x : Outcome). Awaits s x c c') (sym e) (Awaits.lost h t)

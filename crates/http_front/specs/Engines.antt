@@ -1,46 +1,123 @@
--- What an engine answers a connection, on behalf of one of its clients: by the list of all that it gave that client.
-use Rattle.std.specs.Prelude.{◌≡◌, ◌⊎◌, ℕ, ◌+◌, Bool, true, false, [], ◌∷◌, ◌++◌, Option, None, Some, Ok}
+-- What an engine answers a connection, on behalf of one of its clients: by the list of all that it gave that client, and
+-- by what the client read beside it.
+use Rattle.std.specs.Prelude.{◌≡◌, ◌⊎◌, ℕ, ◌+◌, Bool, true, false, [], ◌∷◌, ◌++◌, List, Option, None, Some, Result, Ok, Err, ⊤}
+use mathlib.Core.List.{IsPrefix}
 use Rattle.kv_model.specs.declared.ids.Ids.{Ids}
 use Rattle.kv_model.specs.declared.call.Command.{Command}
+use Rattle.kv_model.specs.declared.call.Command.TheVariants as commands
+use Rattle.kv_model.specs.declared.call.RangeQuery.{RangeQuery}
+use Rattle.kv_model.specs.declared.refusal.Refusal.{Refusal}
+use Rattle.kv_model.specs.declared.refusal.Refusal.TheVariants.{Memory}
+use Rattle.kv_model.specs.Answers.{Response, fault_of, refused, success_response}
 use Rattle.kv_model.specs.Commands.{call_of}
+use Rattle.kv_model.specs.Feed.{Published}
+use Rattle.kv_model.specs.History.{end_of}
+use Rattle.kv_model.specs.Ranges as ranges
 use Rattle.kv_model.specs.Requests.{request_of}
+use Rattle.kv_model.specs.Told as model
+use Rattle.store_laws.specs.Snapshots.{Untrimmed, untrimmed_of}
 use Rattle.trim_core.specs.declared.trimmer.Trim.{Trim}
+use Rattle.range_view.specs.declared.reply.RangeReply.{RangeReply}
+use Rattle.range_view.specs.Replies.{reply_view}
 use Rattle.gateway_read.specs.declared.bad.Bad.{Bad}
 use Rattle.gateway_read.specs.Reading.{Fails}
 use Rattle.http_head.specs.Requests.{Asked}
 use Rattle.json_gateway.specs.declared.outcome.Message.TheVariants as message
 use Rattle.json_gateway.specs.declared.outcome.Outcome.{Outcome}
+use Rattle.json_gateway.specs.declared.outcome.Settled.{Settled}
+use Rattle.json_gateway.specs.declared.outcome.Settled.TheVariants as settled
 use Rattle.json_gateway.specs.Endings.{Refuses, fault_of_reading, is_want}
-use Rattle.engine_lock.specs.Locked.{Caller, plus, rise}
+use Rattle.json_gateway.specs.Outcomes.{response_of}
+use Rattle.engine_lock.specs.Locked.{Caller, left, plus, rise, with_done}
 use Rattle.engine_lock.specs.Locked as lock
+use Rattle.engine_lock.specs.declared.engine.Submitted.{Submitted}
 use Rattle.engine_lock.specs.declared.past.Given.TheVariants as given
 use Rattle.http_loop.specs.declared.answering.Told.{Told}
 use Rattle.http_loop.specs.declared.answering.Told.TheVariants as told
 use Rattle.http_loop.specs.Connections.{path_asked}
 use Rattle.http_front.specs.Ends.{IsDone}
 
--- trimming steps were made for a client, up to one that says that trimming is done
-pub data AreTrimmed : Caller → Caller → Type 0 where
-  last : {c : Caller} (t : Trim) → lock.TrimsFor c.made t → IsDone t → AreTrimmed c (plus c (given.Trimmed t))
-  more : {c c' : Caller} (t : Trim) → lock.TrimsFor c.made t → AreTrimmed (plus c (given.Trimmed t)) c' → AreTrimmed c c'
+-- ---- trimming, for an answer that waits for it
 
--- they were made where an answer waits for them
-abbrev pub AreTrimmedWhere : Bool → Caller → Caller → Type 0
-AreTrimmedWhere false c c' = c' ≡ c
-AreTrimmedWhere true c c' = AreTrimmed c c'
+-- Trimming steps were made for a client, of which the last so many were refused for want of memory. They end with one
+-- that says that trimming is done; or it was given up, after 1,000 refusals in a row.
+pub data AreTrimmed : ℕ → Bool → Caller → Caller → Type 0 where
+  last : {n : ℕ} {c : Caller} (t : Trim) → lock.TrimsFor c.made t → IsDone t
+      → AreTrimmed n true c (plus (left c) (given.Trimmed t))
+  more : {n : ℕ} {b : Bool} {c c' : Caller} (t : Trim) → lock.TrimsFor c.made t
+      → AreTrimmed 0 b (plus (left c) (given.Trimmed t)) c' → AreTrimmed n b c c'
+  again : {n : ℕ} {b : Bool} {c c' : Caller} → AreTrimmed (n + 1) b (left c) c' → AreTrimmed n b c c'
+  given_up : {c : Caller} → AreTrimmed 1000 false c c
 
--- the client was given this outcome of a command, and counts it
-abbrev pub with_done : Caller → Command → ℕ → Outcome → Caller
-with_done c command now o = record { made = c.made + rise o.raised; given = c.given ++ given.Done command now o ∷ [] }
+-- the store was changed, and the answer is lost
+abbrev pub lost_answer : Submitted → Outcome
+lost_answer s = record {
+  settled = settled.Lost s.revision;
+  raised = s.outcome.raised;
+  watch = s.outcome.watch;
+  waits = false;
+}
 
--- A request asked for a command, which was submitted once, for that client, at some moment; where its answer waits for
--- trimming, that was done behind it.
+-- the outcome of a command, once the trimming that its answer waits for is done; where that was given up it is lost
+pub data Awaits : Submitted → Outcome → Caller → Caller → Type 0 where
+  at_once : {s : Submitted} {c : Caller} → s.outcome.waits ≡ false → Awaits s s.outcome c c
+  behind : {s : Submitted} {c c' : Caller} → s.outcome.waits ≡ true → AreTrimmed 0 true c c' → Awaits s s.outcome c c'
+  lost : {s : Submitted} {c c' : Caller} → s.outcome.waits ≡ true → AreTrimmed 0 false c c' → Awaits s (lost_answer s) c c'
+
+-- ---- a command
+
+-- It was submitted once, for that client, at some moment; where its answer waits for trimming, that was done behind it.
+pub record Does (ids : Ids) (c : Caller) (command : Command) (o : Outcome) (c' : Caller) : Type 0 where
+  pub now : ℕ
+  pub submitted : Submitted
+  pub told : Caller
+  pub submits : lock.Submits ids (left c) now (call_of command) submitted told
+  pub given_is : told ≡ record (with_done (left c) (given.Done command now submitted.outcome) (rise submitted.outcome.raised))
+      { reader = told.reader }
+  pub awaits : Awaits submitted o told c'
+
+-- the model's answer to a Range over a whole history, and its response
+abbrev pub answer_over : Untrimmed → RangeQuery → Result ranges.RangeReply Refusal
+answer_over u q = ranges.range_answer u.versions u.compacted u.revision (end_of u.revision) q
+
+abbrev pub response_over : Ids → Result ranges.RangeReply Refusal → Response
+response_over ids (Ok r) = success_response ids (record { reply = model.Reply.range r; revision = r.revision })
+response_over ids (Err e) = refused (fault_of e)
+
+-- a Range was answered so, or memory was wanting
+abbrev pub IsAnswer : Result ranges.RangeReply Refusal → Result RangeReply Refusal → Type 0
+IsAnswer told (Ok r) = told ≡ Ok (reply_view r)
+IsAnswer told (Err e) = (e ≡ Memory) ⊎ (told ≡ Err e)
+
+-- a response was given, or memory was wanting
+abbrev pub SettlesAs : Response → Settled → Type 0
+SettlesAs told (settled.Reply r) = response_of r ≡ told
+SettlesAs told settled.Memory = ⊤
+SettlesAs told (settled.Lost n) = ⊥
+
+-- A client read beside the engine, and left its reading: the answer is that of some list of published operations which
+-- begins with all that the client has read and was told of, and which it knows of from then on.
+pub record Reads (ids : Ids) (c : Caller) (q : RangeQuery) (o : Outcome) (c' : Caller) : Type 0 where
+  pub log : List Published
+  pub begins : IsPrefix c.reader.known log
+  pub settles : SettlesAs (response_over ids (answer_over (untrimmed_of log) q)) o.settled
+  pub bare : (o.raised ≡ None) × (o.watch ≡ None)
+  pub client : c' ≡ record c { reader = record c.reader { known = log; inside = false } }
+
+-- It is a Range that may be read beside the engine, and it was.
+pub record Looks (ids : Ids) (c : Caller) (command : Command) (o : Outcome) (c' : Caller) : Type 0 where
+  pub query : RangeQuery
+  pub is : command ≡ commands.Range query
+  pub serializable : query.serializable ≡ true
+  pub reads : Reads ids c query o c'
+
+-- ---- a request
+
+-- A request asked for a command, which was done.
 pub record Did (ids : Ids) (c : Caller) (a : Asked) (o : Outcome) (c' : Caller) : Type 0 where
   pub command : Command
-  pub now : ℕ
   pub is : request_of (path_asked a) a.body ≡ Ok (call_of command)
-  pub submits : lock.Submits ids c.made now (call_of command) o
-  pub trimmed : AreTrimmedWhere o.waits (with_done c command now o) c'
+  pub does : Does ids c command o c' ⊎ Looks ids c command o c'
 
 -- A request asked for none, and is refused in the words of its fault; the engine gave nothing.
 pub record Refused (c : Caller) (a : Asked) (o : Outcome) (c' : Caller) : Type 0 where
@@ -53,13 +130,15 @@ pub record Refused (c : Caller) (a : Asked) (o : Outcome) (c' : Caller) : Type 0
 abbrev pub Answers : Ids → Caller → Asked → Outcome → Caller → Type 0
 Answers ids c a o c' = Did ids c a o c' ⊎ Refused c a o c'
 
--- A stream is told what the engine told its watch, from a core that had all changes that the client had made. It ends where there is no such watch, or its client has left.
+-- A stream is told what the engine told its watch, from a core that had all changes that the client had made. It ends
+-- where there is no such watch, or its client has left.
 abbrev pub Tells : Ids → Caller → ℕ → Told → Caller → Type 0
-Tells ids c n (told.Text x) c' = lock.TellsTo ids c.made n (message.Text x) × (c' ≡ plus c (given.Told n (message.Text x)))
-Tells ids c n told.End c' = (c' ≡ plus c (given.Told n message.NoWatch)) ⊎ (c' ≡ c)
+Tells ids c n (told.Text x) c' = lock.TellsTo ids c.made n (message.Text x)
+    × (c' ≡ plus (left c) (given.Told n (message.Text x)))
+Tells ids c n told.End c' = (c' ≡ plus (left c) (given.Told n message.NoWatch)) ⊎ (c' ≡ left c)
 Tells ids c n told.Memory c' = ⊥
 
 -- Behind a reply the watch that its request made is ended.
 abbrev pub Finishes : Caller → Option ℕ → Caller → Type 0
 Finishes c None c' = c' ≡ c
-Finishes c (Some n) c' = (stood : Bool) × lock.DropsFor c.made n stood × (c' ≡ plus c (given.Dropped n stood))
+Finishes c (Some n) c' = (stood : Bool) × lock.DropsFor c.made n stood × (c' ≡ plus (left c) (given.Dropped n stood))

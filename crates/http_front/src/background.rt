@@ -4,7 +4,7 @@ ghost use Rattle.engine_lock.specs.Locked.{Trims};
 ghost use Rattle.http_front.specs.Ends.{IsDone};
 
 use crate::gate::Clock;
-use engine_lock::{Client, Engine, EngineName, Feed};
+use engine_lock::{Client, Engine, EngineName};
 use json_gateway::{Expiry, Trim};
 use std::sync::Wait;
 use std::sync::atomic::{AtomicBool, Ordering};
@@ -18,9 +18,9 @@ const TRIM_REST: u64 = 20;
 const EXPIRY_REST: u64 = 100;
 
 /// Makes trimming steps until the server has ended, and rests where one says that it is done.
-pub(crate) fn keep_trimming<L: EngineName, F: Feed, R: Wait + time::Clock>(
+pub(crate) fn keep_trimming<L: EngineName, R: Wait + time::Clock>(
     rt: &R,
-    engine: &Engine<L, F>,
+    engine: &Engine<L>,
     ended: &AtomicBool,
 ) {
     for _ in rt.forever() {
@@ -34,7 +34,7 @@ pub(crate) fn keep_trimming<L: EngineName, F: Feed, R: Wait + time::Clock>(
 }
 
 /// Makes a trimming step, and tells of it where it says that trimming is done.
-fn make_trim_step<L: EngineName, F: Feed, R: Wait>(rt: &R, engine: &Engine<L, F>) -> Option<Trim>
+fn make_trim_step<L: EngineName, R: Wait>(rt: &R, engine: &Engine<L>) -> Option<Trim>
     ensures { IfSome result (λ trim. Trims trim × IsDone trim) }
 {
     match engine.trim_once(rt) {
@@ -48,13 +48,13 @@ fn make_trim_step<L: EngineName, F: Feed, R: Wait>(rt: &R, engine: &Engine<L, F>
 
 /// Makes steps of expiry until the server has ended, and rests where one finds no lease that is
 /// due, or is refused. Hands the client back, with the changes that it made.
-pub(crate) fn keep_expiring<L: EngineName, F: Feed, C: Clock, R: Wait + time::Clock>(
+pub(crate) fn keep_expiring<L: EngineName, C: Clock, R: Wait + time::Clock>(
     rt: &R,
-    engine: &Engine<L, F>,
+    engine: &Engine<L>,
     clock: &C,
     ended: &AtomicBool,
-    client: Client<L, F>,
-) -> Client<L, F> {
+    client: Client<L>,
+) -> Client<L> {
     let mut client = client;
     for _ in rt.forever() {
         if ended.load(Ordering::SeqCst) {
@@ -68,11 +68,11 @@ pub(crate) fn keep_expiring<L: EngineName, F: Feed, C: Clock, R: Wait + time::Cl
 }
 
 /// Makes a step of expiry, and tells whether a lease has ended by it.
-fn make_expiry_step<L: EngineName, F: Feed, C: Clock, R: Wait>(
+fn make_expiry_step<L: EngineName, C: Clock, R: Wait>(
     rt: &R,
-    engine: &Engine<L, F>,
+    engine: &Engine<L>,
     clock: &C,
-    client: &mut Client<L, F>,
+    client: &mut Client<L>,
 ) -> bool
     ensures { client.old.made ≤ client.new.made }
 {

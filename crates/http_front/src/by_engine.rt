@@ -1,15 +1,15 @@
 //! An engine answers a connection, on behalf of one of its clients.
-ghost use Rattle.std.specs.Prelude.{◌≡◌, None};
-ghost use Rattle.kv_model.specs.Commands.{call_of};
-ghost use Rattle.engine_lock.specs.Locked.{Submits};
+ghost use Rattle.std.specs.Prelude.{◌≡◌, ◌⊎◌, None};
 ghost use Rattle.json_gateway.specs.Endings.{Refuses, fault_of_reading, is_want};
 ghost use Rattle.http_front.specs.Engines as engines;
+ghost use Rattle.http_front.specs.Engines.{AreTrimmed, Awaits, Does, Looks, lost_answer};
 
+use crate::beside::looked;
 use crate::gate::{Clock, Gate};
-use engine_lock::{Client, Engine, EngineName, Feed};
+use engine_lock::{Client, Engine, EngineName, Submitted};
 use http_input::Request;
 use http_loop::{Answering, Told, command_path};
-use json_gateway::{Bad, Message, Outcome, Trim, dismissed, read};
+use json_gateway::{Bad, Message, Outcome, Settled, Trim, dismissed, read};
 use kv_model::call::Command;
 use std::alloc::Global;
 use std::sync::Wait;
@@ -19,21 +19,23 @@ use std::{thread, time};
 /// How long a watch rests once it is told nothing, in milliseconds.
 const WATCH_REST: u64 = 20;
 
+/// After so many refusals of a trimming step in a row the answer that waits for it is lost.
+const MOST_REFUSALS: u64 = 1000;
+
 /// What answers a connection: an engine, which others change too, for one of its clients.
 #[derive(Drop)]
-pub(crate) struct ByEngine<'e, L: EngineName, F: Feed, G, C, R> {
+pub(crate) struct ByEngine<'e, L: EngineName, G, C, R> {
     pub(crate) rt: &'e R,
-    pub(crate) engine: &'e Engine<L, F>,
+    pub(crate) engine: &'e Engine<L>,
     pub(crate) gate: &'e G,
     pub(crate) clock: &'e C,
     /// The number of the connection.
     pub(crate) call: u64,
 }
 
-impl<'e, L, F, G, C, R> Answering<Client<L, F>> for ByEngine<'e, L, F, G, C, R>
+impl<'e, L, G, C, R> Answering<Client<L>> for ByEngine<'e, L, G, C, R>
 where
     L: EngineName,
-    F: Feed,
     G: Gate,
     C: Clock,
     R: Wait + time::Clock,
@@ -48,18 +50,21 @@ where
         self.gate.awaits(self.call);
     }
 
-    /// Submits the command that a request asks for, once the gate lets it, at the clock's moment.
-    fn answer(&self, alloc: Global, state: &mut Client<L, F>, request: &Request<'_>) -> Outcome {
+    /// Does the command that a request asks for, once the gate lets it, at the clock's moment.
+    fn answer(&self, alloc: Global, state: &mut Client<L>, request: &Request<'_>) -> Outcome {
         self.gate.before(self.call);
         match read(alloc, command_path(request), request.body) {
-            Ok(command) => performed(self.rt, self.engine, state, self.clock.now(), &command),
+            Ok(command) => {
+                let now = self.clock.now();
+                done(self.rt, alloc, self.engine, state, now, &command)
+            }
             Err(bad) => refused(alloc, bad),
         }
     }
 
     /// The next message of a watch. It rests where there is none, or where no memory was found for
     /// it, and then the stream ends where the client has left.
-    fn tell(&self, _alloc: Global, state: &mut Client<L, F>, number: u64) -> Told {
+    fn tell(&self, _alloc: Global, state: &mut Client<L>, number: u64) -> Told {
         for _ in self.rt.forever() {
             match self.engine.deliver_for(self.rt, state, number) {
                 Ok(Message::Text(text)) => return Told::Text(text),
@@ -74,7 +79,7 @@ where
         unreachable!()
     }
 
-    fn finish(&self, state: &mut Client<L, F>, watch: Option<u64>) {
+    fn finish(&self, state: &mut Client<L>, watch: Option<u64>) {
         if let Some(number) = watch {
             let _ = self.engine.drop_watch_for(self.rt, state, number);
         }
@@ -96,36 +101,84 @@ fn refused(alloc: Global, bad: Bad) -> Outcome
     }
 }
 
-/// Does a command, and the trimming that its answer waits for.
-fn performed<L: EngineName, F: Feed, R: Wait>(
+/// Does a command: reads it beside the engine where that may be, and else submits it.
+fn done<L: EngineName, R: Wait>(
     rt: &R,
-    engine: &Engine<L, F>,
-    client: &mut Client<L, F>,
+    alloc: Global,
+    engine: &Engine<L>,
+    client: &mut Client<L>,
     now: u64,
     command: &Command,
 ) -> Outcome
-    ensures submits { Submits engine.now client.old.made now (call_of command.now) result }
-    ensures trimmed { engines.AreTrimmedWhere result.waits
-        (engines.with_done client.old command.now now result) client.new }
+    ensures { Does engine.now client.old command.now result client.new
+        ⊎ Looks engine.now client.old command.now result client.new }
 {
-    let outcome = engine.submit(rt, client, now, command).outcome;
-    if outcome.waits {
-        trim_all(rt, engine, client);
+    if let Some(outcome) = looked(alloc, client, command, engine.ids()) {
+        return outcome;
     }
-    outcome
+    performed(rt, engine, client, now, command)
 }
 
-/// Makes trimming steps until one says that trimming is done.
-fn trim_all<L: EngineName, F: Feed, R: Wait>(
+/// Submits a command, and does the trimming that its answer waits for.
+fn performed<L: EngineName, R: Wait>(
     rt: &R,
-    engine: &Engine<L, F>,
-    client: &mut Client<L, F>,
-)
-    ensures { engines.AreTrimmed client.old client.new }
+    engine: &Engine<L>,
+    client: &mut Client<L>,
+    now: u64,
+    command: &Command,
+) -> Outcome
+    ensures { Does engine.now client.old command.now result client.new }
 {
+    let submitted = engine.submit(rt, client, now, command);
+    awaited(rt, engine, client, submitted)
+}
+
+/// The outcome of a command, once the trimming is done that its answer waits for.
+fn awaited<L: EngineName, R: Wait>(
+    rt: &R,
+    engine: &Engine<L>,
+    client: &mut Client<L>,
+    submitted: Submitted,
+) -> Outcome
+    ensures { Awaits submitted result client.old client.new }
+{
+    if !submitted.outcome.waits {
+        return submitted.outcome;
+    }
+    if trim_all(rt, engine, client) {
+        return submitted.outcome;
+    }
+    lost(submitted)
+}
+
+/// The outcome of a command that changed the store, and whose answer is lost.
+fn lost(submitted: Submitted) -> Outcome
+    ensures { result ≡ lost_answer submitted }
+{
+    Outcome {
+        settled: Settled::Lost(submitted.revision),
+        raised: submitted.outcome.raised,
+        watch: submitted.outcome.watch,
+        waits: false,
+    }
+}
+
+/// Makes trimming steps until one says that trimming is done, and says that it is. One that is
+/// refused for memory is tried again; after 1,000 refusals in a row it is given up.
+fn trim_all<L: EngineName, R: Wait>(rt: &R, engine: &Engine<L>, client: &mut Client<L>) -> bool
+    ensures { AreTrimmed 0 result client.old client.new }
+{
+    let mut refusals = 0;
     for _ in rt.forever() {
-        if let Ok(Trim::Done(_)) = engine.trim_once_for(rt, client) {
-            return;
+        match engine.trim_once_for(rt, client) {
+            Ok(Trim::Done(_)) => return true,
+            Ok(_) => refusals = 0,
+            Err(_) => {
+                refusals += 1;
+                if refusals == MOST_REFUSALS {
+                    return false;
+                }
+            }
         }
     }
     unreachable!()

@@ -11,7 +11,7 @@ ghost use Rattle.http_front.specs.Engines.{Answers, Finishes, Tells};
 
 use crate::by_engine::ByEngine;
 use crate::gate::{Clock, Gate};
-use engine_lock::{Client, Engine, EngineName, Feed};
+use engine_lock::{Client, Engine, EngineName};
 use http_loop::serve_all;
 use http_reply::{Counted, Front};
 use std::alloc::Global;
@@ -19,14 +19,15 @@ use std::io::{Read, Write};
 use std::sync::Wait;
 use std::time;
 
-/// Answers the requests of a connection one after the other, each by one `submit` to the engine,
-/// and gives the number of its replies. It ends at the input's end before a request, after a
-/// request with `Connection: close`, and after a watch.
+/// Answers the requests of a connection one after the other, each by one `submit` to the engine, or,
+/// a serializable Range, by a reading beside it, and gives the number of its replies. It ends at the
+/// input's end before a request, after a request with `Connection: close`, and after a watch.
 ///
 /// What it writes is, in order, the texts of exactly the outcomes that the engine gave this client,
-/// one for each request of the bytes that were read: none is skipped and none answered twice; what
-/// is no command is refused without the engine; a physical Compact is answered behind a step that
-/// said that trimming is done; a stream is the message that its watch was created and then what the
+/// or of what the client read beside it, one for each request of the bytes that were read: none is
+/// skipped and none answered twice; what is no command is refused without the engine; a physical
+/// Compact is answered behind a step that said that trimming is done, or is lost after 1,000
+/// refusals in a row; a stream is the message that its watch was created and then what the
 /// engine told that watch, which is ended behind it (`specs/Engines.antt`, over `Conn` of
 /// `http_loop`). There is nothing besides. Where the reader does not tell its bytes, as a socket,
 /// this is so of some bytes.
@@ -37,11 +38,11 @@ use std::time;
 /// then that its client has left.
 ///
 /// Fails and costs as [`serve_all`] does, which it is over an engine.
-pub fn work<L, F, G, C, R, In, Out>(
+pub fn work<L, G, C, R, In, Out>(
     rt: &R,
     alloc: Global,
-    engine: &Engine<L, F>,
-    client: &mut Client<L, F>,
+    engine: &Engine<L>,
+    client: &mut Client<L>,
     gate: &G,
     clock: &C,
     call: u64,
@@ -50,7 +51,6 @@ pub fn work<L, F, G, C, R, In, Out>(
 ) -> Result<u64, Front>
 where
     L: EngineName,
-    F: Feed,
     G: Gate,
     C: Clock,
     R: Wait + time::Clock,

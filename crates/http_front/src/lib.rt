@@ -4,7 +4,8 @@
 //! [`serve_alone`] answers a connection over a core: what is written is what the model of the whole
 //! history answers the bytes that were read. [`work`] answers one over an engine that other threads
 //! change too: it writes the texts of exactly the outcomes that the engine gave its client, one for
-//! each request that was read, and nothing besides (`specs/Engines.antt`). Both are the one loop of
+//! each request that was read, or of what that client read beside the engine, and nothing besides
+//! (`specs/Engines.antt`). Both are the one loop of
 //! `http_loop`. [`pool`] accepts the connections of a listener and serves each on a thread of its
 //! own by [`work`], beside a thread that trims and one that ends leases; when all have ended it
 //! closes the engine and gives its core, which stands for some world of the model, or the fault is
@@ -22,6 +23,7 @@
 #![tactic(auto)]
 
 mod background;
+mod beside;
 mod by_engine;
 mod connection;
 mod door;

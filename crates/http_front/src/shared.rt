@@ -1,15 +1,15 @@
 //! What the threads of a server share.
 
 use crate::door::Door;
-use engine_lock::{Engine, EngineName, Feed};
+use engine_lock::{Engine, EngineName};
 use std::net::TcpListener;
 use std::sync::Mutex;
 use std::sync::atomic::AtomicBool;
 
 /// What the threads of a server share.
 #[derive(Drop)]
-pub(crate) struct Shared<'s, L: EngineName, F: Feed, G, C> {
-    pub(crate) engine: &'s Engine<L, F>,
+pub(crate) struct Shared<'s, L: EngineName, G, C> {
+    pub(crate) engine: &'s Engine<L>,
     pub(crate) gate: &'s G,
     pub(crate) clock: &'s C,
     pub(crate) listener: &'s TcpListener,
@@ -19,10 +19,10 @@ pub(crate) struct Shared<'s, L: EngineName, F: Feed, G, C> {
     pub(crate) ended: AtomicBool,
 }
 
-impl<'s, L: EngineName, F: Feed, G, C> Shared<'s, L, F, G, C> {
+impl<'s, L: EngineName, G, C> Shared<'s, L, G, C> {
     /// Nothing has begun. At most `connections` come in.
     pub(crate) fn new(
-        engine: &'s Engine<L, F>,
+        engine: &'s Engine<L>,
         gate: &'s G,
         clock: &'s C,
         listener: &'s TcpListener,

@@ -1,13 +1,13 @@
 //! The threads of a server.
 ghost use Rattle.std.specs.Prelude.{◌≡◌, ◌+◌, map, sum, length, None, Err, IfOk, IfErr, IfSome};
-ghost use Rattle.engine_lock.specs.Locked.{IsStanding};
+ghost use Rattle.engine_lock.specs.Fits.{IsStanding};
 ghost use Rattle.http_front.specs.Ends.{IsOfServer, fault_of};
 
 use crate::background::{keep_expiring, keep_trimming};
 use crate::gate::{Clock, Gate};
 use crate::shared::Shared;
 use crate::workers::{Worked, keep_working};
-use engine_lock::{Client, Engine, EngineName, Feed};
+use engine_lock::{Client, Engine, EngineName};
 use http_reply::Front;
 use request_core::store::Core;
 use std::alloc::Global;
@@ -40,10 +40,10 @@ use std::{thread, time};
 ///   others went on;
 /// - `Front::Unclosed`, where the engine has no place for a client of each worker and one more, or
 ///   where it made clients beside these, which cannot come back.
-pub fn pool<L, F, G, C, R>(
+pub fn pool<L, G, C, R>(
     rt: &R,
     alloc: Global,
-    engine: Engine<L, F>,
+    engine: Engine<L>,
     gate: &G,
     clock: &C,
     listener: &TcpListener,
@@ -52,7 +52,6 @@ pub fn pool<L, F, G, C, R>(
 ) -> Result<Core, Front>
 where
     L: EngineName + Send + Sync,
-    F: Feed + Send + Sync,
     G: Gate + Sync,
     C: Clock + Sync,
     R: Wait + Threads + time::Clock + Sync,
@@ -69,7 +68,7 @@ where
     let shared = Shared::new(&engine, gate, clock, listener, connections);
     let Served { clients, trouble } = run_threads(rt, alloc, &shared, clients, expirer);
     drop(shared);
-    closed(engine, clients, trouble)
+    closed(rt, engine, clients, trouble)
 }
 
 /// Why a server ends before its connections do.
@@ -96,12 +95,12 @@ fn front_of(trouble: Trouble) -> Front
 }
 
 /// So many clients.
-fn clients_of<L: EngineName, F: Feed, R: Wait>(
+fn clients_of<L: EngineName, R: Wait>(
     rt: &R,
     alloc: Global,
-    engine: &Engine<L, F>,
+    engine: &Engine<L>,
     count: u64,
-) -> Result<Vec<Client<L, F>>, Front>
+) -> Result<Vec<Client<L>>, Front>
     ensures count { IfOk result (λ clients. length clients.items ≡ count) }
     ensures fault { IfErr result IsOfServer }
 {
@@ -119,9 +118,10 @@ fn clients_of<L: EngineName, F: Feed, R: Wait>(
 
 /// Closes an engine whose threads have ended, and gives its core: it has all changes of the
 /// clients.
-fn closed<L: EngineName, F: Feed>(
-    engine: Engine<L, F>,
-    clients: Vec<Client<L, F>>,
+fn closed<L: EngineName, R: Wait>(
+    rt: &R,
+    engine: Engine<L>,
+    clients: Vec<Client<L>>,
     trouble: Option<Trouble>,
 ) -> Result<Core, Front>
     ensures stands { IfOk result (λ core. IsStanding core) }
@@ -130,7 +130,7 @@ fn closed<L: EngineName, F: Feed>(
     ensures told { IfSome trouble (λ t. result ≡ Err (fault_of t)) }
     ensures fault { IfErr result IsOfServer }
 {
-    match (engine.close(clients), trouble) {
+    match (engine.close(rt, clients), trouble) {
         (_, Some(trouble)) => Err(front_of(trouble)),
         (Ok(core), None) => Ok(core),
         (Err(_), None) => Err(Front::Unclosed),
@@ -139,22 +139,21 @@ fn closed<L: EngineName, F: Feed>(
 
 /// What is left when the threads have ended: the clients that came back, and what went wrong.
 #[derive(Drop)]
-struct Served<L: EngineName, F: Feed> {
-    clients: Vec<Client<L, F>>,
+struct Served<L: EngineName> {
+    clients: Vec<Client<L>>,
     trouble: Option<Trouble>,
 }
 
 /// Starts the threads, and joins them.
-fn run_threads<L, F, G, C, R>(
+fn run_threads<L, G, C, R>(
     rt: &R,
     alloc: Global,
-    shared: &Shared<'_, L, F, G, C>,
-    clients: Vec<Client<L, F>>,
-    expirer: Client<L, F>,
-) -> Served<L, F>
+    shared: &Shared<'_, L, G, C>,
+    clients: Vec<Client<L>>,
+    expirer: Client<L>,
+) -> Served<L>
 where
     L: EngineName + Send + Sync,
-    F: Feed + Send + Sync,
     G: Gate + Sync,
     C: Clock + Sync,
     R: Wait + Threads + time::Clock + Sync,
@@ -165,17 +164,16 @@ where
 }
 
 /// Serves, with a thread that trims until that has ended.
-fn serve_trimmed<'s, E, L, F, G, C, R>(
+fn serve_trimmed<'s, E, L, G, C, R>(
     scope: &Scope<'s, E>,
     rt: &'s R,
     alloc: Global,
-    shared: &'s Shared<'s, L, F, G, C>,
-    clients: Vec<Client<L, F>>,
-    expirer: Client<L, F>,
-) -> Served<L, F>
+    shared: &'s Shared<'s, L, G, C>,
+    clients: Vec<Client<L>>,
+    expirer: Client<L>,
+) -> Served<L>
 where
     L: EngineName + Send + Sync + 's,
-    F: Feed + Send + Sync + 's,
     G: Gate + Sync + 's,
     C: Clock + Sync + 's,
     R: Wait + Threads + time::Clock + Sync + 's,
@@ -198,18 +196,17 @@ where
 
 /// Serves, with a thread that ends leases until that has ended, and then lets the threads beside it
 /// end. `trims` tells whether the one that trims was started.
-fn serve_expiring<'s, E, L, F, G, C, R>(
+fn serve_expiring<'s, E, L, G, C, R>(
     scope: &Scope<'s, E>,
     rt: &'s R,
     alloc: Global,
-    shared: &'s Shared<'s, L, F, G, C>,
-    clients: Vec<Client<L, F>>,
-    expirer: Client<L, F>,
+    shared: &'s Shared<'s, L, G, C>,
+    clients: Vec<Client<L>>,
+    expirer: Client<L>,
     trims: bool,
-) -> Served<L, F>
+) -> Served<L>
 where
     L: EngineName + Send + Sync + 's,
-    F: Feed + Send + Sync + 's,
     G: Gate + Sync + 's,
     C: Clock + Sync + 's,
     R: Wait + Threads + time::Clock + Sync + 's,
@@ -229,17 +226,16 @@ where
 
 /// Starts a worker for each client, and tells why one has none. No connection comes in before all
 /// are started, and none where one is not, or where those beside them were not all started.
-fn start_all<'s, E, L, F, G, C, R>(
+fn start_all<'s, E, L, G, C, R>(
     scope: &Scope<'s, E>,
     rt: &'s R,
     alloc: Global,
-    shared: &'s Shared<'s, L, F, G, C>,
-    clients: Vec<Client<L, F>>,
+    shared: &'s Shared<'s, L, G, C>,
+    clients: Vec<Client<L>>,
     all: bool,
-) -> (Vec<JoinHandle<Worked<L, F>>>, Option<Trouble>)
+) -> (Vec<JoinHandle<Worked<L>>>, Option<Trouble>)
 where
     L: EngineName + Send + Sync + 's,
-    F: Feed + Send + Sync + 's,
     G: Gate + Sync + 's,
     C: Clock + Sync + 's,
     R: Wait + Threads + time::Clock + Sync + 's,
@@ -255,14 +251,13 @@ where
 }
 
 /// Starts the thread that trims; `None` where no thread could be started.
-fn start_trimming<'s, E, L, F, G, C, R>(
+fn start_trimming<'s, E, L, G, C, R>(
     scope: &Scope<'s, E>,
     rt: &'s R,
-    shared: &'s Shared<'s, L, F, G, C>,
+    shared: &'s Shared<'s, L, G, C>,
 ) -> Option<JoinHandle<()>>
 where
     L: EngineName + Send + Sync + 's,
-    F: Feed + Send + Sync + 's,
     G: Sync + 's,
     C: Sync + 's,
     R: Wait + time::Clock + Sync + 's,
@@ -276,15 +271,14 @@ where
 }
 
 /// Starts the thread that ends leases; `None` where no thread could be started.
-fn start_expiring<'s, E, L, F, G, C, R>(
+fn start_expiring<'s, E, L, G, C, R>(
     scope: &Scope<'s, E>,
     rt: &'s R,
-    shared: &'s Shared<'s, L, F, G, C>,
-    client: Client<L, F>,
-) -> Option<JoinHandle<Client<L, F>>>
+    shared: &'s Shared<'s, L, G, C>,
+    client: Client<L>,
+) -> Option<JoinHandle<Client<L>>>
 where
     L: EngineName + Send + Sync + 's,
-    F: Feed + Send + Sync + 's,
     G: Sync + 's,
     C: Clock + Sync + 's,
     R: Wait + time::Clock + Sync + 's,
@@ -299,16 +293,15 @@ where
 }
 
 /// Starts a worker for each client, and tells why one has none.
-fn start_workers<'s, E, L, F, G, C, R>(
+fn start_workers<'s, E, L, G, C, R>(
     scope: &Scope<'s, E>,
     rt: &'s R,
     alloc: Global,
-    shared: &'s Shared<'s, L, F, G, C>,
-    clients: Vec<Client<L, F>>,
-) -> (Vec<JoinHandle<Worked<L, F>>>, Option<Trouble>)
+    shared: &'s Shared<'s, L, G, C>,
+    clients: Vec<Client<L>>,
+) -> (Vec<JoinHandle<Worked<L>>>, Option<Trouble>)
 where
     L: EngineName + Send + Sync + 's,
-    F: Feed + Send + Sync + 's,
     G: Gate + Sync + 's,
     C: Clock + Sync + 's,
     R: Wait + time::Clock + Sync + 's,
@@ -330,16 +323,15 @@ where
 }
 
 /// Starts a worker; `None` where no thread could be started.
-fn start_working<'s, E, L, F, G, C, R>(
+fn start_working<'s, E, L, G, C, R>(
     scope: &Scope<'s, E>,
     rt: &'s R,
     alloc: Global,
-    shared: &'s Shared<'s, L, F, G, C>,
-    client: Client<L, F>,
-) -> Option<JoinHandle<Worked<L, F>>>
+    shared: &'s Shared<'s, L, G, C>,
+    client: Client<L>,
+) -> Option<JoinHandle<Worked<L>>>
 where
     L: EngineName + Send + Sync + 's,
-    F: Feed + Send + Sync + 's,
     G: Gate + Sync + 's,
     C: Clock + Sync + 's,
     R: Wait + time::Clock + Sync + 's,
@@ -351,12 +343,12 @@ where
 }
 
 /// Joins the workers.
-fn join_all<L: EngineName, F: Feed, R: Threads>(
+fn join_all<L: EngineName, R: Threads>(
     rt: &R,
     alloc: Global,
-    working: Vec<JoinHandle<Worked<L, F>>>,
+    working: Vec<JoinHandle<Worked<L>>>,
     trouble: Option<Trouble>,
-) -> Served<L, F> {
+) -> Served<L> {
     let mut served = Served {
         clients: Vec::new(alloc),
         trouble,
@@ -372,7 +364,7 @@ fn join_all<L: EngineName, F: Feed, R: Threads>(
 }
 
 /// One more client came back.
-fn with_client<L: EngineName, F: Feed>(served: Served<L, F>, client: Client<L, F>) -> Served<L, F> {
+fn with_client<L: EngineName>(served: Served<L>, client: Client<L>) -> Served<L> {
     let Served { clients, trouble } = served;
     let mut clients = clients;
     let trouble = match clients.push(client) {

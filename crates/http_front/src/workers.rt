@@ -5,7 +5,7 @@ use crate::door::Door;
 use crate::gate::{Clock, Gate};
 use crate::peer::{Coming, Going, Peer, PeerGate};
 use crate::shared::Shared;
-use engine_lock::{Client, EngineName, Feed};
+use engine_lock::{Client, EngineName};
 use http_reply::Counted;
 use std::alloc::Global;
 use std::net::{TcpListener, TcpStream};
@@ -15,21 +15,20 @@ use std::{io, time};
 /// What a worker hands back: its client, with the changes that it made, and whether an accept
 /// failed.
 #[derive(Drop)]
-pub(crate) struct Worked<L: EngineName, F: Feed> {
-    pub(crate) client: Client<L, F>,
+pub(crate) struct Worked<L: EngineName> {
+    pub(crate) client: Client<L>,
     pub(crate) failed: bool,
 }
 
 /// Serves one connection after the other, until no further one comes in or an accept fails.
-pub(crate) fn keep_working<L, F, G, C, R>(
+pub(crate) fn keep_working<L, G, C, R>(
     rt: &R,
     alloc: Global,
-    shared: &Shared<'_, L, F, G, C>,
-    client: Client<L, F>,
-) -> Worked<L, F>
+    shared: &Shared<'_, L, G, C>,
+    client: Client<L>,
+) -> Worked<L>
 where
     L: EngineName,
-    F: Feed,
     G: Gate,
     C: Clock,
     R: Wait + time::Clock,
@@ -67,17 +66,16 @@ fn next<R: Wait>(
 }
 
 /// Serves a connection to its end. What ends it is the peer's affair.
-fn serve<L, F, G, C, R>(
+fn serve<L, G, C, R>(
     rt: &R,
     alloc: Global,
-    shared: &Shared<'_, L, F, G, C>,
-    client: &mut Client<L, F>,
+    shared: &Shared<'_, L, G, C>,
+    client: &mut Client<L>,
     call: u64,
     stream: &TcpStream,
 )
 where
     L: EngineName,
-    F: Feed,
     G: Gate,
     C: Clock,
     R: Wait + time::Clock,

@@ -48,14 +48,14 @@ pub same_kept : (old new : CoreState) (w u : World) → new ≡ old → u ≡ w 
 same_kept old new w u same rests = ap keeping_of same
     ∙ rests_kept w u (keeping_of old) (ap (λ (x : World). x.mutations) rests) (ap (λ (x : World). x.compacted) rests)
 
-pub refused_keeps : (old new : CoreState) (call : Call) (e : Refusal) (s : Settled) (f : Fault) → core.Refuses old new call e
+pub refused_keeps : (never : Type 0) (old new : CoreState) (call : Call) (e : Refusal) (s : Settled) (f : Fault) → core.RefusesTo never old new call e
     → Refuses s (is_memory e) f → (w : World) → StandsFor old.store w → KeepsAs s old new w (perform w call).1
-refused_keeps old new call e (settled.Reply p) f d g w h =
+refused_keeps never old new call e (settled.Reply p) f d g w h =
     let told : first_refusal (perform w call).0 ≡ Some e
     = subst (λ b. MatchBool b ⊤ (first_refusal (perform w call).0 ≡ Some e)) g.0 (d.refused w h) in
     same_kept old new w (perform w call).1 d.kept (refused-rests w (made_in w call) e told)
-refused_keeps old new call e settled.Memory f d g w h = d.kept
-refused_keeps old new call e (settled.Lost n) f d g w h = absurd g
+refused_keeps never old new call e settled.Memory f d g w h = d.kept
+refused_keeps never old new call e (settled.Lost n) f d g w h = absurd g
 
 -- ---- requests that are not read
 

@@ -1,5 +1,6 @@
 pub mod Accepted
-pub mod Keeps
 pub mod Deliveries
 pub mod Events
+pub mod Keeps
+pub mod Sinks
 pub mod Trims

@@ -11,6 +11,7 @@ ghost use Rattle.kv_model.specs.World.{World};
 ghost use Rattle.gateway_text.specs.Views.{wording_view};
 ghost use Rattle.request_core.specs.Answers.{IsReadable, answer_of, answer_view, has_changed};
 ghost use Rattle.request_core.specs.Answers.{is_memory, time_left_view};
+ghost use Rattle.request_core.specs.Commands.{IsToldChange, StoresChange};
 ghost use Rattle.json_gateway.specs.Endings.{Ends, IsCounted, KeepsAs, Refuses, Settles};
 ghost use Rattle.json_gateway.specs.Endings.{fault_of_reading, is_change, is_change_by};
 ghost use Rattle.json_gateway.specs.Endings.{is_physical, is_want};
@@ -24,6 +25,7 @@ use gateway_text::{
     refusal_text, refusal_wording, renewed_text, revoked_text, time_left_text, txn_text,
 };
 use kv_model::call::Command;
+use kv_model::feed::{NoSink, Sink};
 use kv_model::ids::Ids;
 use kv_model::refusal::Refusal;
 use lease_book::TimeLeft;
@@ -54,7 +56,44 @@ pub fn perform(alloc: Global, core: &mut Core, command: &Command, ids: &Ids) -> 
     ensures waits { (w : World) → StandsFor core.old.store w → is_accepted result.settled ≡ true
         → result.waits ≡ is_physical_call w (Ok (call_of command.now)) }
 {
-    match core.apply(command) {
+    perform_to(alloc, core, command, ids, &mut NoSink)
+}
+
+/// The same, with a sink that is told what changes before it stands: in each world that the core
+/// stood for it is told the change that the model's step makes, one operation or none (`told`), and
+/// what is kept is what was kept with just that change (`stored`). Where the command is not
+/// accepted, or changes nothing, it is told nothing (`untold`).
+///
+/// A sink that finds no memory makes the outcome `Memory`.
+pub fn perform_to<S: Sink>(
+    alloc: Global,
+    core: &mut Core,
+    command: &Command,
+    ids: &Ids,
+    sink: &mut S,
+) -> Outcome
+    ensures ends { (w : World) → StandsFor core.old.store w → Ends result core.old core.new w
+        (response_to ids.now (perform_in w (call_of command.now)).0)
+        (perform_in w (call_of command.now)).1
+        (λ l. IsChange w (call_of command.now) l (made_in w (call_of command.now))) }
+    ensures unchanged { is_accepted result.settled ≡ false → core.new ≡ core.old }
+    ensures bare { IsBare result }
+    ensures counted { (w : World) → StandsFor core.old.store w → is_accepted result.settled ≡ true
+        → IsCounted (is_change w (call_of command.now) (made_in w (call_of command.now)))
+        core.old core.new }
+    ensures keeps { (w : World) → StandsFor core.old.store w → KeepsAs result.settled
+        core.old core.new w (perform_in w (call_of command.now)).1 }
+    ensures ready { is_accepted result.settled ≡ false → result.waits ≡ false }
+    ensures waits { (w : World) → StandsFor core.old.store w → is_accepted result.settled ≡ true
+        → result.waits ≡ is_physical_call w (Ok (call_of command.now)) }
+    ensures told { is_accepted result.settled ≡ true
+        → IsToldChange S.takes core.old.store (call_of command.now) sink.old sink.new }
+    ensures stored { is_accepted result.settled ≡ true
+        → StoresChange core.old core.new (call_of command.now) }
+    ensures untold { (w : World) → StandsFor core.old.store w
+        → is_accepted result.settled ≡ false → sink.new ≡ sink.old }
+{
+    match core.apply_to(command, sink) {
         Ok(receipt) => Outcome {
             settled: settled(alloc, core, &receipt, ids),
             raised: receipt.raised,
@@ -232,8 +271,9 @@ fn left_text(
     }
 }
 
-/// How a refused command ends.
-fn declined(alloc: Global, refusal: Refusal) -> Settled
+/// How a refused command ends: in the words of the refusal, or as `Memory`, where memory was wanting
+/// for it or for its text.
+pub fn declined(alloc: Global, refusal: Refusal) -> Settled
     ensures { Refuses result (is_memory refusal) (fault_of refusal) }
 {
     if refusal == Refusal::Memory {

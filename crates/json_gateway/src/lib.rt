@@ -41,9 +41,10 @@ pub mod messages;
 pub mod outcome;
 pub mod wire;
 
-pub use commands::{dismissed, perform, post, text};
+pub use commands::{declined, dismissed, perform, perform_to, post, text};
 pub use gateway_read::bad::Bad;
 pub use gateway_read::read;
+pub use gateway_text::range_text;
 pub use kv_model::ids::Ids;
 pub use kv_model::refusal::Refusal;
 pub use messages::message;

@@ -9,9 +9,9 @@ use Rattle.kv_model.specs.declared.version.Body.{Body}
 use Rattle.kv_model.specs.declared.version.Body.TheVariants.{Put, Gone}
 use Rattle.kv_model.specs.Lists.{is_empty, IsPart, IsIn}
 use Rattle.kv_model.specs.Keys.{same_key}
-use Rattle.kv_model.specs.History.{rev_lt, is_at, is_tombstone, is_superseded}
+use Rattle.kv_model.specs.History.{rev_lt, is_at, is_tombstone, is_superseded, is_next_at}
 use Rattle.kv_model.specs.Ranges.{plain_range}
-use Rattle.kv_model.specs.Watches.{plain_watch, before_is_kept}
+use Rattle.kv_model.specs.Watches.{plain_watch, previous_watch, before_is_kept}
 use Rattle.kv_model.specs.Questions.{Question, IsQuestion, answered_by}
 
 -- the versions that a store keeps; floor is the revision of its last compaction
@@ -20,10 +20,11 @@ pub record Dump : Type 0 where
   pub revision : ℕ
   pub versions : List Version
 
--- a Range of the version's key at a revision, or a watch of it
+-- a Range of the version's key at a revision, a watch of it, or a watch of it with previous values
 pub data Need : Type 0 where
   range : ℕ → Need
   watch : ℕ → Need
+  prev : ℕ → Need
 
 -- the version at this revision has this need
 pub record Claim : Type 0 where
@@ -41,6 +42,7 @@ IsNeededBy has_before c now vs v q =
 abbrev pub question_of : Version → Need → Question
 question_of v (Need.range r) = Question.range (plain_range v.key r)
 question_of v (Need.watch r) = Question.watch (plain_watch v.key) r
+question_of v (Need.prev r) = Question.watch (previous_watch v.key) r
 
 -- the version has this need among the versions, by any test of previous values
 pub record HasNeedBy (has_before : ℕ → ℕ → Bool) (c now : ℕ) (vs : List Version) (v : Version) (n : Need) : Type 0 where
@@ -53,11 +55,18 @@ HasNeed = HasNeedBy before_is_kept
 
 -- ---- the certificate of a dump
 
--- The last put of its key answers a Range, and any other put that is above the floor answers one at its own revision.
--- A tombstone from the floor on answers a watch. What is left has no need.
+-- the need of a put: a Range at r where nothing replaces it there, else a watch at c of which it is the previous value
+abbrev pub put_need : (is_replaced is_before : Bool) → ℕ → ℕ → Option Need
+put_need is_replaced is_before r c = if is_replaced
+    then (if is_before then Some (Need.prev c) else None)
+    else Some (Need.range r)
+
+-- The last put of its key answers a Range, and any other put that is above the floor answers one at its own revision. A
+-- put whose next version is of the floor is the previous value of that. A tombstone from the floor on answers a watch.
+-- What is left has no need.
 abbrev pub need_of : Dump → Version → Body → Option Need
-need_of d v (Put create version lease value) = if is_superseded d.versions (max v.rev.main d.floor) v then None
-    else Some (Need.range (max v.rev.main d.floor))
+need_of d v (Put create version lease value) = put_need (is_superseded d.versions (max v.rev.main d.floor) v)
+    (is_next_at d.versions d.floor v) (max v.rev.main d.floor) d.floor
 need_of d v Gone = if nat_le d.floor v.rev.main then Some (Need.watch v.rev.main) else None
 
 abbrev pub claim_of : Dump → Version → Option Claim
@@ -73,11 +82,13 @@ claims_of d = filter_map (claim_of d) d.versions
 abbrev pub is_asked : Dump → Version → ℕ → Bool
 is_asked d v r = not (is_empty v.key) && nat_le 1 r && nat_le d.floor r && nat_le r d.revision
 
--- the version answers the question: a Range shows it, or a watch of its revision tells of it
+-- the version answers the question: a Range shows it, a watch of its revision tells of it, or it is the put before the
+-- version that a watch tells of
 abbrev pub is_met : Dump → Version → Need → Bool
 is_met d v (Need.range r) = is_asked d v r && not (is_tombstone v.body) && nat_le v.rev.main r
     && not (is_superseded d.versions r v)
 is_met d v (Need.watch r) = is_asked d v r && v.rev.main == r
+is_met d v (Need.prev r) = is_asked d v r && not (is_tombstone v.body) && is_next_at d.versions r v
 
 pub data NeedFault : Type 0 where
   not_rising : Rev → NeedFault

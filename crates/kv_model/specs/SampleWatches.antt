@@ -40,12 +40,14 @@ pub behind_is_cancelled : told_after (watch_event a (pos 0) false ∷ put_event 
 unfolding model_on_literals
 behind_is_cancelled = refl
 
--- ---- an event at the compaction is told, and a watch that starts below it is cancelled
+-- ---- an event at the compaction is told with its previous value, and a watch that starts below it is cancelled
 
 pub at_the_compaction : told_after (put_event a one ∷ delete_event a ∷ compact_event (pos 3) ∷ [])
     (watch_event a (pos 3) true ∷ Event.deliver 1 ∷ watch_event a (pos 2) true ∷ Event.deliver 2 ∷ Event.deliver 2 ∷ [])
-    ≡ told 3 (Reply.watch (pos 0) 1) ∷ told_events 3 (record { version = gone_version 3 a; before = None } ∷ [])
-    ∷ told 3 (Reply.watch (pos 0) 2) ∷ Told.delivery (Delivery.cancelled 3) 3 ∷ Told.delivery Delivery.no_watch 3 ∷ []
+    ≡ told 3 (Reply.watch (pos 0) 1) ∷ told_events 3 (record {
+      version = gone_version 3 a;
+      before = Some (kv_of a one 2 2 1);
+    } ∷ []) ∷ told 3 (Reply.watch (pos 0) 2) ∷ Told.delivery (Delivery.cancelled 3) 3 ∷ Told.delivery Delivery.no_watch 3 ∷ []
 unfolding model_on_literals
 at_the_compaction = refl
 

@@ -223,14 +223,14 @@ pub a_watch : map (text_of (pos 0)) (told_by opening (put_event a one ∷ watch_
 unfolding model_on_literals wire_on_literals serde_json_on_literals is_utf8 chars digits encode_symbols groups_error groups_bytes scan_steps
 a_watch = refl
 
--- a delete at the compaction is told without its previous value; a watch from below the compaction is cancelled
+-- a delete at the compaction is told with its previous value; a watch from below the compaction is cancelled
 pub a_watch_behind : map (text_of (pos 5)) (told_by opening (put_event a one ∷ delete_event a ∷ compact_event (pos 3)
     ∷ watch_event a (pos 3) true ∷ Event.deliver 1 ∷ watch_event a (pos 2) false ∷ Event.deliver 2 ∷ []))
     ≡ codes "{\"header\":{\"cluster_id\":\"1\",\"member_id\":\"1\",\"raft_term\":\"1\",\"revision\":\"2\"}}"
     ∷ codes "{\"deleted\":\"1\",\"header\":{\"cluster_id\":\"1\",\"member_id\":\"1\",\"raft_term\":\"1\",\"revision\":\"3\"}}"
     ∷ codes "{\"header\":{\"cluster_id\":\"1\",\"member_id\":\"1\",\"raft_term\":\"1\",\"revision\":\"3\"}}"
     ∷ codes "{\"result\":{\"created\":true,\"header\":{\"cluster_id\":\"1\",\"member_id\":\"1\",\"raft_term\":\"1\",\"revision\":\"3\"}}}"
-    ∷ codes "{\"result\":{\"events\":[{\"kv\":{\"key\":\"YQ==\",\"mod_revision\":\"3\"},\"type\":\"DELETE\"}],\"header\":{\"cluster_id\":\"1\",\"member_id\":\"1\",\"raft_term\":\"1\",\"revision\":\"3\"},\"watch_id\":\"5\"}}"
+    ∷ codes "{\"result\":{\"events\":[{\"kv\":{\"key\":\"YQ==\",\"mod_revision\":\"3\"},\"prev_kv\":{\"create_revision\":\"2\",\"key\":\"YQ==\",\"mod_revision\":\"2\",\"value\":\"MQ==\",\"version\":\"1\"},\"type\":\"DELETE\"}],\"header\":{\"cluster_id\":\"1\",\"member_id\":\"1\",\"raft_term\":\"1\",\"revision\":\"3\"},\"watch_id\":\"5\"}}"
     ∷ codes "{\"result\":{\"created\":true,\"header\":{\"cluster_id\":\"1\",\"member_id\":\"1\",\"raft_term\":\"1\",\"revision\":\"3\"}}}"
     ∷ codes "{\"result\":{\"canceled\":true,\"compact_revision\":\"3\",\"header\":{\"cluster_id\":\"1\",\"member_id\":\"1\",\"raft_term\":\"1\",\"revision\":\"3\"},\"watch_id\":\"5\"}}" ∷ []
 unfolding model_on_literals wire_on_literals serde_json_on_literals is_utf8 chars digits encode_symbols groups_error groups_bytes scan_steps

@@ -21,11 +21,15 @@ pub trait Sink {
     /// That taking this operation leads from the first state to the second.
     ghost takes: { Self → Published → Self → Type 0 };
 
+    /// What shows that taking an operation never fails, where anything does.
+    ghost never_fails: { Type 0 } = { ⊥ };
+
     /// Takes one operation. `AllocError` comes where a growth found no memory, and then nothing has
     /// changed.
     fn take(&mut self, op: Op) -> Result<(), AllocError>
         ensures ok { OnOk result (takes self.old (published op) self.new) }
-        ensures err { OnErr result (self.new ≡ self.old) };
+        ensures err { OnErr result (self.new ≡ self.old) }
+        ensures succeeds { never_fails → IsOk result };
 }
 
 /// The sink that takes everything and keeps nothing.
@@ -35,9 +39,9 @@ pub struct NoSink;
 impl Sink for NoSink {
     ghost takes = { λ _ _ _. Unit {0} };
 
-    fn take(&mut self, op: Op) -> Result<(), AllocError>
-        ensures always { IsOk result }
-    {
+    ghost never_fails = { Unit {0} };
+
+    fn take(&mut self, op: Op) -> Result<(), AllocError> {
         drop(op);
         Ok(())
     }

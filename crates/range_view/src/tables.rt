@@ -291,8 +291,8 @@ impl Tables {
     }
 
     /// Makes one trimming step: the next version at or below the last compaction is visited, the
-    /// oldest first, and taken out where a later version of its key is at or below the compaction,
-    /// or where it is a tombstone below it. Where none is left to visit, nothing changes, and the
+    /// oldest first, and taken out where a later version of its key is below the compaction, or
+    /// where it is a tombstone below it. Where none is left to visit, nothing changes, and the
     /// answer is `Done` with the number of versions that are kept.
     ///
     /// Takes no memory. The time is logarithmic in the number of versions and of keys, but for the

@@ -1,13 +1,11 @@
 -- What a Compact does, in each world that the core stands for.
-use Rattle.std.proofs.Common.{◌≡◌, ◌≤◌, ◌<◌, ℕ, ◌+◌, ℤ, pos, negsuc, Bool, true, false, ◌||◌, ◌==◌, cond, Option, None, Some, Ok, Err}
+use Rattle.std.proofs.Common.{◌≡◌, ◌≤◌, ℕ, ℤ, Bool, false, None, Ok}
 use Rattle.std.proofs.Common.{refl, sym, ◌∙◌, ap, subst, arith, inr}
-use Rattle.std.specs.Prelude.{nat_lt, nat_le}
+use Rattle.std.specs.Prelude.{nat_lt}
 use Rattle.kv_model.specs.declared.refusal.Refusal.{Refusal}
-use Rattle.kv_model.specs.declared.refusal.Refusal.TheVariants.{Compacted, Future}
 use Rattle.kv_model.specs.Calls.{Call}
-use Rattle.kv_model.specs.Ranges.{refuse_if}
 use Rattle.kv_model.specs.Told.{Reply}
-use Rattle.kv_model.specs.Step.{at_least_zero, compact_refusal, made_in, refused_or}
+use Rattle.kv_model.specs.Step.{at_least_zero, compact_refusal, refused_or}
 use Rattle.kv_model.specs.World.{World}
 use Rattle.store_laws.specs.Stands.{StandsFor}
 use Rattle.store_laws.proofs.BetweenSteps.{starts_over}
@@ -15,9 +13,9 @@ use Rattle.store_laws.proofs.CompactLaws.{compact_stands, compact_told, compact_
 use Rattle.range_view.specs.Stored.{Stored, compacted_at}
 use Rattle.request_core.specs.declared.answer.Todo.TheVariants as todo
 use Rattle.request_core.specs.Answers.{IsRefusal, is_memory}
-use Rattle.request_core.specs.Commands.{CarriesOut, Makes, Moves, Refuses}
+use Rattle.request_core.specs.Commands.{CarriesOut, Makes, RefusesTo}
 use Rattle.request_core.specs.State.{CoreState, IsSound, after_compact}
-use Rattle.request_core.proofs.Worlds.{changed-beside, is_refused, none-raised, own_refusal}
+use Rattle.request_core.proofs.Worlds.{changed-beside, is_refused, none-raised}
 
 -- what is compacted up to a revision that has been is sound: nothing is behind the oldest place
 pub compacted-sound : (t : Stored) (c : ℕ) → IsSound t → c ≤ t.revision → IsSound (compacted_at c t)
@@ -59,25 +57,15 @@ compact_done s new r physical clear made =
       };
     })
 
--- a Compact is not refused for want of memory
-not-memory : (c n : ℕ) (r : ℤ) (e : Refusal) → compact_refusal c n r ≡ Some e → is_memory e ≡ false
-not-memory c n (negsuc m) e h = let same : Compacted c ≡ e = cc in subst (λ x. is_memory x ≡ false) same refl
-not-memory c n (pos r) e h = by (r == 0 || nat_le r c) (nat_lt n r) h
-  where
-    by : (a b : Bool) → cond a (Some (Compacted c)) (refuse_if b (Future n)) ≡ Some e → is_memory e ≡ false
-    by true b f = let same : Compacted c ≡ e = cc in subst (λ x. is_memory x ≡ false) same refl
-    by false true f = let same : Future n ≡ e = cc in subst (λ x. is_memory x ≡ false) same refl
-    by false false f = cc
-
-pub compact_refuses : (s new : CoreState) (r : ℤ) (physical : Bool) (e : Refusal)
-    → compact_refusal s.store.compacted s.store.revision r ≡ Some e → new ≡ s → Refuses s new (Call.compact r physical) e
-compact_refuses s new r physical e one same = record {
-  refused = λ w h. is_refused w (Call.compact r physical) e (compact_refusal s.store.compacted s.store.revision r)
-      (subst (IsRefusal e) (sym one) (own_refusal e))
+pub compact_refuses : (never : Type 0) (s new : CoreState) (r : ℤ) (physical : Bool) (e : Refusal)
+    → IsRefusal e (compact_refusal s.store.compacted s.store.revision r) → (never → is_memory e ≡ false) → new ≡ s
+    → RefusesTo never s new (Call.compact r physical) e
+compact_refuses never s new r physical e one free same = record {
+  refused = λ w h. is_refused w (Call.compact r physical) e (compact_refusal s.store.compacted s.store.revision r) one
       (λ f two. compact_told s.store w h r physical ∙ ap (λ o. refused_or o (Ok (
         Reply.compact,
         record w { compacted = at_least_zero r },
       ))) two);
-  free = λ no. not-memory s.store.compacted s.store.revision r e one;
+  free = λ no. free;
   kept = same;
 }

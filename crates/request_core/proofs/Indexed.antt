@@ -1,5 +1,5 @@
 -- The index of leases as versions are appended, and as they are taken back.
-use Rattle.std.proofs.Common.{◌≡◌, ◌<◌, ◌+◌, ◌-◌, ℕ, ℤ, List, ◌++◌, Bool, false, ◌||◌, ◌&&◌, not, Option, is_none, filter}
+use Rattle.std.proofs.Common.{◌≡◌, ◌<◌, ◌+◌, ◌-◌, ℕ, List, ◌++◌, false, ◌||◌, ◌&&◌, not, Option, is_none, filter}
 use Rattle.std.proofs.Common.{sym, ◌∙◌, ap, subst, arith, eqb-true}
 use Rattle.std.specs.Prelude.{◌==◌, nat_le, true}
 use Rattle.std.specs.List.{list_any}

@@ -11,5 +11,6 @@ pub mod Trimming
 pub mod Txns
 pub mod Worlds
 pub mod Watching
+pub mod Telling
 pub mod Noting
 pub mod Indexed

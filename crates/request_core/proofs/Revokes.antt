@@ -91,7 +91,7 @@ revoke-makes s new id n was w h =
 
 -- ---- in the form that `apply_revoke` cites
 
-revoke-moves : (s new : CoreState) (id : ℤ) (n : ℕ) → WasRevoked s new id n → Moves s new true None
+pub revoke-moves : (s new : CoreState) (id : ℤ) (n : ℕ) → WasRevoked s new id n → Moves s new true None
 revoke-moves s new id n was = record {
   keeps = subst (λ (t : CoreState). AddsVersions s t ⊎ StartsOver s t) (sym was.made)
       (revoke-adds (added_by_revoke s.store id) (tombstones_at (s.store.revision + 1) 0 (leased_in s.store id)));
@@ -151,7 +151,7 @@ due-id : (s : Store) (w : World) → StandsFor s w → option_map (λ (l : Lease
 due-id s w h = ap (λ o. option_map (λ (l : Lease). l.id) o) (sym (due_stands s w h))
 
 -- the lease that is due expires, and the step is counted
-lease-expires : (s new : CoreState) (id : ℤ) (n : ℕ) → WasRevoked s new id n → due_in s.store ≡ Some id → (w : World) → StandsFor s.store w
+pub lease-expires : (s new : CoreState) (id : ℤ) (n : ℕ) → WasRevoked s new id n → due_in s.store ≡ Some id → (w : World) → StandsFor s.store w
     → (Expiry.expired id new.store.revision (nat_lt 0 n) ≡ (expire w).0) × StandsFor new.store (expire w).1
 lease-expires s new id n was is w h =
     let done : Makes w (Call.revoke id) Reply.revoke new.store = revoke-makes s new id n was w h in

@@ -1,6 +1,5 @@
 -- What a trimming step leaves of a core, and what it does in each world that the core stands for.
-use Rattle.std.proofs.Common.{◌≡◌, ◌≤◌, ◌<◌, ℕ, ◌^◌, List, true, Option, None, Some, refl, sym, ◌∙◌, ap, subst, arith}
-use Rattle.std.specs.List.{AllByRecursion}
+use Rattle.std.proofs.Common.{◌≡◌, ◌<◌, ℕ, ◌^◌, List, true, Option, None, refl, sym, ◌∙◌, ap, subst, arith}
 use Rattle.kv_model.specs.declared.version.Version.{Version}
 use Rattle.kv_model.specs.History.{value_now, end_of, rev_le}
 use Rattle.kv_model.specs.Headline.{Trims}

@@ -1,7 +1,7 @@
 -- What a core does, in each world that it stands for.
 use Rattle.std.proofs.Common.{◌≡◌, ◌≢◌, ◌⊎◌, inl, inr, ℕ, ◌+◌, ◌<◌, ◌≤◌, List, [], ◌∷◌, ◌++◌, map, Bool, true, false, ◌&&◌, cond, not, Option, None, Some}
 use Rattle.std.proofs.Common.{Result, Ok, Err, refl, sym, ◌∙◌, ap, subst, arith}
-use Rattle.std.specs.Prelude.{nat_lt, is_some, ◌||◌, MatchBool}
+use Rattle.std.specs.Prelude.{nat_lt, is_some, ◌||◌, MatchBool, IfErr}
 use Rattle.std.specs.Option.{option_or}
 use Rattle.std.proofs.lemmas.Bool.{lt-ltb, le-ltb, ltb-true, ltb-false}
 use Rattle.kv_model.specs.declared.refusal.Refusal.{Refusal}
@@ -31,7 +31,7 @@ use Rattle.request_core.specs.declared.answer.Receipt.{Receipt}
 use Rattle.request_core.specs.declared.answer.Todo.{Todo}
 use Rattle.request_core.specs.State.{CoreState, counted, is_spent, keeping_of, raised_from, stamp_after, with_any, with_versions}
 use Rattle.request_core.specs.Answers.{IsAllowed, IsRefusal, answer_of, has_changed, is_beside, is_memory, reply_left, watch_of}
-use Rattle.request_core.specs.Commands.{AddsVersions, CarriesOut, Does, IsIssued, Moves, StartsOver, first_refusal}
+use Rattle.request_core.specs.Commands.{AddsVersions, CarriesOut, Does, IsIssued, IsToldFreely, Moves, Refuses, RefusesTo, StartsOver, first_refusal}
 
 -- ---- the first of two refusals
 
@@ -176,7 +176,7 @@ any_moves s (v ∷ vs) b at = record {
 }
 
 -- a list is told by what stands before it and the two together
-behind-same : {X : Type 0} (xs ys zs : List X) → xs ++ ys ≡ xs ++ zs → ys ≡ zs
+pub behind-same : {X : Type 0} (xs ys zs : List X) → xs ++ ys ≡ xs ++ zs → ys ≡ zs
 behind-same [] ys zs e = e
 behind-same (x ∷ xs) ys zs e = behind-same xs ys zs (cc)
 
@@ -251,3 +251,28 @@ own_refusal e = by (is_memory e)
     by : (b : Bool) → MatchBool b (Unit {0}) (Some e ≡ Some e)
     by true = tt
     by false = refl
+
+-- ---- over a sink
+
+pub refuses_to : (never : Type 0) (old new : CoreState) (call : Call) (e : Refusal) → Refuses old new call e
+    → RefusesTo never old new call e
+refuses_to never old new call e r = record { refused = r.refused; free = λ no _. r.free no; kept = r.kept }
+
+told-freely : (call : Call) → IsToldFreely (Unit {0}) call
+told-freely (Call.range q) = tt
+told-freely (Call.put p) = tt
+told-freely (Call.delete d) = tt
+told-freely (Call.txn compares success failure) = tt
+told-freely (Call.compact r physical) = tt
+told-freely (Call.watch watched start id) = tt
+told-freely (Call.grant ttl id) = tt
+told-freely (Call.revoke id) = tt
+told-freely (Call.keep_alive id) = tt
+told-freely (Call.time_to_live id asked) = tt
+told-freely Call.leases = tt
+
+-- over the sink that takes everything
+pub refuses_alone : {X : Type 0} (old new : CoreState) (call : Call) (r : Result X Refusal)
+    → IfErr r (λ e. RefusesTo (Unit {0}) old new call e) → IfErr r (λ e. Refuses old new call e)
+refuses_alone old new call (Ok x) h = tt
+refuses_alone old new call (Err e) h = record { refused = h.refused; free = λ no. h.free no (told-freely call); kept = h.kept }

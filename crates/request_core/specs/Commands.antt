@@ -3,10 +3,11 @@ use Rattle.std.specs.Prelude.{◌≡◌, ◌⊎◌, ◌<◌, ℕ, List, ◌++◌
 use Rattle.std.specs.Prelude.{Ok, Err}
 use Rattle.std.specs.List.{AllByRecursion}
 use Rattle.kv_model.specs.declared.version.Version.{Version}
-use Rattle.std.specs.Prelude.{MatchBool, ⊤}
+use Rattle.std.specs.Prelude.{MatchBool, fold, ⊤}
 use Rattle.kv_model.specs.declared.refusal.Refusal.{Refusal}
 use Rattle.kv_model.specs.declared.refusal.Refusal.TheVariants.{RevisionsSpent}
 use Rattle.kv_model.specs.Calls.{Call}
+use Rattle.kv_model.specs.Feed.{Published}
 use Rattle.kv_model.specs.Step.{made_in, perform, expire}
 use Rattle.kv_model.specs.Told.{Reply, Answer, Trimmed, Expiry as ModelExpiry}
 use Rattle.kv_model.specs.Wire.{raised, number_made, changes_beside, trim_told}
@@ -17,12 +18,14 @@ use Rattle.kv_model.specs.Certificates.{Claim}
 use Rattle.store_laws.specs.TrimmingLaws.{IsOwn, IsVisit}
 use Rattle.trim_core.specs.declared.trimmer.Trim.{Trim}
 use Rattle.trim_core.specs.Told.{told_of}
+use Rattle.store_laws.specs.Changes.{Takes, change_of, change_of_expiry}
+use Rattle.store_laws.specs.Snapshots.{absorb}
 use Rattle.store_laws.specs.Stands.{Store, StandsFor}
 use Rattle.request_core.specs.declared.answer.Expiry.{Expiry}
 use Rattle.request_core.specs.declared.answer.Receipt.{Receipt}
 use Rattle.request_core.specs.declared.answer.Todo.{Todo}
 use Rattle.request_core.specs.State.{CoreState, counted, raised_from, stamp_after}
-use Rattle.request_core.specs.State.{has_removed, keeping_of, trim_of, trimmed_by}
+use Rattle.request_core.specs.State.{has_removed, keeping_of, tables_of, trim_of, trimmed_by}
 use Rattle.request_core.specs.Answers.{IsAllowed, IsReadable, IsRefusal, answer_of, has_changed, is_beside, is_memory}
 use Rattle.request_core.specs.Answers.{expiry_view, has_expired, reply_left, watch_of}
 
@@ -77,6 +80,38 @@ pub record Refuses (old new : CoreState) (call : Call) (e : Refusal) : Type 0 wh
   pub free : takes_memory call ≡ false → is_memory e ≡ false
   -- the core is as it was
   pub kept : new ≡ old
+
+-- what shows that a call which takes no memory itself is not refused by the sink either: only a Compact is told to one
+abbrev pub IsToldFreely : Type 0 → Call → Type 0
+IsToldFreely never_fails (Call.compact r physical) = never_fails
+IsToldFreely never_fails _ = ⊤
+
+-- what a command did that is refused over a sink, of which the first type shows that its taking never fails
+pub record RefusesTo (never_fails : Type 0) (old new : CoreState) (call : Call) (e : Refusal) : Type 0 where
+  -- in each world that the core stood for, the model refuses it so, or memory was wanting
+  pub refused : (w : World) → StandsFor old.store w → IsRefusal e (first_refusal (perform w call).0)
+  -- only a command that may want memory is refused for want of it, and a Compact where the sink finds none
+  pub free : takes_memory call ≡ false → IsToldFreely never_fails call → is_memory e ≡ false
+  -- the core is as it was
+  pub kept : new ≡ old
+
+-- ---- what readers beside the writer are told of a command
+
+-- from the first state of a sink to the second it took what the model publishes of the command, in each world that the
+-- store stood for
+abbrev pub IsToldChange : {X : Type 0} → (X → Published → X → Type 0) → Store → Call → X → X → Type 0
+IsToldChange takes s call f g = (w : World) → StandsFor s w → Takes takes (change_of w call) f g
+
+-- what a core keeps is what it kept, with what the model publishes of the command
+abbrev pub StoresChange : CoreState → CoreState → Call → Type 0
+StoresChange old new call = (w : World) → StandsFor old.store w → tables_of new ≡ fold absorb (tables_of old) (change_of w call)
+
+-- and so it is of a step of expiry
+abbrev pub IsToldExpiry : {X : Type 0} → (X → Published → X → Type 0) → Store → X → X → Type 0
+IsToldExpiry takes s f g = (w : World) → StandsFor s w → Takes takes (change_of_expiry w) f g
+
+abbrev pub StoresExpiry : CoreState → CoreState → Type 0
+StoresExpiry old new = (w : World) → StandsFor old.store w → tables_of new ≡ fold absorb (tables_of old) (change_of_expiry w)
 
 -- ---- a step of expiry
 

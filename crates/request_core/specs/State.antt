@@ -28,6 +28,7 @@ use Rattle.kv_model.specs.Headline.{Keeping}
 use Rattle.kv_model.specs.Told.{Trimmed}
 use Rattle.store_laws.specs.Trimming.{TrimStep, trimmed, oldest_place, IsTrimmedTo}
 use Rattle.store_laws.specs.TrimmingLaws.{keeping}
+use Rattle.store_laws.specs.FeedLaws.{stored_at}
 use Rattle.store_laws.specs.Stands.{Store, Tracked, noted}
 use Rattle.watch_hub.specs.Hub.{Hub}
 use Rattle.store_laws.specs.Stores.{path_in, refusal_of_path, changes_of_path, refusal_of_delete, with_leases}
@@ -273,3 +274,17 @@ added_by s _ = []
 abbrev pub IsTold : {X : Type 0} → (X → Published → X → Type 0) → List Version → X → X → Type 0
 IsTold takes [] old new = new ≡ old
 IsTold takes (v ∷ vs) old new = takes old (Published.batch (v ∷ vs)) new
+
+-- of what a call changes: the floor of a Compact, and else the versions that it adds
+abbrev pub IsToldOf : {X : Type 0} → (X → Published → X → Type 0) → Store → Call → X → X → Type 0
+IsToldOf takes s (Call.compact r physical) old new = takes old (Published.floor (at_least_zero r)) new
+IsToldOf takes s call old new = IsTold takes (added_by s call) old new
+
+-- the compaction after a call
+abbrev pub floor_by : Store → Call → ℕ
+floor_by s (Call.compact r physical) = at_least_zero r
+floor_by s _ = s.compacted
+
+-- what is kept, as readers beside the writer have it
+abbrev pub tables_of : CoreState → Stored
+tables_of s = stored_at s.store s.place

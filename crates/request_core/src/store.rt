@@ -2,7 +2,7 @@
 ghost use Rattle.range_view.specs.Replies.{kv_view, reply_view};
 ghost use Rattle.request_core.specs.Writing.{IsHeldTo};
 ghost use Rattle.kv_model.specs.Step.{last_main};
-ghost use Rattle.std.specs.Prelude.{◌≡◌, [], true, is_ok, option_map, ◌≤◌, length};
+ghost use Rattle.std.specs.Prelude.{◌≡◌, [], ◌++◌, true, is_ok, option_map, ◌≤◌, length};
 ghost use Rattle.std.specs.Prelude.{IfOk, IfErr, OnOk, OnErr};
 
 mod appending;
@@ -65,15 +65,19 @@ impl Core {
     ghost use Rattle.kv_model.specs.Commands.{call_of};
     ghost use Rattle.kv_model.specs.World.{opening};
     ghost use Rattle.store_laws.specs.Stands.{StandsFor};
-    ghost use Rattle.request_core.specs.State.{CoreState, IsTold, added_by, core_state, held_in};
+    ghost use Rattle.request_core.specs.State.{CoreState, IsToldOf, added_by, core_state, floor_by};
+    ghost use Rattle.request_core.specs.State.{held_in};
     ghost use Rattle.request_core.specs.State.{is_spent, no_watches};
-    ghost use Rattle.range_view.specs.Stored.{blank_at};
+    ghost use Rattle.range_view.specs.Stored.{blank, blank_at};
+    ghost use Rattle.request_core.specs.State.{tables_of};
     ghost use Rattle.request_core.specs.Answers.{IsReadable, answer_view, answer_of, is_free};
-    ghost use Rattle.request_core.specs.Commands.{CarriesOut, Does, Refuses};
+    ghost use Rattle.request_core.specs.Commands.{CarriesOut, Does, IsToldChange, Refuses};
+    ghost use Rattle.request_core.specs.Commands.{RefusesTo, StoresChange};
 
     /// The store before the first event, and before the first changing call. Takes no memory.
     pub fn new(alloc: Global) -> Self
         ensures stands { StandsFor result.store opening }
+        ensures kept { tables_of result ≡ blank }
         ensures stamp { result.stamp ≡ 0 }
     {
         Core::at(alloc, 1)
@@ -169,20 +173,22 @@ impl Core {
         ensures done { IfOk result (λ r. Does self.old self.new (call_of command.now) r) }
         ensures refused { IfErr result (λ e. Refuses self.old self.new (call_of command.now) e) }
     {
-        self.apply_over(command, &mut NoSink)
+        self.apply_to(command, &mut NoSink)
     }
 
-    /// Does one command, and hands what changes to a sink before it stands, in one batch. A sink
-    /// that finds no memory refuses the command.
-    pub(crate) fn apply_over<'c, S: Sink>(
+    /// Does one command, and hands what changes to a sink before it stands. A sink that finds no
+    /// memory refuses the command.
+    pub fn apply_to<'c, S: Sink>(
         &mut self,
         command: &'c Command,
         sink: &mut S,
     ) -> Result<Receipt<'c>, Refusal>
         ensures done { IfOk result (λ r. Does self.old self.new (call_of command.now) r) }
         ensures told { OnOk result
-            (IsTold S.takes (added_by self.old.store (call_of command.now)) sink.old sink.new) }
-        ensures refused { IfErr result (λ e. Refuses self.old self.new (call_of command.now) e) }
+            (IsToldChange S.takes self.old.store (call_of command.now) sink.old sink.new) }
+        ensures stored { OnOk result (StoresChange self.old self.new (call_of command.now)) }
+        ensures refused { IfErr result
+            (λ e. RefusesTo S.never_fails self.old self.new (call_of command.now) e) }
         ensures untold { OnErr result (sink.new ≡ sink.old) }
     {
         let before = self.tables.revision();
@@ -199,9 +205,14 @@ impl Core {
         sink: &mut S,
     ) -> Result<Todo<'c>, Refusal>
         ensures done { IfOk result (λ t. CarriesOut self.old self.new (call_of command.now) t) }
+        ensures grows { OnOk result (self.new.store.versions
+            ≡ self.old.store.versions ++ added_by self.old.store (call_of command.now)) }
+        ensures floors { OnOk result
+            (self.new.store.compacted ≡ floor_by self.old.store (call_of command.now)) }
         ensures told { OnOk result
-            (IsTold S.takes (added_by self.old.store (call_of command.now)) sink.old sink.new) }
-        ensures refused { IfErr result (λ e. Refuses self.old self.new (call_of command.now) e) }
+            (IsToldOf S.takes self.old.store (call_of command.now) sink.old sink.new) }
+        ensures refused { IfErr result
+            (λ e. RefusesTo S.never_fails self.old self.new (call_of command.now) e) }
         ensures untold { OnErr result (sink.new ≡ sink.old) }
     {
         match command {
@@ -209,7 +220,9 @@ impl Core {
             Command::Put(request) => self.apply_put(request, sink),
             Command::Delete(request) => self.apply_delete(request, sink),
             Command::Txn(txn) => self.apply_txn(txn, sink),
-            Command::Compact { revision, physical } => self.apply_compact(*revision, *physical),
+            Command::Compact { revision, physical } => {
+                self.apply_compact(*revision, *physical, sink)
+            }
             Command::Watch { watched, start, id } => self.apply_watch(watched, *start, *id),
             Command::Grant { ttl, id } => self.apply_grant(*ttl, *id),
             Command::Revoke { id } => self.apply_revoke(*id, sink),

@@ -2,7 +2,7 @@
 ghost use Rattle.std.specs.Prelude.{◌≡◌};
 
 use crate::texts::{ONES, PUT, PUT_REPLY, Still};
-use engine_lock::{Engine, EngineName, NoFeed, Opening};
+use engine_lock::{Engine, EngineName, Opening};
 use http_front::{OpenGate, work};
 use http_reply::{Counted, Front};
 use std::alloc::Global;
@@ -14,14 +14,15 @@ use std::time;
 fn worked<L: EngineName, R: Wait + time::Clock>(
     rt: &R,
     alloc: Global,
-    opening: Opening<NoFeed>,
+    opening: Opening,
     comes: &[u8],
     goes: &mut [u8],
 ) -> Option<(Result<u64, Front>, u64, u64)>
     requires name { opening.name ≡ L.Ledger.name }
     requires parts { opening.parts ≡ L.Ledger.parts }
+    requires book { opening.book ≡ L.book }
 {
-    let engine = Engine::<L, NoFeed>::new(alloc, opening, ONES).ok()?;
+    let engine = Engine::<L>::new(alloc, opening, ONES);
     let mut client = engine.client(rt).ok()?;
     let mut r = Counted::new(comes);
     let mut w = Counted::new(goes);
@@ -45,7 +46,8 @@ fn run_worked<R: Wait + time::Clock>(
     comes: &[u8],
     goes: &mut [u8],
 ) -> Option<(Result<u64, Front>, u64, u64)> {
-    worked::<Brand, R>(rt, alloc, Opening::new(NoFeed), comes, goes)
+    let opening = Opening::new(alloc, rt).ok()?;
+    worked::<Brand, R>(rt, alloc, opening, comes, goes)
 }
 
 #[test]

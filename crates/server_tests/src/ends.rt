@@ -2,7 +2,7 @@
 ghost use Rattle.std.specs.Prelude.{◌≡◌};
 
 use crate::texts::{ONES, Still};
-use engine_lock::{Engine, EngineName, NoFeed, Opening};
+use engine_lock::{Engine, EngineName, Opening};
 use http_front::{OpenGate, pool};
 use http_reply::Front;
 use std::alloc::Global;
@@ -17,16 +17,15 @@ use std::time;
 fn ended<L: EngineName + Send + Sync, R: Wait + Threads + time::Clock + Sync>(
     rt: &R,
     alloc: Global,
-    opening: Opening<NoFeed>,
+    opening: Opening,
     listener: &TcpListener,
     workers: u64,
 ) -> Result<u64, Front>
     requires name { opening.name ≡ L.Ledger.name }
     requires parts { opening.parts ≡ L.Ledger.parts }
+    requires book { opening.book ≡ L.book }
 {
-    let Ok(engine) = Engine::<L, NoFeed>::new(alloc, opening, ONES) else {
-        return Err(Front::Memory);
-    };
+    let engine = Engine::<L>::new(alloc, opening, ONES);
     match pool(rt, alloc, engine, &OpenGate, &Still, listener, workers, 0) {
         Ok(core) => Ok(core.status().revision),
         Err(front) => Err(front),
@@ -39,7 +38,10 @@ fn run_ended<R: Wait + Threads + time::Clock + Sync>(
     listener: &TcpListener,
     workers: u64,
 ) -> Result<u64, Front> {
-    ended::<Brand, R>(rt, alloc, Opening::new(NoFeed), listener, workers)
+    match Opening::new(alloc, rt) {
+        Ok(opening) => ended::<Brand, R>(rt, alloc, opening, listener, workers),
+        Err(_) => Err(Front::Memory),
+    }
 }
 
 /// An engine has 64 places for clients, and the thread that ends leases takes one.

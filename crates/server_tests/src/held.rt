@@ -2,7 +2,7 @@
 ghost use Rattle.std.specs.Prelude.{◌≡◌};
 
 use crate::texts::{LAST_PUT, LAST_PUT_REPLIES, ONES, Still};
-use engine_lock::{Engine, EngineName, NoFeed, Opening};
+use engine_lock::{Engine, EngineName, Opening};
 use http_front::{Gate, pool};
 use std::alloc::Global;
 use std::io::Write;
@@ -52,13 +52,14 @@ impl<'x, R: time::Clock> Gate for SecondFirst<'x, R> {
 fn served<L: EngineName + Send + Sync, R: Wait + Threads + time::Clock + Sync>(
     rt: &R,
     alloc: Global,
-    opening: Opening<NoFeed>,
+    opening: Opening,
     listener: &TcpListener,
 ) -> Option<(bool, u64)>
     requires name { opening.name ≡ L.Ledger.name }
     requires parts { opening.parts ≡ L.Ledger.parts }
+    requires book { opening.book ≡ L.book }
 {
-    let engine = Engine::<L, NoFeed>::new(alloc, opening, ONES).ok()?;
+    let engine = Engine::<L>::new(alloc, opening, ONES);
     let gate = SecondFirst {
         rt,
         second_answered: AtomicBool::new(false),
@@ -77,7 +78,8 @@ fn run_served<R: Wait + Threads + time::Clock + Sync>(
     alloc: Global,
     listener: &TcpListener,
 ) -> Option<(bool, u64)> {
-    served::<Brand, R>(rt, alloc, Opening::new(NoFeed), listener)
+    let opening = Opening::new(alloc, rt).ok()?;
+    served::<Brand, R>(rt, alloc, opening, listener)
 }
 
 /// Both clients have written a request before the server accepts. One worker that served all

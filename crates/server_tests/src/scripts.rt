@@ -6,7 +6,7 @@ use std::alloc::Global;
 /// What comes, and what goes.
 type Row = (&'static [u8], &'static [u8]);
 
-static SCRIPTS: [Row; 31] = [
+static SCRIPTS: [Row; 33] = [
     // A put and a range.
     (
         b"POST /v3/kv/put {\"key\":\"Zm9v\",\"value\":\"YmFy\"}\nPOST /v3/kv/range {\"key\":\"Zm9v\"}\n",
@@ -50,7 +50,17 @@ static SCRIPTS: [Row; 31] = [
     // A tombstone at the compaction, and a late watch.
     (
         b"POST /v3/kv/put {\"key\":\"YQ==\",\"value\":\"MQ==\"}\nPOST /v3/kv/deleterange {\"key\":\"YQ==\"}\nPOST /v3/kv/compaction {\"revision\":\"3\"}\nTRIM\nTRIM\nTRIM\nPOST /v3/watch {\"create_request\":{\"key\":\"YQ==\",\"start_revision\":\"3\",\"prev_kv\":true}}\nDELIVER 1\nPOST /v3/watch {\"create_request\":{\"key\":\"YQ==\",\"start_revision\":\"2\"}}\nDELIVER 2\nDELIVER 2\n",
-        b"200 {\"header\":{\"cluster_id\":\"1\",\"member_id\":\"1\",\"raft_term\":\"1\",\"revision\":\"2\"}}\n200 {\"deleted\":\"1\",\"header\":{\"cluster_id\":\"1\",\"member_id\":\"1\",\"raft_term\":\"1\",\"revision\":\"3\"}}\n200 {\"header\":{\"cluster_id\":\"1\",\"member_id\":\"1\",\"raft_term\":\"1\",\"revision\":\"3\"}}\nremoved 2.0\nkept 3.0\ndone 1\n200 {\"result\":{\"created\":true,\"header\":{\"cluster_id\":\"1\",\"member_id\":\"1\",\"raft_term\":\"1\",\"revision\":\"3\"}}}\n{\"result\":{\"events\":[{\"kv\":{\"key\":\"YQ==\",\"mod_revision\":\"3\"},\"type\":\"DELETE\"}],\"header\":{\"cluster_id\":\"1\",\"member_id\":\"1\",\"raft_term\":\"1\",\"revision\":\"3\"}}}\n200 {\"result\":{\"created\":true,\"header\":{\"cluster_id\":\"1\",\"member_id\":\"1\",\"raft_term\":\"1\",\"revision\":\"3\"}}}\n{\"result\":{\"canceled\":true,\"compact_revision\":\"3\",\"header\":{\"cluster_id\":\"1\",\"member_id\":\"1\",\"raft_term\":\"1\",\"revision\":\"3\"}}}\nno watch\n",
+        b"200 {\"header\":{\"cluster_id\":\"1\",\"member_id\":\"1\",\"raft_term\":\"1\",\"revision\":\"2\"}}\n200 {\"deleted\":\"1\",\"header\":{\"cluster_id\":\"1\",\"member_id\":\"1\",\"raft_term\":\"1\",\"revision\":\"3\"}}\n200 {\"header\":{\"cluster_id\":\"1\",\"member_id\":\"1\",\"raft_term\":\"1\",\"revision\":\"3\"}}\nkept 2.0\nkept 3.0\ndone 2\n200 {\"result\":{\"created\":true,\"header\":{\"cluster_id\":\"1\",\"member_id\":\"1\",\"raft_term\":\"1\",\"revision\":\"3\"}}}\n{\"result\":{\"events\":[{\"kv\":{\"key\":\"YQ==\",\"mod_revision\":\"3\"},\"prev_kv\":{\"create_revision\":\"2\",\"key\":\"YQ==\",\"mod_revision\":\"2\",\"value\":\"MQ==\",\"version\":\"1\"},\"type\":\"DELETE\"}],\"header\":{\"cluster_id\":\"1\",\"member_id\":\"1\",\"raft_term\":\"1\",\"revision\":\"3\"}}}\n200 {\"result\":{\"created\":true,\"header\":{\"cluster_id\":\"1\",\"member_id\":\"1\",\"raft_term\":\"1\",\"revision\":\"3\"}}}\n{\"result\":{\"canceled\":true,\"compact_revision\":\"3\",\"header\":{\"cluster_id\":\"1\",\"member_id\":\"1\",\"raft_term\":\"1\",\"revision\":\"3\"}}}\nno watch\n",
+    ),
+    // The certificate of a tombstone at the compaction.
+    (
+        b"POST /v3/kv/put {\"key\":\"YQ==\",\"value\":\"MQ==\"}\nPOST /v3/kv/deleterange {\"key\":\"YQ==\"}\nPOST /v3/kv/compaction {\"revision\":\"3\"}\nTRIM\nTRIM\nTRIM\nCERTIFY\n",
+        b"200 {\"header\":{\"cluster_id\":\"1\",\"member_id\":\"1\",\"raft_term\":\"1\",\"revision\":\"2\"}}\n200 {\"deleted\":\"1\",\"header\":{\"cluster_id\":\"1\",\"member_id\":\"1\",\"raft_term\":\"1\",\"revision\":\"3\"}}\n200 {\"header\":{\"cluster_id\":\"1\",\"member_id\":\"1\",\"raft_term\":\"1\",\"revision\":\"3\"}}\nkept 2.0\nkept 3.0\ndone 2\ndump 2\nfloor 3\nrevision 3\nput 2 0 :YQ== 2 1 0 :MQ==\ngone 3 0 :YQ==\nend\nneeds 2\nprev 2 0 3\nwatch 3 0 3\nend\n",
+    ),
+    // A put at the compaction after a tombstone.
+    (
+        b"POST /v3/kv/put {\"key\":\"YQ==\",\"value\":\"MQ==\"}\nPOST /v3/kv/deleterange {\"key\":\"YQ==\"}\nPOST /v3/kv/put {\"key\":\"YQ==\",\"value\":\"Mg==\"}\nPOST /v3/kv/compaction {\"revision\":\"4\"}\nTRIM\nTRIM\nTRIM\nTRIM\n",
+        b"200 {\"header\":{\"cluster_id\":\"1\",\"member_id\":\"1\",\"raft_term\":\"1\",\"revision\":\"2\"}}\n200 {\"deleted\":\"1\",\"header\":{\"cluster_id\":\"1\",\"member_id\":\"1\",\"raft_term\":\"1\",\"revision\":\"3\"}}\n200 {\"header\":{\"cluster_id\":\"1\",\"member_id\":\"1\",\"raft_term\":\"1\",\"revision\":\"4\"}}\n200 {\"header\":{\"cluster_id\":\"1\",\"member_id\":\"1\",\"raft_term\":\"1\",\"revision\":\"4\"}}\nremoved 2.0\nremoved 3.0\nkept 4.0\ndone 1\n",
     ),
     // Two compactions, the second in mid-trim.
     (
@@ -65,7 +75,7 @@ static SCRIPTS: [Row; 31] = [
     // A transaction that reads its own puts, and its certificate.
     (
         b"POST /v3/kv/txn {\"success\":[{\"request_put\":{\"key\":\"eA==\",\"value\":\"MQ==\"}},{\"request_range\":{\"key\":\"AA==\",\"range_end\":\"AA==\"}},{\"request_put\":{\"key\":\"eQ==\",\"value\":\"Mg==\"}},{\"request_range\":{\"key\":\"AA==\",\"range_end\":\"AA==\"}}]}\nCERTIFY\n",
-        b"200 {\"header\":{\"cluster_id\":\"1\",\"member_id\":\"1\",\"raft_term\":\"1\",\"revision\":\"2\"},\"responses\":[{\"response_put\":{\"header\":{\"revision\":\"2\"}}},{\"response_range\":{\"count\":\"1\",\"header\":{\"revision\":\"2\"},\"kvs\":[{\"create_revision\":\"2\",\"key\":\"eA==\",\"mod_revision\":\"2\",\"value\":\"MQ==\",\"version\":\"1\"}]}},{\"response_put\":{\"header\":{\"revision\":\"2\"}}},{\"response_range\":{\"count\":\"2\",\"header\":{\"revision\":\"2\"},\"kvs\":[{\"create_revision\":\"2\",\"key\":\"eA==\",\"mod_revision\":\"2\",\"value\":\"MQ==\",\"version\":\"1\"},{\"create_revision\":\"2\",\"key\":\"eQ==\",\"mod_revision\":\"2\",\"value\":\"Mg==\",\"version\":\"1\"}]}}],\"succeeded\":true}\ndump 1\nfloor 0\nrevision 2\nput 2 0 :eA== 2 1 0 :MQ==\nput 2 1 :eQ== 2 1 0 :Mg==\nend\nneeds 1\nrange 2 0 2\nrange 2 1 2\nend\n",
+        b"200 {\"header\":{\"cluster_id\":\"1\",\"member_id\":\"1\",\"raft_term\":\"1\",\"revision\":\"2\"},\"responses\":[{\"response_put\":{\"header\":{\"revision\":\"2\"}}},{\"response_range\":{\"count\":\"1\",\"header\":{\"revision\":\"2\"},\"kvs\":[{\"create_revision\":\"2\",\"key\":\"eA==\",\"mod_revision\":\"2\",\"value\":\"MQ==\",\"version\":\"1\"}]}},{\"response_put\":{\"header\":{\"revision\":\"2\"}}},{\"response_range\":{\"count\":\"2\",\"header\":{\"revision\":\"2\"},\"kvs\":[{\"create_revision\":\"2\",\"key\":\"eA==\",\"mod_revision\":\"2\",\"value\":\"MQ==\",\"version\":\"1\"},{\"create_revision\":\"2\",\"key\":\"eQ==\",\"mod_revision\":\"2\",\"value\":\"Mg==\",\"version\":\"1\"}]}}],\"succeeded\":true}\ndump 2\nfloor 0\nrevision 2\nput 2 0 :eA== 2 1 0 :MQ==\nput 2 1 :eQ== 2 1 0 :Mg==\nend\nneeds 2\nrange 2 0 2\nrange 2 1 2\nend\n",
     ),
     // A transaction within one.
     (
@@ -152,70 +162,85 @@ static SCRIPTS: [Row; 31] = [
     // What an empty store keeps.
     (
         b"CERTIFY\n",
-        b"dump 1\nfloor 0\nrevision 1\nend\nneeds 1\nend\n",
+        b"dump 2\nfloor 0\nrevision 1\nend\nneeds 2\nend\n",
     ),
     // What is kept before and after trimming.
     (
         b"POST /v3/kv/put {\"key\":\"YQ==\",\"value\":\"MQ==\"}\nPOST /v3/kv/deleterange {\"key\":\"YQ==\"}\nPOST /v3/kv/put {\"key\":\"Yg==\",\"value\":\"MQ==\"}\nPOST /v3/kv/compaction {\"revision\":\"4\"}\nCERTIFY\nTRIM\nTRIM\nTRIM\nTRIM\nCERTIFY\n",
-        b"200 {\"header\":{\"cluster_id\":\"1\",\"member_id\":\"1\",\"raft_term\":\"1\",\"revision\":\"2\"}}\n200 {\"deleted\":\"1\",\"header\":{\"cluster_id\":\"1\",\"member_id\":\"1\",\"raft_term\":\"1\",\"revision\":\"3\"}}\n200 {\"header\":{\"cluster_id\":\"1\",\"member_id\":\"1\",\"raft_term\":\"1\",\"revision\":\"4\"}}\n200 {\"header\":{\"cluster_id\":\"1\",\"member_id\":\"1\",\"raft_term\":\"1\",\"revision\":\"4\"}}\ndump 1\nfloor 4\nrevision 4\nput 2 0 :YQ== 2 1 0 :MQ==\ngone 3 0 :YQ==\nput 4 0 :Yg== 4 1 0 :MQ==\nend\nneeds 1\nrange 4 0 4\nend\nremoved 2.0\nremoved 3.0\nkept 4.0\ndone 1\ndump 1\nfloor 4\nrevision 4\nput 4 0 :Yg== 4 1 0 :MQ==\nend\nneeds 1\nrange 4 0 4\nend\n",
+        b"200 {\"header\":{\"cluster_id\":\"1\",\"member_id\":\"1\",\"raft_term\":\"1\",\"revision\":\"2\"}}\n200 {\"deleted\":\"1\",\"header\":{\"cluster_id\":\"1\",\"member_id\":\"1\",\"raft_term\":\"1\",\"revision\":\"3\"}}\n200 {\"header\":{\"cluster_id\":\"1\",\"member_id\":\"1\",\"raft_term\":\"1\",\"revision\":\"4\"}}\n200 {\"header\":{\"cluster_id\":\"1\",\"member_id\":\"1\",\"raft_term\":\"1\",\"revision\":\"4\"}}\ndump 2\nfloor 4\nrevision 4\nput 2 0 :YQ== 2 1 0 :MQ==\ngone 3 0 :YQ==\nput 4 0 :Yg== 4 1 0 :MQ==\nend\nneeds 2\nrange 4 0 4\nend\nremoved 2.0\nremoved 3.0\nkept 4.0\ndone 1\ndump 2\nfloor 4\nrevision 4\nput 4 0 :Yg== 4 1 0 :MQ==\nend\nneeds 2\nrange 4 0 4\nend\n",
     ),
 ];
 
-static CERTIFICATES: [Row; 12] = [
+static CERTIFICATES: [Row; 15] = [
     // A version whose need is another's.
     (
-        b"dump 1\nfloor 0\nrevision 5\nput 2 0 :YQ== 2 1 0 :MQ==\nput 3 0 :Yg== 3 1 0 :MQ==\nput 4 0 :YQ== 2 2 0 :MQ==\nput 5 0 :YQ== 2 3 0 :MQ==\nend\nneeds 1\nrange 2 0 2\nrange 3 0 3\nrange 4 0 5\nrange 5 0 5\nend\n",
+        b"dump 2\nfloor 0\nrevision 5\nput 2 0 :YQ== 2 1 0 :MQ==\nput 3 0 :Yg== 3 1 0 :MQ==\nput 4 0 :YQ== 2 2 0 :MQ==\nput 5 0 :YQ== 2 3 0 :MQ==\nend\nneeds 2\nrange 2 0 2\nrange 3 0 3\nrange 4 0 5\nrange 5 0 5\nend\n",
         b"refused: need unmet 4.0\n",
     ),
     // A certificate that passes.
     (
-        b"dump 1\nfloor 0\nrevision 5\nput 2 0 :YQ== 2 1 0 :MQ==\nput 3 0 :Yg== 3 1 0 :MQ==\nput 4 0 :YQ== 2 2 0 :MQ==\nput 5 0 :YQ== 2 3 0 :MQ==\nend\nneeds 1\nrange 2 0 2\nrange 3 0 3\nrange 4 0 4\nrange 5 0 5\nend\n",
+        b"dump 2\nfloor 0\nrevision 5\nput 2 0 :YQ== 2 1 0 :MQ==\nput 3 0 :Yg== 3 1 0 :MQ==\nput 4 0 :YQ== 2 2 0 :MQ==\nput 5 0 :YQ== 2 3 0 :MQ==\nend\nneeds 2\nrange 2 0 2\nrange 3 0 3\nrange 4 0 4\nrange 5 0 5\nend\n",
         b"least 4\n",
     ),
     // A version without a need.
     (
-        b"dump 1\nfloor 0\nrevision 5\nput 2 0 :YQ== 2 1 0 :MQ==\nput 3 0 :Yg== 3 1 0 :MQ==\nput 4 0 :YQ== 2 2 0 :MQ==\nput 5 0 :YQ== 2 3 0 :MQ==\nend\nneeds 1\nrange 2 0 2\nrange 3 0 3\nrange 5 0 5\nend\n",
+        b"dump 2\nfloor 0\nrevision 5\nput 2 0 :YQ== 2 1 0 :MQ==\nput 3 0 :Yg== 3 1 0 :MQ==\nput 4 0 :YQ== 2 2 0 :MQ==\nput 5 0 :YQ== 2 3 0 :MQ==\nend\nneeds 2\nrange 2 0 2\nrange 3 0 3\nrange 5 0 5\nend\n",
         b"refused: no need 4.0\n",
     ),
     // The certificate of an empty store.
     (
-        b"dump 1\nfloor 0\nrevision 1\nend\nneeds 1\nend\n",
+        b"dump 2\nfloor 0\nrevision 1\nend\nneeds 2\nend\n",
         b"least 0\n",
     ),
     // A certificate before trimming.
     (
-        b"dump 1\nfloor 4\nrevision 4\nput 2 0 :YQ== 2 1 0 :MQ==\ngone 3 0 :YQ==\nput 4 0 :Yg== 4 1 0 :MQ==\nend\nneeds 1\nrange 4 0 4\nend\n",
+        b"dump 2\nfloor 4\nrevision 4\nput 2 0 :YQ== 2 1 0 :MQ==\ngone 3 0 :YQ==\nput 4 0 :Yg== 4 1 0 :MQ==\nend\nneeds 2\nrange 4 0 4\nend\n",
         b"refused: no need 2.0\n",
     ),
     // A certificate after trimming.
     (
-        b"dump 1\nfloor 4\nrevision 4\nput 4 0 :Yg== 4 1 0 :MQ==\nend\nneeds 1\nrange 4 0 4\nend\n",
+        b"dump 2\nfloor 4\nrevision 4\nput 4 0 :Yg== 4 1 0 :MQ==\nend\nneeds 2\nrange 4 0 4\nend\n",
         b"least 1\n",
     ),
     // A text without its last line.
     (
-        b"dump 1\nfloor 0\nrevision 2\nput 2 0 :eA== 2 1 0 :MQ==\nput 2 1 :eQ== 2 1 0 :Mg==\nend\nneeds 1\nrange 2 0 2\nrange 2 1 2\n",
+        b"dump 2\nfloor 0\nrevision 2\nput 2 0 :eA== 2 1 0 :MQ==\nput 2 1 :eQ== 2 1 0 :Mg==\nend\nneeds 2\nrange 2 0 2\nrange 2 1 2\n",
         b"unreadable: line 10\n",
     ),
     // A need for no version.
     (
-        b"dump 1\nfloor 0\nrevision 2\nput 2 0 :eA== 2 1 0 :MQ==\nput 2 1 :eQ== 2 1 0 :Mg==\nend\nneeds 1\nrange 2 0 2\nrange 2 1 2\nrange 2 1 2\nend\n",
+        b"dump 2\nfloor 0\nrevision 2\nput 2 0 :eA== 2 1 0 :MQ==\nput 2 1 :eQ== 2 1 0 :Mg==\nend\nneeds 2\nrange 2 0 2\nrange 2 1 2\nrange 2 1 2\nend\n",
         b"refused: extra\n",
     ),
     // Two versions of one revision.
     (
-        b"dump 1\nfloor 0\nrevision 2\nput 2 0 :eA== 2 1 0 :MQ==\nput 2 0 :eQ== 2 1 0 :Mg==\nend\nneeds 1\nrange 2 0 2\nrange 2 0 2\nend\n",
+        b"dump 2\nfloor 0\nrevision 2\nput 2 0 :eA== 2 1 0 :MQ==\nput 2 0 :eQ== 2 1 0 :Mg==\nend\nneeds 2\nrange 2 0 2\nrange 2 0 2\nend\n",
         b"refused: not rising 2.0\n",
     ),
     // A key that stands twice at one main revision.
     (
-        b"dump 1\nfloor 0\nrevision 2\nput 2 0 :eA== 2 1 0 :MQ==\nput 2 1 :eA== 2 1 0 :Mg==\nend\nneeds 1\nrange 2 0 2\nrange 2 1 2\nend\n",
+        b"dump 2\nfloor 0\nrevision 2\nput 2 0 :eA== 2 1 0 :MQ==\nput 2 1 :eA== 2 1 0 :Mg==\nend\nneeds 2\nrange 2 0 2\nrange 2 1 2\nend\n",
         b"refused: double key 2.0\n",
     ),
     // A version of the empty key.
     (
-        b"dump 1\nfloor 0\nrevision 2\nput 2 0 : 2 1 0 :MQ==\nput 2 1 :eQ== 2 1 0 :Mg==\nend\nneeds 1\nrange 2 0 2\nrange 2 1 2\nend\n",
+        b"dump 2\nfloor 0\nrevision 2\nput 2 0 : 2 1 0 :MQ==\nput 2 1 :eQ== 2 1 0 :Mg==\nend\nneeds 2\nrange 2 0 2\nrange 2 1 2\nend\n",
         b"refused: need unmet 2.0\n",
+    ),
+    // A put that is needed as a previous value.
+    (
+        b"dump 2\nfloor 3\nrevision 3\nput 2 0 :YQ== 2 1 0 :MQ==\ngone 3 0 :YQ==\nend\nneeds 2\nprev 2 0 3\nwatch 3 0 3\nend\n",
+        b"least 2\n",
+    ),
+    // A previous value at a revision below the floor.
+    (
+        b"dump 2\nfloor 3\nrevision 3\nput 2 0 :YQ== 2 1 0 :MQ==\ngone 3 0 :YQ==\nend\nneeds 2\nprev 2 0 2\nwatch 3 0 3\nend\n",
+        b"refused: need unmet 2.0\n",
+    ),
+    // A text of another format.
+    (
+        b"dump 1\nfloor 0\nrevision 2\nput 2 0 :eA== 2 1 0 :MQ==\nput 2 1 :eQ== 2 1 0 :Mg==\nend\nneeds 1\nrange 2 0 2\nrange 2 1 2\nend\n",
+        b"unreadable: line 1\n",
     ),
     // An empty text.
     (b"", b"unreadable: line 1\n"),

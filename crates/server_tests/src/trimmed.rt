@@ -2,7 +2,7 @@
 ghost use Rattle.std.specs.Prelude.{◌≡◌};
 
 use crate::texts::{COMPACTED_PUTS, ONES, Still};
-use engine_lock::{Engine, EngineName, NoFeed, Opening};
+use engine_lock::{Engine, EngineName, Opening};
 use http_front::{Gate, pool};
 use std::alloc::Global;
 use std::io::Write;
@@ -35,13 +35,14 @@ impl<'x, R: time::Clock> Gate for Slowly<'x, R> {
 fn served<L: EngineName + Send + Sync, R: Wait + Threads + time::Clock + Sync>(
     rt: &R,
     alloc: Global,
-    opening: Opening<NoFeed>,
+    opening: Opening,
     listener: &TcpListener,
 ) -> Option<(u64, u64)>
     requires name { opening.name ≡ L.Ledger.name }
     requires parts { opening.parts ≡ L.Ledger.parts }
+    requires book { opening.book ≡ L.book }
 {
-    let engine = Engine::<L, NoFeed>::new(alloc, opening, ONES).ok()?;
+    let engine = Engine::<L>::new(alloc, opening, ONES);
     let gate = Slowly { rt };
     match pool(rt, alloc, engine, &gate, &Still, listener, 2, 1) {
         Ok(core) => {
@@ -57,11 +58,12 @@ fn run_served<R: Wait + Threads + time::Clock + Sync>(
     alloc: Global,
     listener: &TcpListener,
 ) -> Option<(u64, u64)> {
-    served::<Brand, R>(rt, alloc, Opening::new(NoFeed), listener)
+    let opening = Opening::new(alloc, rt).ok()?;
+    served::<Brand, R>(rt, alloc, opening, listener)
 }
 
-/// Trimming has found nothing to do before the first put; three puts of a key and a compaction later
-/// it has taken two versions out, without a request that waits for that.
+/// Trimming has found nothing to do before the first put; three puts of a key and a compaction at the
+/// last of them later it has taken the first version out, without a request that waits for that.
 #[test]
 fn trimming_goes_on(rt: HostRuntime) -> Result<(), Fail> {
     let alloc = rt.alloc();
@@ -70,6 +72,6 @@ fn trimming_goes_on(rt: HostRuntime) -> Result<(), Fail> {
     let mut peer = &client;
     peer.write_all(COMPACTED_PUTS)?;
     client.shutdown(Shutdown::Write)?;
-    assert_eq!(rt; run_served(&rt, alloc, &listener), Some((4, 1)));
+    assert_eq!(rt; run_served(&rt, alloc, &listener), Some((4, 2)));
     Ok(())
 }

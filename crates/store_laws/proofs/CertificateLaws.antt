@@ -11,14 +11,14 @@ use Rattle.kv_model.specs.declared.version.Body.{Body}
 use Rattle.kv_model.specs.declared.version.Body.TheVariants.{Put, Gone}
 use Rattle.kv_model.specs.Lists.{IsPart, IsIn, is_empty}
 use Rattle.kv_model.specs.Keys.{same_key}
-use Rattle.kv_model.specs.History.{value_at, end_of, is_tombstone, is_superseded}
+use Rattle.kv_model.specs.History.{value_at, end_of, is_tombstone, is_superseded, is_next_at}
 use Rattle.kv_model.specs.Ranges.{plain_range}
 use Rattle.kv_model.specs.Watches.{before_is_kept}
 use Rattle.kv_model.specs.World.{World, revision, versions}
 use Rattle.store_laws.specs.Sound.{IsSound}
 use Rattle.kv_model.specs.Questions.{Question, IsKept, answered, IsGood}
 use Rattle.kv_model.specs.Certificates.{HasNeed, Claim, Need}
-use Rattle.kv_model.specs.Certificates.{need_of, claim_of, claims_of, is_met, is_asked, NeedFault, fall_after, first_fall, is_double}
+use Rattle.kv_model.specs.Certificates.{put_need, need_of, claim_of, claims_of, is_met, is_asked, NeedFault, fall_after, first_fall, is_double}
 use Rattle.kv_model.specs.Certificates.{claims_fault, first_fault}
 use Rattle.kv_model.specs.Headline.{dump_of, AreNeeds}
 use Rattle.store_laws.specs.TrimmingLaws.{SettledIsCertified}
@@ -26,7 +26,8 @@ use Rattle.store_laws.proofs.PartLaws.{in_whole}
 use Rattle.store_laws.proofs.Compacting.{kvs_of, plain_shows, one_listed}
 use Rattle.store_laws.proofs.HistoryLaws.{same_key-eq}
 use Rattle.store_laws.proofs.TrimLaws.{Precedes, AreRising, rising-dress, rising-part}
-use Rattle.store_laws.proofs.LeastLaws.{stand, IsLeft, put-in, told-in, sits, put-kept, put-shown, tombstone-kept, not-replaced}
+use Rattle.store_laws.proofs.LeastLaws.{IsLeft, IsPrevious, last-or-previous, put-in, told-in, rising, sits, put-kept, put-shown}
+use Rattle.store_laws.proofs.LeastLaws.{tombstone-kept, previous-kept, previous-stays}
 
 -- what answers a plain Range alike holds the same
 pub same-value : (us vs : List Version) (c n r : ℕ) (k : List ℕ) → k ≢ [] → IsKept c n r
@@ -52,10 +53,12 @@ module _ (w : World) (sound : IsSound w) (vs : List Version) (g : IsGood vs w.mu
   asked r k = λ j. not (not-empty v.key (sits w.mutations w.compacted sound.history sound.floor vs g v i left).has_key j)
       && le-leb 1 r k.first j && le-leb w.compacted r k.kept j && le-leb r (revision w) k.past j
 
-  put-need : (create version : ℕ) (lease : ℤ) (value : List ℕ) → v.body ≡ Put create version lease value → HasOwn w vs v
-  put-need create version lease value b = record {
+  -- nothing replaces it at the revision of the Range
+  last-need : (create version : ℕ) (lease : ℤ) (value : List ℕ) → v.body ≡ Put create version lease value
+      → is_superseded vs (max v.rev.main w.compacted) v ≡ false → HasOwn w vs v
+  last-need create version lease value b alone = record {
     need = Need.range r;
-    listed = ap (need_of (dump_of w vs) v) b ∙ ap (λ t. cond t None (Some (Need.range r))) alone;
+    listed = ap (need_of (dump_of w vs) v) b ∙ ap (λ t. put_need t (is_next_at vs w.compacted v) r w.compacted) alone;
     has = record { asked = record { revision = r; is = refl; kept = kept; has_key = has_key }; needed = needed };
     met = λ j. asked r kept j && not (live j) && le-leb v.rev.main r (omega arith) j && not (alone j);
   }
@@ -72,19 +75,48 @@ module _ (w : World) (sound : IsSound w) (vs : List Version) (g : IsGood vs w.mu
       live : is_tombstone v.body ≡ false
       live = ap is_tombstone b
 
-      alone : is_superseded vs r v ≡ false
-      alone =
-          let s = stand v vs i in
-          subst (λ us. is_superseded us r v ≡ false) (sym s.is)
-          (not-replaced w.compacted s.before v s.after (subst AreRising s.is (rising-part g.part (rising-dress w.mutations sound.history)))
-          (subst (λ us. IsLeft us w.compacted v) s.is left))
-
       needed : (us : List Version) → IsPart us (versions w) → (IsIn v us → ⊥)
           → answered us w.compacted (revision w) (Question.range (plain_range v.key r))
           ≢ answered (versions w) w.compacted (revision w) (Question.range (plain_range v.key r))
       needed us part out e = out (put-in us (versions w) v r (rising-dress w.mutations sound.history) part (in_whole g.part v i) live
           (same-value us (versions w) w.compacted (revision w) r v.key has_key kept e
-          ∙ put-shown w.mutations w.compacted sound.history sound.floor vs g v i left))
+          ∙ put-shown w.mutations w.compacted sound.history sound.floor vs g v i left alone))
+
+  -- the next version of its key is at the compaction
+  previous-need : (create version : ℕ) (lease : ℤ) (value : List ℕ) → v.body ≡ Put create version lease value
+      → IsPrevious vs w.compacted v → HasOwn w vs v
+  previous-need create version lease value b p = record {
+    need = Need.prev w.compacted;
+    listed = ap (need_of (dump_of w vs) v) b
+        ∙ ap (λ t. put_need t (is_next_at vs w.compacted v) (max v.rev.main w.compacted) w.compacted) replaced
+        ∙ ap (λ t. put_need true t (max v.rev.main w.compacted) w.compacted) next;
+    has = record {
+      asked = kept;
+      needed = λ us part out e. out (previous-stays w.mutations w.compacted sound.history sound.floor vs g v i left us part live p e);
+    };
+    met = λ j. asked w.compacted kept j && not (live j) && next j;
+  }
+    where
+      kept : IsKept w.compacted (revision w) w.compacted
+      kept = previous-kept w.mutations w.compacted sound.history sound.floor vs g v i left p
+
+      live : is_tombstone v.body ≡ false
+      live = ap is_tombstone b
+
+      replaced : is_superseded vs (max v.rev.main w.compacted) v ≡ true
+      replaced = let a : v.rev.main ≤ w.compacted = p.by in
+          let same : max v.rev.main w.compacted ≡ w.compacted = omega arith in
+          ap (λ r. is_superseded vs r v) same ∙ p.replaced
+
+      next : is_next_at vs w.compacted v ≡ true
+      next = λ j. p.replaced j && not (p.alone j)
+
+  put-need : (create version : ℕ) (lease : ℤ) (value : List ℕ) → v.body ≡ Put create version lease value → HasOwn w vs v
+  put-need create version lease value b =
+      elim (last-or-previous vs w.compacted v (rising w.mutations w.compacted sound.history sound.floor vs g v i left) i left) [
+        | inl alone ↦ last-need create version lease value b alone
+        | inr p ↦ previous-need create version lease value b p
+      ]
 
   gone-need : v.body ≡ Gone → HasOwn w vs v
   gone-need b = record {

@@ -35,7 +35,7 @@ pub versions-told : (vs : List Version) (c : ℕ) (w : Watched) (xs : List Versi
 versions-told vs c w [] = refl
 versions-told vs c w (x ∷ xs) = ap (λ ys. x ∷ ys) (versions-told vs c w xs)
 
-map-pointwise : {X Y : Type 0} (f g : X → Y) (xs : List X) → map f xs ≡ map g xs → AllByRecursion (λ x. f x ≡ g x) xs
+pub map-pointwise : {X Y : Type 0} (f g : X → Y) (xs : List X) → map f xs ≡ map g xs → AllByRecursion (λ x. f x ≡ g x) xs
 map-pointwise f g [] e = tt
 map-pointwise f g (x ∷ xs) e = (heads _ _ _ _ e, map-pointwise f g xs (tails _ _ _ _ e))
   where
@@ -45,7 +45,7 @@ map-pointwise f g (x ∷ xs) e = (heads _ _ _ _ e, map-pointwise f g xs (tails _
     tails : {Z : Type 0} (a b : Z) (ys bs : List Z) → a ∷ ys ≡ b ∷ bs → ys ≡ bs
     tails a b ys bs e = cc
 
-map-same : {X Y : Type 0} (f g : X → Y) (xs : List X) → AllByRecursion (λ x. f x ≡ g x) xs → map f xs ≡ map g xs
+pub map-same : {X Y : Type 0} (f g : X → Y) (xs : List X) → AllByRecursion (λ x. f x ≡ g x) xs → map f xs ≡ map g xs
 map-same f g [] h = refl
 map-same f g (x ∷ xs) h = λ i. h.0 i ∷ map-same f g xs h.1 i
 

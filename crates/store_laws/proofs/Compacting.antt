@@ -60,7 +60,7 @@ four : (r : ℕ) → IsKept 4 4 r → r ≡ 4
 four r k = omega arith
 
 answers : (q : Question) → IsQuestion 4 4 q → answered last_put 4 4 q ≡ answered (dress put_delete_put) 4 4 q
-unfolding dress
+unfolding dress value_at
 answers (Question.range q) a = ap Answered.range (same_ranges last_put (dress put_delete_put) 4 4 4 (end_of 4) q (omega arith) (a.is
     ∙ ap pos (four a.revision a.kept)) held_at_four)
 answers (Question.watch w r) a = subst (λ n. answered last_put 4 4 (Question.watch w n)

@@ -15,7 +15,7 @@ use Rattle.kv_model.specs.Told.{Trimmed}
 use Rattle.kv_model.specs.Step.{perform, expire}
 use Rattle.store_laws.specs.Trimming.{TrimStep, trimmed, trimmed_next, visited, finished, is_trimmed, place_after}
 use Rattle.kv_model.specs.Feed.{Published}
-use Rattle.store_laws.specs.Snapshots.{Snapshot, absorb, blank, Untrimmed, grow, nothing_published, last_main_or}
+use Rattle.store_laws.specs.Snapshots.{Stored, absorb, blank, Untrimmed, grow, nothing_published, last_main_or}
 use Rattle.store_laws.specs.Changes.{untrimmed, change_between, batch_of}
 use Rattle.store_laws.specs.FeedLaws.{CommandIsPublished, ExpiryIsPublished, CommandIsOneChange, ExpiryIsOneChange, ReaderStoresPart}
 use Rattle.store_laws.proofs.HistoryLaws.{dress_after-append}
@@ -82,7 +82,7 @@ leads_up ms c d h = ap (λ b. fold grow (whole ms c) (cond b (Published.floor d 
 
 -- ---- every command either adds to the history or moves the compaction
 
-moved : (w u : World) → Moves w u → fold grow (untrimmed w) (change_between w u) ≡ untrimmed u
+pub moved : (w u : World) → Moves w u → fold grow (untrimmed w) (change_between w u) ≡ untrimmed u
 moved w u (inl h) = subst (λ c. Leads w.mutations w.compacted u.mutations c) (sym h.compacted)
     (subst (λ ms. Leads w.mutations w.compacted ms w.compacted) (sym h.mutations) (leads_on w.mutations h.changes w.compacted))
 moved w u (inr h) = subst (λ ms. Leads w.mutations w.compacted ms u.compacted) (sym h.mutations)
@@ -127,12 +127,12 @@ trimmed_part vs us p c h = next (find (λ v. not (rev_lt v.rev p)) vs)
     next (Some v) = by v (nat_le v.rev.main c)
 
 -- what is stored of what was published, from a snapshot of it on
-record StoresOf (s : Snapshot) (u : Untrimmed) : Type 0 where
+record StoresOf (s : Stored) (u : Untrimmed) : Type 0 where
   part : IsPart s.versions u.versions
   compacted : s.compacted ≡ u.compacted
   revision : s.revision ≡ u.revision
 
-stores_one : (s : Snapshot) (u : Untrimmed) (op : Published) → StoresOf s u → StoresOf (absorb s op) (grow u op)
+stores_one : (s : Stored) (u : Untrimmed) (op : Published) → StoresOf s u → StoresOf (absorb s op) (grow u op)
 stores_one s u (Published.batch vs) h = record {
   part = part-append vs h.part;
   compacted = h.compacted;
@@ -145,7 +145,7 @@ stores_one s u Published.trim h = record {
   revision = h.revision;
 }
 
-stores_all : (ops : List Published) (s : Snapshot) (u : Untrimmed) → StoresOf s u → StoresOf (fold absorb s ops) (fold grow u ops)
+stores_all : (ops : List Published) (s : Stored) (u : Untrimmed) → StoresOf s u → StoresOf (fold absorb s ops) (fold grow u ops)
 stores_all [] s u h = h
 stores_all (op ∷ ops) s u h = stores_all ops (absorb s op) (grow u op) (stores_one s u op h)
 

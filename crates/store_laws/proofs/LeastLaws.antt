@@ -1,10 +1,10 @@
 -- Where nothing is left to take out, each version is needed, and so the list is the one least.
-use Rattle.std.proofs.Common.{◌≡◌, ◌≤◌, ◌<◌, ◌⊎◌, ℕ, ◌^◌, max, List, [], ◌∷◌, ◌++◌, map, filter, Bool, true, false, ◌&&◌, ◌||◌, cond}
+use Rattle.std.proofs.Common.{◌≡◌, ◌≤◌, ◌<◌, ◌⊎◌, ℕ, ◌-◌, ◌^◌, max, List, [], ◌∷◌, ◌++◌, map, filter, Bool, true, false, ◌&&◌, ◌||◌, cond}
 use Rattle.std.proofs.Common.{Option, None, Some, option_and_then, refl, sym, ◌∙◌, ap, subst, inl, inr, arith}
 use Rattle.std.specs.Prelude.{nat_lt, nat_le, ◌==◌}
 use Rattle.std.proofs.lemmas.Bool.{le-leb, lt-ltb, eq-eqb}
 use Rattle.std.specs.Option.{option_or}
-use Rattle.std.specs.List.{AllByRecursion}
+use Rattle.std.specs.List.{AllByRecursion, list_any}
 use Rattle.std.proofs.Math.Bool.{or-true}
 use Rattle.kv_model.specs.declared.version.Version.{Version}
 use Rattle.kv_model.specs.declared.version.Body.{Body}
@@ -12,10 +12,10 @@ use Rattle.kv_model.specs.declared.version.Body.TheVariants.{Put, Gone}
 use Rattle.kv_model.specs.declared.call.Watched.{Watched}
 use Rattle.kv_model.specs.Lists.{IsPart, IsIn, last_that}
 use Rattle.kv_model.specs.Keys.{same_key}
-use Rattle.kv_model.specs.History.{Mutation, KeyValue, now, dress, latest, value_at, key_value, shown, rev_le, end_of}
+use Rattle.kv_model.specs.History.{Mutation, KeyValue, now, dress, latest, value_at, key_value, shown, rev_le, rev_lt, end_of}
 use Rattle.store_laws.specs.Sound.{IsHistory}
-use Rattle.kv_model.specs.Watches.{event_of_by, before_is_kept, matches, wants, plain_watch}
-use Rattle.kv_model.specs.Questions.{Question, IsKept, Answered, answered_by, IsGood, IsLeast}
+use Rattle.kv_model.specs.Watches.{WatchEvent, event_of_by, events_of_by, before_is_kept, matches, wants, plain_watch, previous_watch}
+use Rattle.kv_model.specs.Questions.{Question, IsKept, Answered, answered, answered_by, IsGood, IsLeast}
 use Rattle.kv_model.specs.History.{is_superseded, is_tombstone}
 use Rattle.store_laws.specs.Trimming.{is_trimmed, IsSettled}
 use Rattle.store_laws.proofs.PartLaws.{IsOnce, in_whole, part_length, part_same}
@@ -24,10 +24,11 @@ use Rattle.store_laws.proofs.HistoryLaws.{same_key-eq}
 use Rattle.store_laws.proofs.PlaceLaws.{rev_le-end}
 use Rattle.store_laws.proofs.GoodLaws.{good-value_at}
 use Rattle.store_laws.proofs.KeyLaws.{same-refl}
-use Rattle.store_laws.proofs.RevOrder.{ranked, rev_lt-self}
+use Rattle.store_laws.proofs.RevOrder.{ranked, rev_lt-main, rev_lt-self}
 use Rattle.store_laws.proofs.TrimLaws.{Precedes, AreRising, rising-dress, rising-part, rising-mid, Sits}
-use Rattle.store_laws.proofs.TrimLaws.{before-mid, sit-part, superseded-mid, low, last_seen}
+use Rattle.store_laws.proofs.TrimLaws.{before-mid, sit-part, superseded-mid, low, last_seen, replaces, replaces-of, replaces-as, Replaces}
 use Rattle.store_laws.proofs.StepLaws.{settles}
+use Rattle.store_laws.proofs.CompactLaws.{map-pointwise}
 
 -- ---- elements
 
@@ -185,11 +186,6 @@ told-in has_before us vs c n v i e =
     ∙ told-as has_before vs c n v in
     filter-in (watch_test v) us v (subst (IsIn v) (sym same) (in-filter (watch_test v) vs v (tells v) i))
 
--- ---- what is left is needed
-
-abbrev pub IsLeft : List Version → ℕ → Version → Type 0
-IsLeft vs c v = (nat_le v.rev.main c && is_trimmed vs c v) ≡ false
-
 -- a put that nothing replaces is what the key shows
 pub last-shown : (r : ℕ) (xs : List Version) (v : Version) (ys : List Version)
     → AreRising (xs ++ v ∷ ys) → v.rev.sub < 2 ^ 64 → v.rev.main ≤ r → is_superseded (xs ++ v ∷ ys) r v ≡ false
@@ -200,27 +196,169 @@ last-shown r xs v ys h number l e =
     ∙ ap (λ o. option_or (option_or o (Some v)) (latest xs (end_of r) v.key)) (last_seen r v ys (rising-mid xs v ys h).1
     (sym (superseded-mid xs v ys r (before-mid xs v ys h)) ∙ e)))
 
+-- ---- a put that a watch tells of as a previous value stands in the list
+
+unfoldable events_told : Answered → List WatchEvent
+events_told (Answered.range r) = []
+events_told (Answered.watch es) = es
+
+-- lists that tell alike of a revision tell alike of each version of it
+pub event-alike : (has_before : ℕ → ℕ → Bool) (us vs : List Version) (c r : ℕ) (w : Watched) (u : Version)
+    → (u.rev.main == r && matches w u) ≡ true → IsIn u vs
+    → events_of_by has_before us c r w ≡ events_of_by has_before vs c r w
+    → event_of_by has_before us c w u ≡ event_of_by has_before vs c w u
+event-alike has_before us vs c r w u t i e =
+    let test : Version → Bool = λ v. v.rev.main == r && matches w v in
+    let same : filter test us ≡ filter test vs = sym (told_versions has_before us c w (filter test us))
+    ∙ ap (map (λ (x : WatchEvent). x.version)) e ∙ told_versions has_before vs c w (filter test vs) in
+    let each : map (event_of_by has_before us c w) (filter test vs) ≡ map (event_of_by has_before vs c w) (filter test vs)
+    = ap (map (event_of_by has_before us c w)) (sym same) ∙ e in
+    each-in (λ v. event_of_by has_before us c w v ≡ event_of_by has_before vs c w v) (filter test vs) u
+    (map-pointwise (event_of_by has_before us c w) (event_of_by has_before vs c w) (filter test vs) each) (in-filter test vs u t i)
+
+-- and so of what stood before it, where the test has that told
+told-before : (has_before : ℕ → ℕ → Bool) (us vs : List Version) (c n : ℕ) (u : Version) → has_before c u.rev.main ≡ true → IsIn u vs
+    → answered_by has_before us c n (Question.watch (previous_watch u.key) u.rev.main)
+    ≡ answered_by has_before vs c n (Question.watch (previous_watch u.key) u.rev.main)
+    → value_at us (end_of (u.rev.main - 1)) u.key ≡ value_at vs (end_of (u.rev.main - 1)) u.key
+unfolding events_told
+told-before has_before us vs c n u h i e =
+    known (has_before c u.rev.main) h
+    (ap (λ (x : WatchEvent). x.before) (event-alike has_before us vs c u.rev.main (previous_watch u.key) u (tested u.body) i
+    (ap events_told e)))
+  where
+    tested : (b : Body) → ((u.rev.main == u.rev.main) && (same_key u.key u.key && wants (previous_watch u.key) b)) ≡ true
+    tested (Put create version lease value) = λ j. eq-eqb u.rev.main u.rev.main refl j && (same-refl u.key j && true)
+    tested Gone = λ j. eq-eqb u.rev.main u.rev.main refl j && (same-refl u.key j && true)
+
+    known : {a b : Option KeyValue} (t : Bool) → t ≡ true → cond (t && true) a None ≡ cond (t && true) b None → a ≡ b
+    known true f g = g
+    known false f g = cc
+
+-- the next version of a key, at a revision
+record Next (vs : List Version) (r : ℕ) (v : Version) : Type 0 where
+  next : Version
+  here : IsIn next vs
+  key : next.key ≡ v.key
+  later : rev_lt v.rev next.rev ≡ true
+  main : next.rev.main ≡ r
+
+next-of : (vs : List Version) (r : ℕ) (v : Version) → list_any (replaces r v) vs ≡ true → list_any (replaces (r - 1) v) vs ≡ false
+    → Next vs r v
+next-of [] r v e f = cc
+next-of (u ∷ us) r v e f = by (replaces r v u) refl (replaces (r - 1) v u) refl e f (next-of us r v)
+  where
+    main : Replaces r v u → replaces (r - 1) v u ≡ false → u.rev.main ≡ r
+    main p g = elim (ranked u.rev.main (r - 1)) [
+      | inl a ↦ absurd (let x : true ≡ false = sym (replaces-as (r - 1) v u (record {
+        key = p.key;
+        later = p.later;
+        by = a;
+      })) ∙ g in cc)
+      | inr a ↦ (let l : u.rev.main ≤ r = p.by in omega arith)
+    ]
+
+    by : (a : Bool) → replaces r v u ≡ a → (b : Bool) → replaces (r - 1) v u ≡ b → (a || list_any (replaces r v) us) ≡ true
+        → (b || list_any (replaces (r - 1) v) us) ≡ false
+        → (list_any (replaces r v) us ≡ true → list_any (replaces (r - 1) v) us ≡ false → Next us r v) → Next (u ∷ us) r v
+    by a d true g e f rest = cc
+    by true d false g e f rest = let p = replaces-of r v u d in
+        record { next = u; here = inl refl; key = p.key; later = p.later; main = main p g }
+    by false d false g e f rest = let n = rest e f in
+        record { next = n.next; here = inr n.here; key = n.key; later = n.later; main = n.main }
+
+-- where the next version of a put's key is told of with what stood before it, the put stands in the list
+pub previous-in : (has_before : ℕ → ℕ → Bool) (us vs whole : List Version) (c n r : ℕ) (v : Version) → AreRising whole → IsPart us whole
+    → IsPart vs whole → IsIn v vs → is_tombstone v.body ≡ false → v.rev.sub < 2 ^ 64 → is_superseded vs r v ≡ true
+    → is_superseded vs (r - 1) v ≡ false → has_before c r ≡ true
+    → answered_by has_before us c n (Question.watch (previous_watch v.key) r)
+    ≡ answered_by has_before vs c n (Question.watch (previous_watch v.key) r)
+    → IsIn v us
+unfolding is_superseded
+previous-in has_before us vs whole c n r v h part kept i put number replaced alone tells_it e =
+    put-in us whole v (r - 1) h part (in_whole kept v i) put (told ∙ shown)
+  where
+    next : Next vs r v
+    next = next-of vs r v replaced alone
+
+    rising : AreRising vs
+    rising = rising-part kept h
+
+    below : v.rev.main ≤ r - 1
+    below = elim (ranked r v.rev.main) [
+      | inl a ↦ absurd (let l : v.rev.main ≤ next.next.rev.main = rev_lt-main v.rev next.next.rev next.later in
+          let m : next.next.rev.main ≡ r = next.main in
+          let same : next.next ≡ v = one_at vs next.next v rising next.here i next.key (omega arith) in
+          let x : true ≡ false = sym next.later ∙ ap (λ (w : Version). rev_lt v.rev w.rev) same ∙ rev_lt-self v.rev in cc)
+      | inr a ↦ omega arith
+    ]
+
+    shown : value_at vs (end_of (r - 1)) v.key ≡ key_value v
+    shown = let s = stand v vs i in
+        subst (λ ws. value_at ws (end_of (r - 1)) v.key ≡ key_value v) (sym s.is)
+        (last-shown (r - 1) s.before v s.after (subst AreRising s.is rising) number below
+        (subst (λ ws. is_superseded ws (r - 1) v ≡ false) s.is alone))
+
+    told : value_at us (end_of (r - 1)) v.key ≡ value_at vs (end_of (r - 1)) v.key
+    told = subst (λ m. value_at us (end_of (m - 1)) v.key ≡ value_at vs (end_of (m - 1)) v.key) next.main
+        (subst (λ k. value_at us (end_of (next.next.rev.main - 1)) k ≡ value_at vs (end_of (next.next.rev.main - 1)) k) next.key
+        (told-before has_before us vs c n next.next (ap (has_before c) next.main ∙ tells_it) next.here
+        (subst (λ k. answered_by has_before us c n (Question.watch (previous_watch k) next.next.rev.main)
+        ≡ answered_by has_before vs c n (Question.watch (previous_watch k) next.next.rev.main)) (sym next.key)
+        (subst (λ m. answered_by has_before us c n (Question.watch (previous_watch v.key) m)
+        ≡ answered_by has_before vs c n (Question.watch (previous_watch v.key) m)) (sym next.main) e))))
+
+-- ---- what is left is needed
+
+abbrev pub IsLeft : List Version → ℕ → Version → Type 0
+IsLeft vs c v = (nat_le v.rev.main c && is_trimmed vs c v) ≡ false
+
 not-first : (a b : Bool) → (true && (a || b)) ≡ false → a ≡ false
 not-first true b e = cc
 not-first false b e = refl
 
--- a version that is left is not replaced at the revision that it is needed for
-pub not-replaced : (c : ℕ) (xs : List Version) (v : Version) (ys : List Version) → AreRising (xs ++ v ∷ ys) → IsLeft (xs ++ v ∷ ys) c v
-    → is_superseded (xs ++ v ∷ ys) (max v.rev.main c) v ≡ false
-not-replaced c xs v ys h left = by (ranked v.rev.main c)
+-- nothing replaces a version at its own main revision
+pub not-itself : (vs : List Version) (v : Version) → AreRising vs → IsIn v vs → is_superseded vs v.rev.main v ≡ false
+not-itself vs v h i = by (is_superseded vs v.rev.main v) refl
   where
-    itself : (b : Bool) → is_superseded (xs ++ v ∷ ys) v.rev.main v ≡ b → b ≡ false
-    itself true e = let below : v.rev.main < v.rev.main = low v.rev.main v ys (rising-mid xs v ys h).1
-        (sym (superseded-mid xs v ys v.rev.main (before-mid xs v ys h)) ∙ e) in absurd (omega arith)
-    itself false e = refl
+    s : Stand v vs
+    s = stand v vs i
 
-    by : (v.rev.main ≤ c) ⊎ (c < v.rev.main) → is_superseded (xs ++ v ∷ ys) (max v.rev.main c) v ≡ false
-    by (inl a) = let same : max v.rev.main c ≡ c = omega arith in
-        subst (λ r. is_superseded (xs ++ v ∷ ys) r v ≡ false) (sym same)
-        (not-first (is_superseded (xs ++ v ∷ ys) c v) (is_tombstone v.body && nat_lt v.rev.main c) (ap (λ b. b
-        && is_trimmed (xs ++ v ∷ ys) c v) (sym (le-leb v.rev.main c a)) ∙ left))
+    by : (b : Bool) → is_superseded vs v.rev.main v ≡ b → b ≡ false
+    by true e =
+        let up : AreRising (s.before ++ v ∷ s.after) = subst AreRising s.is h in
+        let below : v.rev.main < v.rev.main = low v.rev.main v s.after (rising-mid s.before v s.after up).1
+        (sym (superseded-mid s.before v s.after v.rev.main (before-mid s.before v s.after up))
+        ∙ subst (λ us. is_superseded us v.rev.main v ≡ true) s.is e) in
+        absurd (omega arith)
+    by false e = refl
+
+-- the last version of a key below the compaction, where one stands at it
+pub record IsPrevious (vs : List Version) (c : ℕ) (v : Version) : Type 0 where
+  pub by : v.rev.main ≤ c
+  pub replaced : is_superseded vs c v ≡ true
+  pub alone : is_superseded vs (c - 1) v ≡ false
+
+-- a version that is left is not replaced at the revision that a Range of it asks for, or it is a previous value
+pub last-or-previous : (vs : List Version) (c : ℕ) (v : Version) → AreRising vs → IsIn v vs → IsLeft vs c v
+    → (is_superseded vs (max v.rev.main c) v ≡ false) ⊎ IsPrevious vs c v
+last-or-previous vs c v h i left = by (ranked v.rev.main c)
+  where
+    known : v.rev.main ≤ c → (b : Bool) → is_superseded vs c v ≡ b
+        → (is_superseded vs (max v.rev.main c) v ≡ false) ⊎ IsPrevious vs c v
+    known a true e = inr (record {
+      by = a;
+      replaced = e;
+      alone = not-first (is_superseded vs (c - 1) v) (is_tombstone v.body && nat_lt v.rev.main c) (ap (λ b. b
+          && is_trimmed vs c v) (sym (le-leb v.rev.main c a)) ∙ left);
+    })
+    known a false e = let same : max v.rev.main c ≡ c = omega arith in
+        inl (subst (λ r. is_superseded vs r v ≡ false) (sym same) e)
+
+    by : (v.rev.main ≤ c) ⊎ (c < v.rev.main) → (is_superseded vs (max v.rev.main c) v ≡ false) ⊎ IsPrevious vs c v
+    by (inl a) = known a (is_superseded vs c v) refl
     by (inr a) = let same : max v.rev.main c ≡ v.rev.main = omega arith in
-        subst (λ r. is_superseded (xs ++ v ∷ ys) r v ≡ false) (sym same) (itself (is_superseded (xs ++ v ∷ ys) v.rev.main v) refl)
+        inl (subst (λ r. is_superseded vs r v ≡ false) (sym same) (not-itself vs v h i))
 
 -- a tombstone that is left is not below the compaction
 pub tombstone-left : (vs : List Version) (c : ℕ) (v : Version) → is_tombstone v.body ≡ true → IsLeft vs c v → c ≤ v.rev.main
@@ -228,8 +366,8 @@ tombstone-left vs c v gone left = by (ranked c v.rev.main)
   where
     by : (c ≤ v.rev.main) ⊎ (v.rev.main < c) → c ≤ v.rev.main
     by (inl a) = a
-    by (inr a) = let e : true ≡ false = sym (or-true (is_superseded vs c v)) ∙ (λ i. sym (le-leb v.rev.main c (omega arith)) i
-        && (is_superseded vs c v || (sym gone i && sym (lt-ltb v.rev.main c a) i))) ∙ left in cc
+    by (inr a) = let e : true ≡ false = sym (or-true (is_superseded vs (c - 1) v)) ∙ (λ i. sym (le-leb v.rev.main c (omega arith)) i
+        && (is_superseded vs (c - 1) v || (sym gone i && sym (lt-ltb v.rev.main c a) i))) ∙ left in cc
 
 -- the revisions that a version is needed for
 module _ (ms : List Mutation) (c : ℕ) (h : IsHistory ms) (f : c ≤ now ms) (vs : List Version) (g : IsGood vs ms c) (v : Version)
@@ -244,27 +382,46 @@ module _ (ms : List Mutation) (c : ℕ) (h : IsHistory ms) (f : c ≤ now ms) (v
     past = omega arith;
   }
 
-  pub put-shown : value_at (dress ms) (end_of (max v.rev.main c)) v.key ≡ key_value v
-  put-shown =
+  pub rising : AreRising vs
+  rising = rising-part g.part (rising-dress ms h)
+
+  pub put-shown : is_superseded vs (max v.rev.main c) v ≡ false → value_at (dress ms) (end_of (max v.rev.main c)) v.key ≡ key_value v
+  put-shown alone =
       let s = stand v vs i in
       sym (good-value_at vs ms c (max v.rev.main c) v.key g h put-kept)
       ∙ subst (λ us. value_at us (end_of (max v.rev.main c)) v.key ≡ key_value v) (sym s.is)
-      (last-shown (max v.rev.main c) s.before v s.after (subst AreRising s.is (rising-part g.part (rising-dress ms h))) sits.number
-      (omega arith)
-      (not-replaced c s.before v s.after (subst AreRising s.is (rising-part g.part (rising-dress ms h))) (subst (λ us. IsLeft us c v) s.is
-      left)))
+      (last-shown (max v.rev.main c) s.before v s.after (subst AreRising s.is rising) sits.number (omega arith)
+      (subst (λ us. is_superseded us (max v.rev.main c) v ≡ false) s.is alone))
+
+  pub previous-kept : IsPrevious vs c v → IsKept c (now ms) c
+  previous-kept p = let a : 1 < v.rev.main = sits.above in let b : v.rev.main ≤ c = p.by in record {
+    first = omega arith;
+    kept = omega arith;
+    past = f;
+  }
 
   pub tombstone-kept : is_tombstone v.body ≡ true → IsKept c (now ms) v.rev.main
   tombstone-kept gone = let a : 1 < v.rev.main = sits.above in let b : v.rev.main ≤ now ms = sits.by in
       record { first = omega arith; kept = tombstone-left vs c v gone left; past = omega arith }
+
+  -- a part that tells of the compaction as the list does has the previous value
+  pub previous-stays : (us : List Version) → IsPart us (dress ms) → is_tombstone v.body ≡ false → IsPrevious vs c v
+      → answered us c (now ms) (Question.watch (previous_watch v.key) c) ≡ answered (dress ms) c (now ms) (Question.watch (previous_watch v.key) c)
+      → IsIn v us
+  previous-stays us part put p e = previous-in before_is_kept us vs (dress ms) c (now ms) c v (rising-dress ms h) part g.part i put
+      sits.number p.replaced p.alone (le-leb c c (omega arith))
+      (e ∙ sym (g.answers (Question.watch (previous_watch v.key) c) (previous-kept p)))
 
   -- every good list has it
   pub stays-in : (us : List Version) → IsGood us ms c → IsIn v us
   stays-in us gu = by (is_tombstone v.body) refl
     where
       by : (b : Bool) → is_tombstone v.body ≡ b → IsIn v us
-      by false e = put-in us (dress ms) v (max v.rev.main c) (rising-dress ms h) gu.part (in_whole g.part v i) e
-          (good-value_at us ms c (max v.rev.main c) v.key gu h put-kept ∙ put-shown)
+      by false e = elim (last-or-previous vs c v rising i left) [
+        | inl alone ↦ put-in us (dress ms) v (max v.rev.main c) (rising-dress ms h) gu.part (in_whole g.part v i) e
+            (good-value_at us ms c (max v.rev.main c) v.key gu h put-kept ∙ put-shown alone)
+        | inr p ↦ previous-stays us gu.part e p (gu.answers (Question.watch (previous_watch v.key) c) (previous-kept p))
+      ]
       by true e = told-in before_is_kept us vs c (now ms) v i (gu.answers (Question.watch (plain_watch v.key) v.rev.main) (tombstone-kept e)
           ∙ sym (g.answers (Question.watch (plain_watch v.key) v.rev.main) (tombstone-kept e)))
 

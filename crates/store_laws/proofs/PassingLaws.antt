@@ -1,5 +1,5 @@
 -- A certificate that passes its check: each listed version has its claimed need in the list, which is so the least of itself.
-use Rattle.std.proofs.Common.{◌≡◌, ◌≤◌, ◌<◌, ◌≢◌, ℕ, ◌^◌, suc, List, [], ◌∷◌, length, filter, find, Bool, true, false, not, ◌&&◌, cond}
+use Rattle.std.proofs.Common.{◌≡◌, ◌≤◌, ◌<◌, ◌≢◌, ℕ, ◌-◌, ◌^◌, suc, List, [], ◌∷◌, length, filter, find, Bool, true, false, not, ◌&&◌, cond}
 use Rattle.std.proofs.Common.{Option, None, Some, refl, sym, ◌∙◌, ap, subst, inl, inr, arith}
 use Rattle.std.specs.Prelude.{⊤, option_map, nat_le, ◌==◌}
 use Rattle.std.proofs.lemmas.Bool.{leb-true, eq-eqb, eqb-true, ltb-false, and_parts, not-true}
@@ -14,7 +14,7 @@ use Rattle.kv_model.specs.Questions.{IsQuestion, IsKept, answered_by}
 use Rattle.kv_model.specs.Certificates.{question_of, HasNeedBy, Dump, Claim, Need}
 use Rattle.kv_model.specs.Certificates.{NeedFault, is_asked, is_met, fall_after, first_fall, is_double, first_double}
 use Rattle.kv_model.specs.Certificates.{claims_fault, first_fault, AreNeedsBy}
-use Rattle.store_laws.specs.TrimmingLaws.{PassingIsLeast}
+use Rattle.store_laws.specs.TrimmingLaws.{Tells, PassingIsLeast}
 use Rattle.store_laws.proofs.PartLaws.{part_length}
 use Rattle.store_laws.proofs.PlaceLaws.{each-map}
 use Rattle.store_laws.proofs.GoodLaws.{or-none, or-none-first}
@@ -22,7 +22,7 @@ use Rattle.store_laws.proofs.TrimLaws.{AreRising, Precedes}
 use Rattle.store_laws.proofs.KeyLaws.{same-refl}
 use Rattle.store_laws.proofs.RevOrder.{rev_lt-trans}
 use Rattle.store_laws.proofs.StepLaws.{part-self}
-use Rattle.store_laws.proofs.LeastLaws.{each-in, in-filter, stand, once-rising, put-in, told-in, last-shown}
+use Rattle.store_laws.proofs.LeastLaws.{each-in, in-filter, stand, once-rising, put-in, told-in, previous-in, last-shown}
 use Rattle.store_laws.proofs.CertificateLaws.{is_twin, same-value}
 
 -- ---- a list that neither falls nor doubles a key rises
@@ -48,7 +48,7 @@ ascends : (vs : List Version) → first_fall vs ≡ None → AreAscending vs
 ascends [] e = tt
 ascends (v ∷ vs) e = ascending v vs e
 
-each-of : {X : Type 0} (P : X → Type 0) (xs : List X) → ((x : X) → IsIn x xs → P x) → AllByRecursion P xs
+pub each-of : {X : Type 0} (P : X → Type 0) (xs : List X) → ((x : X) → IsIn x xs → P x) → AllByRecursion P xs
 each-of P [] f = tt
 each-of P (x ∷ xs) f = (f x (inl refl), each-of P xs (λ y i. f y (inr i)))
 
@@ -112,6 +112,13 @@ four-true true true false d e = cc
 four-true true false c d e = cc
 four-true false b c d e = cc
 
+three-true : (a b c d : Bool) → (a && b && (c && d)) ≡ true → (a ≡ true) × (b ≡ true) × (c ≡ true) × (d ≡ true)
+three-true true true true true e = (refl, refl, refl, refl)
+three-true true true true false e = cc
+three-true true true false d e = cc
+three-true true false c d e = cc
+three-true false b c d e = cc
+
 filled-key : (k : List ℕ) → is_empty k ≡ false → k ≢ []
 filled-key [] e f = cc
 filled-key (x ∷ k) e f = cc
@@ -138,8 +145,8 @@ module _ (has_before : ℕ → ℕ → Bool) (d : Dump) (up : AreRising d.versio
         has_key = filled-key v.key (not-true (is_empty v.key) t.0);
       }
 
-  shows : (n : Need) → is_met d v n ≡ true → Shows has_before d v n
-  shows (Need.range r) e =
+  shows : (n : Need) → is_met d v n ≡ true → Tells has_before d.floor n → Shows has_before d v n
+  shows (Need.range r) e h =
       let t = four-true (is_asked d v r) (not (is_tombstone v.body)) (nat_le v.rev.main r) (not (is_superseded d.versions r v)) e in
       let a = asked-of r t.0 in
       let s = stand v d.versions i in
@@ -152,13 +159,21 @@ module _ (has_before : ℕ → ℕ → Bool) (d : Dump) (up : AreRising d.versio
         stays = λ us part f. put-in us d.versions v r up part i (not-true (is_tombstone v.body) t.1)
             (same-value us d.versions d.floor d.revision r v.key a.has_key a.kept f ∙ shown);
       }
-  shows (Need.watch r) e =
+  shows (Need.watch r) e h =
       let t = and_parts (is_asked d v r) (v.rev.main == r) e in
       subst (λ n. Shows has_before d v (Need.watch n)) (eqb-true v.rev.main r t.1)
       (record {
         asked = (asked-of v.rev.main (ap (is_asked d v) (eqb-true v.rev.main r t.1) ∙ t.0)).kept;
         stays = λ us part f. told-in has_before us d.versions d.floor d.revision v i f;
       })
+  shows (Need.prev r) e h =
+      let t = three-true (is_asked d v r) (not (is_tombstone v.body)) (is_superseded d.versions r v) (not (is_superseded d.versions (r - 1) v)) e in
+      let a = asked-of r t.0 in
+      record {
+        asked = a.kept;
+        stays = λ us part f. previous-in has_before us d.versions d.versions d.floor d.revision r v up part (part-self d.versions) i
+            (not-true (is_tombstone v.body) t.1) number t.2 (not-true (is_superseded d.versions (r - 1) v) t.3) (h a.kept.kept) f;
+      }
 
 -- ---- the claims
 
@@ -176,14 +191,15 @@ has-need : (has_before : ℕ → ℕ → Bool) (d : Dump) (v : Version) (n : Nee
 has-need has_before d v n s = record { asked = s.asked; needed = λ us part out e. out (s.stays us part e) }
 
 claimed : (has_before : ℕ → ℕ → Bool) (d : Dump) (us : List Version) (claims : List Claim)
-    → ((v : Version) → IsIn v us → (n : Need) → is_met d v n ≡ true → Shows has_before d v n)
-    → claims_fault d us claims ≡ None → AreClaimed has_before d us claims
-claimed has_before d [] [] f e = record { needs = tt; shown = tt }
-claimed has_before d [] (claim ∷ claims) f e = cc
-claimed has_before d (v ∷ vs) [] f e = cc
-claimed has_before d (v ∷ vs) (claim ∷ claims) f e =
+    → ((v : Version) → IsIn v us → (n : Need) → is_met d v n ≡ true → Tells has_before d.floor n → Shows has_before d v n)
+    → claims_fault d us claims ≡ None → AllByRecursion (λ claim. Tells has_before d.floor claim.need) claims
+    → AreClaimed has_before d us claims
+claimed has_before d [] [] f e t = record { needs = tt; shown = tt }
+claimed has_before d [] (claim ∷ claims) f e t = cc
+claimed has_before d (v ∷ vs) [] f e t = cc
+claimed has_before d (v ∷ vs) (claim ∷ claims) f e t =
     by (v.rev.main == claim.rev.main) refl (v.rev.sub == claim.rev.sub) refl (is_met d v claim.need) refl e
-    (claimed has_before d vs claims (λ u i. f u (inr i)))
+    (λ g. claimed has_before d vs claims (λ u i. f u (inr i)) g t.1)
   where
     by : (a : Bool) → (v.rev.main == claim.rev.main) ≡ a → (b : Bool) → (v.rev.sub == claim.rev.sub) ≡ b
         → (m : Bool) → is_met d v claim.need ≡ m
@@ -194,7 +210,7 @@ claimed has_before d (v ∷ vs) (claim ∷ claims) f e =
           main = sym (eqb-true v.rev.main claim.rev.main g) j;
           sub = sym (eqb-true v.rev.sub claim.rev.sub h) j;
         } in
-        let here = f v (inl refl) claim.need k in
+        let here = f v (inl refl) claim.need k t.0 in
         let r = rest e in
         record {
           needs = (at, has-need has_before d v claim.need here, r.needs);
@@ -206,7 +222,7 @@ claimed has_before d (v ∷ vs) (claim ∷ claims) f e =
 
 pub passing-least : PassingIsLeast
 unfolding first_fault
-passing-least has_before d claims numbers e = record {
+passing-least has_before d claims numbers e told = record {
   needs = all.needs;
   least = record {
     good = record { part = part-self d.versions; answers = λ q a. refl };
@@ -235,5 +251,5 @@ passing-least has_before d claims numbers e = record {
 
     all : AreClaimed has_before d d.versions claims
     all = claimed has_before d d.versions claims
-        (λ v i n m. shows has_before d up v i (each-in (λ u. u.rev.sub < 2 ^ 64) d.versions v numbers i) n m)
-        (or-none doubled (claims_fault d d.versions claims) rest)
+        (λ v i n m t. shows has_before d up v i (each-in (λ u. u.rev.sub < 2 ^ 64) d.versions v numbers i) n m t)
+        (or-none doubled (claims_fault d d.versions claims) rest) told

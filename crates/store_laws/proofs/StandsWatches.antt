@@ -1,6 +1,6 @@
 -- A watch that is made: what it has still to be told of is found in the versions that are kept.
 use Rattle.std.proofs.Common.{◌≡◌, ◌≤◌, ℕ, suc, ◌+◌, ℤ, List, [], ◌∷◌, ◌++◌, length, map, filter, Bool, true, false, ◌&&◌, cond, refl, sym}
-use Rattle.std.proofs.Common.{◌∙◌, ap, arith}
+use Rattle.std.proofs.Common.{◌∙◌, ap, inl, inr, arith}
 use Rattle.std.specs.Prelude.{nat_lt, nat_le, ◌||◌, MatchBool, ⊤, Ok}
 use Rattle.std.specs.List.{AllByRecursion}
 use Rattle.std.proofs.lemmas.Bool.{eq-eqb, ltb-false, and_parts}
@@ -8,13 +8,13 @@ use Rattle.std.proofs.lemmas.Bool.Decides.{nat_tests}
 use Rattle.kv_model.specs.declared.version.Version.{Version}
 use Rattle.kv_model.specs.declared.call.Watched.{Watched}
 use Rattle.kv_model.specs.declared.refusal.Refusal.TheVariants.{TooManyWatches}
-use Rattle.kv_model.specs.Lists.{IsPart, nothing, keep, leave}
+use Rattle.kv_model.specs.Lists.{IsPart, IsIn, nothing, keep, leave}
 use Rattle.kv_model.specs.Ranges.{refuse_if}
 use Rattle.kv_model.specs.Calls.{Call}
 use Rattle.kv_model.specs.Told.{Reply}
 use Rattle.kv_model.specs.History.{Mutation, now, dress}
 use Rattle.store_laws.specs.Sound.{IsChange, IsHistory}
-use Rattle.kv_model.specs.Watches.{WatchEvent, matches}
+use Rattle.kv_model.specs.Watches.{WatchEvent, matches, event_of, before_is_kept}
 use Rattle.kv_model.specs.Questions.{IsGood}
 use Rattle.kv_model.specs.World.{World, Watch, revision, versions}
 use Rattle.kv_model.specs.Watches.{undelivered}
@@ -24,6 +24,8 @@ use Rattle.store_laws.specs.Stores.{refusal_of_watch, watch_made, tracked_made, 
 use Rattle.store_laws.proofs.PlaceLaws.{each-map, each-dressed, each-change, above-one}
 use Rattle.store_laws.proofs.BatchLaws.{is_told, good-events, dressed-mains}
 use Rattle.store_laws.proofs.CompactLaws.{versions-told}
+use Rattle.store_laws.proofs.LeastLaws.{each-in, filter-in, event-alike}
+use Rattle.store_laws.proofs.PassingLaws.{each-of}
 
 -- ---- what a part keeps of the elements that pass a test
 
@@ -126,6 +128,36 @@ good-undelivered vs ms c w g h l = part-keeps test g.part (go (dress ms) (dresse
         → AllByRecursion (λ v. test v ≡ true → IsCounted vs (dress ms) v) ds
     go [] a b = tt
     go (v ∷ ds) a b = (counted v a.0 b.0, go ds a.1 b.1)
+
+-- what passes a test is within what passes
+passes-in : {X : Type 0} (p : X → Bool) (xs : List X) (x : X) → IsIn x (filter p xs) → p x ≡ true
+passes-in p [] x i = absurd i
+passes-in {X} p (y ∷ ys) x i = by (p y) refl (passes-in p ys x) i
+  where
+    by : (b : Bool) → p y ≡ b → (IsIn x (filter p ys) → p x ≡ true) → IsIn x (cond b (y ∷ filter p ys) (filter p ys)) → p x ≡ true
+    by true e rest (inl same) = ap p same ∙ e
+    by true e rest (inr j) = rest j
+    by false e rest j = rest j
+
+-- and from the compaction on a good part tells of it as the whole history does
+pub good-told : (vs : List Version) (ms : List Mutation) (c : ℕ) (w : Watch) → IsGood vs ms c → IsHistory ms
+    → AllByRecursion (λ v. c ≤ v.rev.main) (undelivered (dress ms) w)
+    → AllByRecursion (λ v. event_of vs c w.watched v ≡ event_of (dress ms) c w.watched v) (undelivered (dress ms) w)
+good-told vs ms c w g h from = each-of (λ v. event_of vs c w.watched v ≡ event_of (dress ms) c w.watched v)
+    (undelivered (dress ms) w) alike
+  where
+    test : Version → Bool
+    test v = nat_le w.next v.rev.main && matches w.watched v
+
+    alike : (v : Version) → IsIn v (undelivered (dress ms) w) → event_of vs c w.watched v ≡ event_of (dress ms) c w.watched v
+    alike v i =
+        let here : IsIn v (dress ms) = filter-in test (dress ms) v i in
+        let told : matches w.watched v ≡ true = (and_parts (nat_le w.next v.rev.main) (matches w.watched v) (passes-in test (dress ms) v i)).1 in
+        let most : v.rev.main ≤ now ms = each-in (λ u. u.rev.main ≤ now ms) (dress ms) v (dressed-mains ms h) here in
+        let one : 1 ≤ v.rev.main = each-in (λ u. 1 ≤ u.rev.main) (dress ms) v (dressed-above ms h) here in
+        let kept : c ≤ v.rev.main = each-in (λ u. c ≤ u.rev.main) (undelivered (dress ms) w) v from i in
+        event-alike before_is_kept vs (dress ms) c v.rev.main w.watched v (λ j. eq-eqb v.rev.main v.rev.main refl j && told j) here
+        (good-events vs ms c v.rev.main w.watched g (record { first = one; kept = kept; past = most }))
 
 -- ---- a watch is made
 

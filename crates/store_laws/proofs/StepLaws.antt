@@ -2,7 +2,7 @@
 use Rattle.std.proofs.Common.{append_assoc, ◌≡◌, ◌≤◌, ◌<◌, ℕ, ◌-◌, ◌^◌, List, [], ◌∷◌, ◌++◌, map, filter, Bool, true, false, ◌&&◌, ◌||◌, cond}
 use Rattle.std.proofs.Common.{None, refl, sym, ◌∙◌, ap, subst, arith}
 use Rattle.std.specs.Prelude.{nat_lt, nat_le, ◌==◌}
-use Rattle.std.proofs.lemmas.Bool.{ltb-true, eqb-true}
+use Rattle.std.proofs.lemmas.Bool.{leb-true, eqb-true}
 use Rattle.std.proofs.lemmas.List.{append-nil}
 use Rattle.std.proofs.lemmas.List.Folds.{list_any-append}
 use Rattle.std.proofs.lemmas.List.Elements.{filter-append}
@@ -19,7 +19,7 @@ use Rattle.store_laws.proofs.Compacting.{same_ranges}
 use Rattle.store_laws.proofs.PlaceLaws.{each-map, each-append}
 use Rattle.store_laws.proofs.HistoryLaws.{AllByRecursion-split}
 use Rattle.store_laws.proofs.TrimLaws.{AreRising, rising-dress, rising-part, before-mid, AreNumbered, sit-numbers, sit-part, AreLeft}
-use Rattle.store_laws.proofs.TrimLaws.{GoesNext, goes-below, out-values, replaces}
+use Rattle.store_laws.proofs.TrimLaws.{GoesNext, goes-by, goes-below, out-values, replaces}
 
 pub part-trans : {X : Type 0} {xs ys zs : List X} → IsPart xs ys → IsPart ys zs → IsPart xs zs
 part-trans p nothing = p
@@ -37,15 +37,15 @@ part-without (x ∷ xs) v ys = keep (part-without xs v ys)
 
 -- ---- the events of a revision
 
--- lists that hold the same from the compaction on tell of a version alike
-pub same_event : (us vs : List Version) (c : ℕ) (w : Watched) → ((r : ℕ) (k : List ℕ) → c ≤ r → value_at us (end_of r) k
+-- lists that hold the same from before the compaction on tell of a version alike
+pub same_event : (us vs : List Version) (c : ℕ) (w : Watched) → ((r : ℕ) (k : List ℕ) → c - 1 ≤ r → value_at us (end_of r) k
     ≡ value_at vs (end_of r) k) → (u : Version) → event_of us c w u ≡ event_of vs c w u
-same_event us vs c w same u = by (nat_lt c u.rev.main) refl
+same_event us vs c w same u = by (nat_le c u.rev.main) refl
   where
-    by : (b : Bool) → nat_lt c u.rev.main ≡ b
+    by : (b : Bool) → nat_le c u.rev.main ≡ b
         → ◌≡◌ {A = WatchEvent} (record { version = u; before = cond (b && w.prev_kv) (value_at us (end_of (u.rev.main - 1)) u.key) None })
         (record { version = u; before = cond (b && w.prev_kv) (value_at vs (end_of (u.rev.main - 1)) u.key) None })
-    by true e = let above : c < u.rev.main = ltb-true c u.rev.main e in
+    by true e = let above : c ≤ u.rev.main = leb-true c u.rev.main e in
         λ i. record { version = u; before = cond w.prev_kv (same (u.rev.main - 1) u.key (omega arith) i) None }
     by false e = refl
 
@@ -66,7 +66,7 @@ not_told xs v ys r w l =
     ∙ sym (filter-append test xs ys)
 
 pub events-out : (xs : List Version) (v : Version) (ys : List Version) (c r : ℕ) (w : Watched) → v.rev.main < r
-    → ((r : ℕ) (k : List ℕ) → c ≤ r → value_at (xs ++ ys) (end_of r) k ≡ value_at (xs ++ v ∷ ys) (end_of r) k) → events_of (xs ++ ys) c r w
+    → ((r : ℕ) (k : List ℕ) → c - 1 ≤ r → value_at (xs ++ ys) (end_of r) k ≡ value_at (xs ++ v ∷ ys) (end_of r) k) → events_of (xs ++ ys) c r w
     ≡ events_of (xs ++ v ∷ ys) c r w
 events-out xs v ys c r w l same =
     let alike : event_of (xs ++ ys) c w ≡ event_of (xs ++ v ∷ ys) c w = λ i u. same_event (xs ++ ys) (xs ++ v ∷ ys) c w same u i in
@@ -91,20 +91,20 @@ step-good ms c xs v ys h g left e = record { part = part-trans (part-without xs 
 
     next : GoesNext c xs v ys
     next = record {
-      by = omega (arith, below);
+      by = goes-by (xs ++ v ∷ ys) c v e;
       goes = e;
       before = before-mid xs v ys rising;
       left = left;
       numbers = (AllByRecursion-split (λ u. u.rev.sub < 2 ^ 64) xs (v ∷ ys) numbers).1.1;
     }
 
-    same : (r : ℕ) (k : List ℕ) → c ≤ r → value_at (xs ++ ys) (end_of r) k ≡ value_at (xs ++ v ∷ ys) (end_of r) k
+    same : (r : ℕ) (k : List ℕ) → c - 1 ≤ r → value_at (xs ++ ys) (end_of r) k ≡ value_at (xs ++ v ∷ ys) (end_of r) k
     same r k l = sym (out-values c r xs v ys k l next)
 
     answers : (q : Question) → IsQuestion c (now ms) q → answered (xs ++ ys) c (now ms) q ≡ answered (dress ms) c (now ms) q
     answers (Question.range q) a =
         ap Answered.range (same_ranges (xs ++ ys) (xs ++ v ∷ ys) c (now ms) a.revision (end_of (now ms)) q a.kept.first a.is
-        (λ k. same a.revision k a.kept.kept)) ∙ g.answers (Question.range q) a
+        (λ k. same a.revision k (let d : c ≤ a.revision = a.kept.kept in omega arith))) ∙ g.answers (Question.range q) a
     answers (Question.watch w r) a =
         ap Answered.watch (events-out xs v ys c r w (let d : c ≤ r = a.kept in omega (arith, below)) same)
         ∙ g.answers (Question.watch w r) a
@@ -116,7 +116,7 @@ pub fewer : (xs : List Version) (v : Version) (ys : List Version) (c : ℕ) (u :
     → (nat_le u.rev.main c && is_trimmed (xs ++ v ∷ ys) c u) ≡ false → (nat_le u.rev.main c && is_trimmed (xs ++ ys) c u) ≡ false
 unfolding is_superseded
 fewer xs v ys c u e =
-    let test : Version → Bool = replaces c u in
+    let test : Version → Bool = replaces (c - 1) u in
     let gone : Bool = is_tombstone u.body && nat_lt u.rev.main c in
     ap (λ b. nat_le u.rev.main c && (b || gone)) (list_any-append test xs ys)
     ∙ by (nat_le u.rev.main c) (list_any test xs) (test v) (list_any test ys) gone (sym (ap (λ b. nat_le u.rev.main c

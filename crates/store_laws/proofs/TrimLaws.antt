@@ -1,5 +1,5 @@
 -- What a trimming step takes out changes no answer.
-use Rattle.std.proofs.Common.{◌≡◌, ◌≤◌, ◌<◌, ◌≢◌, ◌⊎◌, ℕ, ◌^◌, List, [], ◌∷◌, ◌++◌, Bool, true, false, ◌&&◌, ◌||◌, cond, Option, None, Some}
+use Rattle.std.proofs.Common.{◌≡◌, ◌≤◌, ◌<◌, ◌≢◌, ◌⊎◌, ℕ, ◌-◌, ◌^◌, List, [], ◌∷◌, ◌++◌, Bool, true, false, ◌&&◌, ◌||◌, cond, Option, None, Some}
 use Rattle.std.proofs.Common.{is_some, refl, sym, ◌∙◌, ap, inl, inr, arith}
 use Rattle.std.specs.Prelude.{⊤, nat_lt, nat_le}
 use Rattle.std.proofs.lemmas.Bool.{leb-true, le-leb, ltb-true, and_parts}
@@ -218,49 +218,74 @@ gone-body : (b : Body) → is_tombstone b ≡ true → b ≡ Gone
 gone-body (Put create version lease value) e = cc
 gone-body Gone e = refl
 
--- a version that goes is replaced, or it is a tombstone
-why-goes : (vs : List Version) (c : ℕ) (v : Version) → is_trimmed vs c v ≡ true → (is_superseded vs c v ≡ true) ⊎ (v.body ≡ Gone)
-why-goes vs c v e = by (is_superseded vs c v) refl e
+-- a version that goes is replaced below the compaction, or it is a tombstone
+why-goes : (vs : List Version) (c : ℕ) (v : Version) → is_trimmed vs c v ≡ true → (is_superseded vs (c - 1) v ≡ true) ⊎ (v.body ≡ Gone)
+why-goes vs c v e = by (is_superseded vs (c - 1) v) refl e
   where
-    by : (b : Bool) → is_superseded vs c v ≡ b → (b || (is_tombstone v.body && nat_lt v.rev.main c)) ≡ true
-        → (is_superseded vs c v ≡ true) ⊎ (v.body ≡ Gone)
+    by : (b : Bool) → is_superseded vs (c - 1) v ≡ b → (b || (is_tombstone v.body && nat_lt v.rev.main c)) ≡ true
+        → (is_superseded vs (c - 1) v ≡ true) ⊎ (v.body ≡ Gone)
     by true f e = inl f
     by false f e = inr (gone-body v.body (and_parts (is_tombstone v.body) (nat_lt v.rev.main c) e).0)
 
--- and where no key stands twice at a revision, it is below the compaction
+-- what is replaced is not above, in any list
+not-above : (r : ℕ) (v : Version) (us : List Version) → list_any (replaces r v) us ≡ true → v.rev.main ≤ r
+not-above r v [] e = cc
+not-above r v (u ∷ us) e = by (replaces r v u) refl (not-above r v us) e
+  where
+    by : (b : Bool) → replaces r v u ≡ b → (list_any (replaces r v) us ≡ true → v.rev.main ≤ r) → (b || list_any (replaces r v) us) ≡ true
+        → v.rev.main ≤ r
+    by true f rest e =
+        let p : Replaces r v u = replaces-of r v u f in
+        let a : v.rev.main ≤ u.rev.main = rev_lt-main v.rev u.rev p.later in
+        let b : u.rev.main ≤ r = p.by in omega arith
+    by false f rest e = rest e
+
+-- so what goes is below the compaction, in any list
+pub goes-by : (vs : List Version) (c : ℕ) (v : Version) → is_trimmed vs c v ≡ true → v.rev.main ≤ c - 1
+unfolding is_superseded
+goes-by vs c v e = by (is_superseded vs (c - 1) v) refl e
+  where
+    by : (b : Bool) → is_superseded vs (c - 1) v ≡ b → (b || (is_tombstone v.body && nat_lt v.rev.main c)) ≡ true → v.rev.main ≤ c - 1
+    by true f e = not-above (c - 1) v vs f
+    by false f e = let a : v.rev.main < c = ltb-true v.rev.main c (and_parts (is_tombstone v.body) (nat_lt v.rev.main c) e).1 in omega arith
+
+-- and where no key stands twice at a revision, strictly
 pub goes-below : (xs : List Version) (v : Version) (ys : List Version) (c : ℕ) → AreRising (xs ++ v ∷ ys)
     → is_trimmed (xs ++ v ∷ ys) c v ≡ true → v.rev.main < c
-goes-below xs v ys c h e = by (is_superseded (xs ++ v ∷ ys) c v) refl e
+goes-below xs v ys c h e = by (is_superseded (xs ++ v ∷ ys) (c - 1) v) refl e
   where
-    by : (b : Bool) → is_superseded (xs ++ v ∷ ys) c v ≡ b → (b || (is_tombstone v.body && nat_lt v.rev.main c)) ≡ true → v.rev.main < c
-    by true f e = low c v ys (rising-mid xs v ys h).1 (sym (superseded-mid xs v ys c (before-mid xs v ys h)) ∙ f)
+    by : (b : Bool) → is_superseded (xs ++ v ∷ ys) (c - 1) v ≡ b → (b || (is_tombstone v.body && nat_lt v.rev.main c)) ≡ true
+        → v.rev.main < c
+    by true f e =
+        let a : v.rev.main < c - 1 = low (c - 1) v ys (rising-mid xs v ys h).1 (sym (superseded-mid xs v ys (c - 1) (before-mid xs v ys h))
+        ∙ f) in omega arith
     by false f e = ltb-true v.rev.main c (and_parts (is_tombstone v.body) (nat_lt v.rev.main c) e).1
 
--- a version at or below the compaction goes, and nothing that stands before it does
+-- a version below the compaction goes, and nothing that stands before it does
 pub record GoesNext (c : ℕ) (xs : List Version) (v : Version) (ys : List Version) : Type 0 where
-  pub by : v.rev.main ≤ c
+  pub by : v.rev.main ≤ c - 1
   pub goes : is_trimmed (xs ++ v ∷ ys) c v ≡ true
   pub before : AreBefore v xs
   pub left : AreLeft (xs ++ v ∷ ys) c xs
   pub numbers : AreNumbered ys
 
 -- where nothing before a tombstone goes, no version before it has its key
-no-earlier : (vs : List Version) (c : ℕ) (v : Version) (us : List Version) → v.rev.main ≤ c → ((u : Version) → replaces c u v ≡ true
-    → is_superseded vs c u ≡ true)
+no-earlier : (vs : List Version) (c : ℕ) (v : Version) (us : List Version) → v.rev.main ≤ c - 1
+    → ((u : Version) → replaces (c - 1) u v ≡ true → is_superseded vs (c - 1) u ≡ true)
     → AreLeft vs c us → AreBefore v us → AllByRecursion (λ u. same_key u.key v.key ≡ false) us
 no-earlier vs c v [] l f h g = tt
 no-earlier vs c v (u ∷ us) l f h g = (by (same_key u.key v.key) refl, no-earlier vs c v us l f h.1 g.1)
   where
     by : (b : Bool) → same_key u.key v.key ≡ b → b ≡ false
     by true e =
-        let p : Replaces c u v = record { key = sym (same_key-eq u.key v.key e); later = g.0; by = l } in
+        let p : Replaces (c - 1) u v = record { key = sym (same_key-eq u.key v.key e); later = g.0; by = l } in
         let m : u.rev.main ≤ v.rev.main = rev_lt-main u.rev v.rev g.0 in
-        let x : true ≡ false = (λ i. sym (le-leb u.rev.main c (omega arith)) i && (sym (f u (replaces-as c u v p)) i
+        let x : true ≡ false = (λ i. sym (le-leb u.rev.main c (omega arith)) i && (sym (f u (replaces-as (c - 1) u v p)) i
         || (is_tombstone u.body && nat_lt u.rev.main c))) ∙ h.0 in cc
     by false e = refl
 
--- what goes is not missed at the end of a revision from the compaction on
-pub out-values : (c r : ℕ) (xs : List Version) (v : Version) (ys : List Version) (k : List ℕ) → c ≤ r → GoesNext c xs v ys
+-- what goes is not missed at the end of a revision from that before the compaction on
+pub out-values : (c r : ℕ) (xs : List Version) (v : Version) (ys : List Version) (k : List ℕ) → c - 1 ≤ r → GoesNext c xs v ys
     → value_at (xs ++ v ∷ ys) (end_of r) k ≡ value_at (xs ++ ys) (end_of r) k
 unfolding is_superseded
 out-values c r xs v ys k l h = by (why-goes (xs ++ v ∷ ys) c v h.goes)
@@ -269,9 +294,10 @@ out-values c r xs v ys k l h = by (why-goes (xs ++ v ∷ ys) c v h.goes)
     keyed true b d e = same_key-eq v.key k d
     keyed false b d e = cc
 
-    has : (u : Version) → replaces c u v ≡ true → list_any (replaces c u) (xs ++ v ∷ ys) ≡ true
-    has u e = list_any-append (replaces c u) xs (v ∷ ys) ∙ ap (λ b. list_any (replaces c u) xs || (b || list_any (replaces c u) ys)) e
-        ∙ or-true (list_any (replaces c u) xs)
+    has : (u : Version) → replaces (c - 1) u v ≡ true → list_any (replaces (c - 1) u) (xs ++ v ∷ ys) ≡ true
+    has u e = list_any-append (replaces (c - 1) u) xs (v ∷ ys)
+        ∙ ap (λ b. list_any (replaces (c - 1) u) xs || (b || list_any (replaces (c - 1) u) ys)) e
+        ∙ or-true (list_any (replaces (c - 1) u) xs)
 
     earlier : AllByRecursion (λ u. same_key u.key v.key ≡ false) xs
     earlier = no-earlier (xs ++ v ∷ ys) c v xs h.by has h.left h.before
@@ -281,8 +307,8 @@ out-values c r xs v ys k l h = by (why-goes (xs ++ v ∷ ys) c v h.goes)
         (each-map (λ u. same_key u.key v.key ≡ false) (λ u. (same_key u.key k && rev_le u.rev (end_of r)) ≡ false) (λ u e. ap (λ b. b
         && rev_le u.rev (end_of r)) (ap (same_key u.key) (sym d) ∙ e)) xs earlier)
 
-    by : (is_superseded (xs ++ v ∷ ys) c v ≡ true) ⊎ (v.body ≡ Gone) → value_at (xs ++ v ∷ ys) (end_of r) k
+    by : (is_superseded (xs ++ v ∷ ys) (c - 1) v ≡ true) ⊎ (v.body ≡ Gone) → value_at (xs ++ v ∷ ys) (end_of r) k
         ≡ value_at (xs ++ ys) (end_of r) k
-    by (inl f) = superseded-out xs v ys (end_of r) k (λ e. seen c r v k ys l (keyed (same_key v.key k) (rev_le v.rev (end_of r)) refl e)
-        h.numbers (sym (superseded-mid xs v ys c h.before) ∙ f))
+    by (inl f) = superseded-out xs v ys (end_of r) k (λ e. seen (c - 1) r v k ys l (keyed (same_key v.key k) (rev_le v.rev (end_of r)) refl e)
+        h.numbers (sym (superseded-mid xs v ys (c - 1) h.before) ∙ f))
     by (inr f) = tombstone-out xs v ys (end_of r) k f (λ e. absent (keyed (same_key v.key k) (rev_le v.rev (end_of r)) refl e))

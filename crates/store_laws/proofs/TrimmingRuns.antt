@@ -23,8 +23,8 @@ use Rattle.kv_model.specs.Headline.{Keeping, Keeps}
 use Rattle.kv_model.specs.Headline.{IsRun, KeepsWell}
 use Rattle.kv_model.specs.OnLiterals.{model_on_literals}
 use Rattle.kv_model.specs.Samples.{a, one, two, rev_at, put_version}
-use Rattle.store_laws.specs.SampleTrims.{trimming_on_literals, put_delete_compact, put_delete, first_changes, later_changes}
-use Rattle.store_laws.specs.SampleTrims.{range_need, watch_need}
+use Rattle.store_laws.specs.SampleTrims.{trimming_on_literals, put_delete_compact, put_delete, put_again, first_changes}
+use Rattle.store_laws.specs.SampleTrims.{later_changes, range_need, watch_need, prev_need}
 use Rattle.kv_model.specs.Texts.{ones, ok, wire_on_literals}
 use Rattle.kv_model.specs.Certificates.{Claim}
 use Rattle.store_laws.specs.TrimmingLaws.{keeping}
@@ -197,7 +197,7 @@ pub not_done : FirstKeeps (done_with 3 []) → ⊥
 unfolding model_on_literals trimming_on_literals
 not_done h = h.1
 
--- ---- a tombstone at the compaction itself stays
+-- ---- a tombstone at the compaction itself stays, and the put before it
 
 abbrev pub at_3 : World
 at_3 = world_after opening put_delete
@@ -206,9 +206,24 @@ going_at_3 : Going at_3 (begun at_3)
 unfolding model_on_literals
 going_at_3 = goes-fresh at_3 ((97, put one (pos 0)) ∷ (97, delete) ∷ []) refl refl refl
 
-pub tombstone_stays : RunsOn at_3 (begun at_3) (steps 3) (removed_at 2 ∷ kept_at 3 ∷ done_with 1 (watch_need 3 3 ∷ []) ∷ [])
+pub tombstone_stays : RunsOn at_3 (begun at_3) (steps 3)
+    (kept_at 2 ∷ kept_at 3 ∷ done_with 2 (prev_need 2 3 ∷ watch_need 3 3 ∷ []) ∷ [])
 unfolding model_on_literals trimming_on_literals
 tombstone_stays = runs-on at_3 (begun at_3) (steps 3) _ going_at_3 (step-moves at_3 3) refl
+
+-- ---- of a put at the compaction a tombstone before it is no previous value
+
+abbrev pub at_put_again : World
+at_put_again = world_after opening put_again
+
+going_at_put_again : Going at_put_again (begun at_put_again)
+unfolding model_on_literals
+going_at_put_again = goes-fresh at_put_again ((97, put one (pos 0)) ∷ (97, delete) ∷ (97, put two (pos 0)) ∷ []) refl refl refl
+
+pub last_put_stays : RunsOn at_put_again (begun at_put_again) (steps 4)
+    (removed_at 2 ∷ removed_at 3 ∷ kept_at 4 ∷ done_with 1 (range_need 4 4 ∷ []) ∷ [])
+unfolding model_on_literals trimming_on_literals
+last_put_stays = runs-on at_put_again (begun at_put_again) (steps 4) _ going_at_put_again (step-moves at_put_again 4) refl
 
 -- ---- a second Compact begins with the oldest version again
 

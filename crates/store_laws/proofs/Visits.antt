@@ -18,7 +18,7 @@ use Rattle.store_laws.proofs.HistoryLaws.{AllByRecursion-split}
 use Rattle.store_laws.proofs.PlaceLaws.{each-map, each-append}
 use Rattle.store_laws.proofs.RevOrder.{rev_lt-main, rev_lt-trans, not-before}
 use Rattle.store_laws.proofs.Rising.{IsAbove, rising-parts, others-middle}
-use Rattle.store_laws.proofs.TrimLaws.{Precedes, AreRising, AreBefore, AreNumbered, AreLeft, out-values}
+use Rattle.store_laws.proofs.TrimLaws.{Precedes, AreRising, AreBefore, AreNumbered, AreLeft, goes-by, out-values}
 use Rattle.store_laws.proofs.StepLaws.{fewer, part-self, part-without}
 use Rattle.store_laws.proofs.PlaceSteps.{after-self, after-next, First, first-from, none-from, is_ahead}
 use Rattle.store_laws.proofs.PlaceSteps.{ahead-none, ahead-above, ahead-same}
@@ -169,8 +169,8 @@ module _ (c : ℕ) (xs : List Version) (v : Version) (ys : List Version) (p : Re
       })) (sym taken-out) (record {
         part = part-without xs v ys;
         up_to = up_to-removed;
-        values = λ r k l. sym (out-values c r xs v ys k l (record {
-          by = low;
+        values = λ r k l. sym (out-values c r xs v ys k (omega (arith, l)) (record {
+          by = goes-by (xs ++ v ∷ ys) c v e;
           goes = e;
           before = before;
           left = left-before;

@@ -1,5 +1,5 @@
 -- What an event changes of the versions and of the compaction, as it is published to readers.
-use Rattle.std.specs.Prelude.{List, [], ◌∷◌, nat_lt, if◌then◌else◌}
+use Rattle.std.specs.Prelude.{◌≡◌, List, [], ◌∷◌, nat_lt, if◌then◌else◌}
 use Rattle.kv_model.specs.declared.version.Version.{Version}
 use Rattle.kv_model.specs.Calls.{Call}
 use Rattle.kv_model.specs.World.{World, versions, revision, added}
@@ -27,3 +27,9 @@ change_of w call = change_between w (perform w call).1
 -- what an expiry step publishes
 abbrev pub change_of_expiry : World → List Published
 change_of_expiry w = change_between w (expire w).1
+
+-- that taking these operations leads from the first state to the second: one of them or none, as a change is
+abbrev pub Takes : {X : Type 0} → (X → Published → X → Type 0) → List Published → X → X → Type 0
+Takes takes [] old new = new ≡ old
+Takes takes (op ∷ []) old new = takes old op new
+Takes takes (op ∷ next ∷ ops) old new = ⊥

@@ -11,7 +11,7 @@ use Rattle.store_laws.specs.Trimming.{trimmed}
 use Rattle.kv_model.specs.History.{is_superseded}
 use Rattle.kv_model.specs.Certificates.{NeedFault, claims_of, first_fault, Dump, Claim, Need}
 use Rattle.kv_model.specs.Feed.{Published}
-use Rattle.store_laws.specs.Snapshots.{Snapshot, blank, absorb}
+use Rattle.store_laws.specs.Snapshots.{Stored, blank, absorb}
 use Rattle.store_laws.specs.Changes.{change_between}
 use Rattle.kv_model.specs.OnLiterals.{model_on_literals}
 use Rattle.kv_model.specs.Samples.{a, b, c, x, y, one, two, put_of, put_event, delete_event, compact_event, rev_at}
@@ -27,16 +27,16 @@ published_by w [] = []
 published_by w (e ∷ es) = change_between w (step w e).1 ++ published_by (step w e).1 es
 
 -- a snapshot that takes what these events publish after others
-abbrev pub absorbed : Snapshot → List Event → List Event → Snapshot
+abbrev pub absorbed : Stored → List Event → List Event → Stored
 absorbed s before es = fold absorb s (published_by (world_after opening before) es)
 
 -- what so many trimming steps tell
-abbrev pub trims : ℕ → Snapshot → List Trimmed
+abbrev pub trims : ℕ → Stored → List Trimmed
 trims zero s = []
 trims (suc n) s = (trimmed s.versions s.place s.compacted).told ∷ trims n (absorb s Published.trim)
 
 -- what they leave
-abbrev pub after_trims : ℕ → Snapshot → Snapshot
+abbrev pub after_trims : ℕ → Stored → Stored
 after_trims zero s = s
 after_trims (suc n) s = after_trims n (absorb s Published.trim)
 
@@ -56,14 +56,23 @@ pub both_go : trims 5 (absorbed blank [] put_delete_compact) ≡ removed_at 2 �
 unfolding model_on_literals trimming_on_literals
 both_go = refl
 
--- ---- a tombstone at the compaction itself stays
+-- ---- a tombstone at the compaction itself stays, and the put before it, which is its previous value
 
 abbrev pub put_delete : List Event
 put_delete = put_event a one ∷ delete_event a ∷ compact_event (pos 3) ∷ []
 
-pub tombstone_stays : trims 3 (absorbed blank [] put_delete) ≡ removed_at 2 ∷ kept_at 3 ∷ Trimmed.done 1 ∷ []
+pub tombstone_stays : trims 3 (absorbed blank [] put_delete) ≡ kept_at 2 ∷ kept_at 3 ∷ Trimmed.done 2 ∷ []
 unfolding model_on_literals trimming_on_literals
 tombstone_stays = refl
+
+-- ---- of a put at the compaction a tombstone before it is no previous value
+
+abbrev pub put_again : List Event
+put_again = put_event a one ∷ delete_event a ∷ put_event a two ∷ compact_event (pos 4) ∷ []
+
+pub last_put_stays : trims 4 (absorbed blank [] put_again) ≡ removed_at 2 ∷ removed_at 3 ∷ kept_at 4 ∷ Trimmed.done 1 ∷ []
+unfolding model_on_literals trimming_on_literals
+last_put_stays = refl
 
 -- ---- a second Compact begins with the oldest version again
 
@@ -73,10 +82,10 @@ first_changes = put_event a one ∷ put_event a two ∷ put_event b one ∷ put_
 abbrev pub later_changes : List Event
 later_changes = delete_event b ∷ put_event a two ∷ put_event b two ∷ put_event c one ∷ compact_event (pos 9) ∷ []
 
-abbrev pub before_second : Snapshot
+abbrev pub before_second : Stored
 before_second = absorbed blank [] first_changes
 
-abbrev pub after_second : Snapshot
+abbrev pub after_second : Stored
 after_second = absorbed (after_trims 2 before_second) first_changes later_changes
 
 pub half_way : trims 2 before_second ≡ removed_at 2 ∷ kept_at 3 ∷ []
@@ -103,7 +112,7 @@ one_key_twice = refl
 
 -- ---- certificates
 
-abbrev pub dumped : Snapshot → Dump
+abbrev pub dumped : Stored → Dump
 dumped s = record { floor = s.compacted; revision = s.revision; versions = s.versions }
 
 abbrev pub range_need : ℕ → ℕ → Claim
@@ -111,6 +120,9 @@ range_need main r = record { rev = rev_at main; need = Need.range r }
 
 abbrev pub watch_need : ℕ → ℕ → Claim
 watch_need main r = record { rev = rev_at main; need = Need.watch r }
+
+abbrev pub prev_need : ℕ → ℕ → Claim
+prev_need main r = record { rev = rev_at main; need = Need.prev r }
 
 pub nothing_dumped : claims_of (dumped blank) ≡ []
 unfolding model_on_literals trimming_on_literals
@@ -146,9 +158,20 @@ pub trimmed_passes : first_fault (dumped (after_trims 3 (absorbed blank [] put_d
 unfolding model_on_literals trimming_on_literals
 trimmed_passes = refl
 
-pub tombstone_need : claims_of (dumped (after_trims 3 (absorbed blank [] put_delete))) ≡ watch_need 3 3 ∷ []
+pub tombstone_need : claims_of (dumped (after_trims 3 (absorbed blank [] put_delete))) ≡ prev_need 2 3 ∷ watch_need 3 3
+    ∷ []
 unfolding model_on_literals trimming_on_literals
 tombstone_need = refl
+
+pub tombstone_needed : first_fault (dumped (absorbed blank [] put_delete)) (prev_need 2 3 ∷ watch_need 3 3 ∷ []) ≡ None
+unfolding model_on_literals trimming_on_literals
+tombstone_needed = refl
+
+-- a watch of the put's own revision does not ask for its value, and is below the floor
+pub previous_unmet : first_fault (dumped (absorbed blank [] put_delete)) (prev_need 2 2 ∷ watch_need 3 3 ∷ [])
+    ≡ Some (NeedFault.need_unmet (rev_at 2))
+unfolding model_on_literals trimming_on_literals
+previous_unmet = refl
 
 -- ---- what a check finds
 

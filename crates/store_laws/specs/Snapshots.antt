@@ -3,7 +3,7 @@ use Rattle.std.specs.Prelude.{ℕ, List, [], ◌++◌, fold}
 use Rattle.kv_model.specs.declared.version.Rev.{Rev}
 use Rattle.kv_model.specs.declared.version.Version.{Version}
 use Rattle.kv_model.specs.Feed.{Published}
-use Rattle.store_laws.specs.Trimming.{trimmed, oldest_place}
+use Rattle.store_laws.specs.Trimming.{TrimStep, trimmed, oldest_place}
 
 -- the main of the last of these versions, and the given revision where there are none
 abbrev pub last_main_or : ℕ → List Version → ℕ
@@ -32,27 +32,43 @@ untrimmed_of = fold grow nothing_published
 
 -- ---- what is kept
 
--- the versions that are kept, the last compaction, the revision, and the first place that trimming has not looked at
-pub record Snapshot : Type 0 where
+-- what is kept, as clauses see it: the versions, the revision of the last compaction, the present revision, and the
+-- first place that trimming has not looked at
+pub record Stored : Type 0 where
   pub versions : List Version
   pub compacted : ℕ
   pub revision : ℕ
   pub place : Rev
 
-abbrev pub blank : Snapshot
-blank = record { versions = []; compacted = 0; revision = 1; place = oldest_place }
+-- no version, at a revision
+abbrev pub blank_at : ℕ → Stored
+blank_at revision = record { versions = []; compacted = 0; revision = revision; place = oldest_place }
 
-abbrev pub trim_snapshot : Snapshot → Snapshot
-trim_snapshot s =
-    let t = trimmed s.versions s.place s.compacted in
-    record s { versions = t.versions; place = t.place }
+abbrev pub blank : Stored
+blank = blank_at 1
 
--- a batch is appended and its main is the new revision; a compaction starts trimming anew
-abbrev pub absorb : Snapshot → Published → Snapshot
-absorb s (Published.batch vs) = record s { versions = s.versions ++ vs; revision = last_main_or s.revision vs }
-absorb s (Published.floor c) = record s { compacted = c; place = oldest_place }
-absorb s Published.trim = trim_snapshot s
+-- with the versions of a revision more
+abbrev pub appended : Stored → List Version → Stored
+appended s vs = record s { versions = s.versions ++ vs; revision = last_main_or s.revision vs }
 
--- the store that the operations make from the empty one
-abbrev pub store_of : List Published → Snapshot
+-- with a compaction more: trimming begins again at the oldest version
+abbrev pub compacted_at : ℕ → Stored → Stored
+compacted_at c s = record s { compacted = c; place = oldest_place }
+
+-- a trimming step over what is kept
+abbrev pub trim_of : Stored → TrimStep
+trim_of s = trimmed s.versions s.place s.compacted
+
+-- and what it leaves
+abbrev pub trimmed_once : Stored → Stored
+trimmed_once s = record s { versions = (trim_of s).versions; place = (trim_of s).place }
+
+-- with what an operation says
+abbrev pub absorb : Stored → Published → Stored
+absorb s (Published.batch vs) = appended s vs
+absorb s (Published.floor c) = compacted_at c s
+absorb s Published.trim = trimmed_once s
+
+-- what the operations make of the empty store
+abbrev pub store_of : List Published → Stored
 store_of = fold absorb blank

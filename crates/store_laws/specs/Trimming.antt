@@ -20,9 +20,9 @@ place_after p = if nat_lt p.sub (2 ^ 64 - 1) then record p { sub = p.sub + 1 }
 
 -- ---- what goes
 
--- of the versions at or below the compaction c these go: a later one of the key is there, or it is a tombstone below c
+-- of the versions at or below the compaction c these go: a later one of the key is below c, or it is a tombstone below c
 abbrev pub is_trimmed : List Version → ℕ → Version → Bool
-is_trimmed vs c v = is_superseded vs c v || (is_tombstone v.body && nat_lt v.rev.main c)
+is_trimmed vs c v = is_superseded vs (c - 1) v || (is_tombstone v.body && nat_lt v.rev.main c)
 
 -- nothing of these is left to take out
 abbrev pub IsSettled : List Version → ℕ → Type 0

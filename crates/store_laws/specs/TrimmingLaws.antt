@@ -1,16 +1,17 @@
 -- Laws of trimming: its rule takes out what no least list needs, and ends at the one least.
-use Rattle.std.specs.Prelude.{◌≡◌, ℕ, ◌≤◌, ◌<◌, ◌^◌, List, [], ◌∷◌, ◌++◌, filter, Bool, not, ◌&&◌, nat_le, Option, None}
-use Rattle.std.specs.Prelude.{MatchOption, ⊤}
+use Rattle.std.specs.Prelude.{◌≡◌, ℕ, ◌≤◌, ◌<◌, ◌^◌, List, [], ◌∷◌, ◌++◌, filter, Bool, true, not, ◌&&◌, ◌||◌, nat_lt}
+use Rattle.std.specs.Prelude.{nat_le, Option, None, MatchOption, ⊤}
 use Rattle.std.specs.List.{AllByRecursion}
 use Rattle.kv_model.specs.declared.version.Rev.{Rev}
 use Rattle.kv_model.specs.declared.version.Version.{Version}
-use Rattle.kv_model.specs.History.{Mutation, now, rev_lt}
+use Rattle.kv_model.specs.History.{Mutation, now, dress, rev_lt, is_tombstone, is_superseded, is_next_at}
 use Rattle.store_laws.specs.Sound.{IsHistory, IsSound}
 use Rattle.kv_model.specs.World.{World}
 use Rattle.kv_model.specs.Told.{Trimmed}
+use Rattle.kv_model.specs.Lists.{IsPart, IsIn}
 use Rattle.kv_model.specs.Questions.{IsGood, IsLeast, IsLeastBy}
-use Rattle.store_laws.specs.Trimming.{TrimStep, trimmed, IsSettled, IsTrimmedTo, oldest_place}
-use Rattle.kv_model.specs.Certificates.{claims_of, first_fault, AreNeedsBy, Dump, Claim}
+use Rattle.store_laws.specs.Trimming.{TrimStep, trimmed, IsSettled, IsTrimmedTo, oldest_place, is_trimmed}
+use Rattle.kv_model.specs.Certificates.{claims_of, first_fault, AreNeedsBy, Dump, Claim, Need}
 use Rattle.kv_model.specs.Wire.{trim_told}
 use Rattle.kv_model.specs.Headline.{Keeping, Trims, IsTrimmed, IsCertificate, dump_of}
 
@@ -36,12 +37,31 @@ pub record IsLeastOfItself (has_before : ℕ → ℕ → Bool) (d : Dump) (claim
   pub needs : AreNeedsBy has_before d.floor d.revision d.versions d.versions claims
   pub least : IsLeastBy has_before d.versions d.floor d.revision d.versions
 
--- a certificate that passes its check says so by any test of previous values, where numbers within a revision fit 64
--- bits
+-- where the need asks for a previous value, the test of previous values has it told
+abbrev pub Tells : (ℕ → ℕ → Bool) → ℕ → Need → Type 0
+Tells has_before c (Need.range r) = ⊤
+Tells has_before c (Need.watch r) = ⊤
+Tells has_before c (Need.prev r) = c ≤ r → has_before c r ≡ true
+
+-- a certificate that passes its check says so by any test of previous values that its needs go by, where numbers within a
+-- revision fit 64 bits
 abbrev pub PassingIsLeast : Type 0
 PassingIsLeast = (has_before : ℕ → ℕ → Bool) (d : Dump) (claims : List Claim)
     → AllByRecursion (λ v. v.rev.sub < 2 ^ 64) d.versions → first_fault d claims ≡ None
-    → IsLeastOfItself has_before d claims
+    → AllByRecursion (λ claim. Tells has_before d.floor claim.need) claims → IsLeastOfItself has_before d claims
+
+-- ---- the rule
+
+-- a version at or below the compaction c is of use where it is the last of its key at or below c and no tombstone below c,
+-- or where it is a put, the last of its key below c, and the key has a version at c
+abbrev pub is_of_use : List Version → ℕ → Version → Bool
+is_of_use vs c v = (not (is_superseded vs c v) && not (is_tombstone v.body && nat_lt v.rev.main c))
+    || (not (is_tombstone v.body) && nat_lt v.rev.main c && is_next_at vs c v)
+
+-- and all others go
+abbrev pub TrimmingIsByUse : Type 0
+TrimmingIsByUse = (ms : List Mutation) (c : ℕ) (vs : List Version) (v : Version) → IsHistory ms → IsPart vs (dress ms)
+    → IsIn v vs → v.rev.main ≤ c → is_trimmed vs c v ≡ not (is_of_use vs c v)
 
 -- ---- a step by the rule
 

@@ -2,6 +2,7 @@
 ghost use Rattle.store_laws.specs.ByRule.{RuleMakesRun};
 ghost use Rattle.store_laws.specs.TrimmingLaws.{SettledIsLeast, LeastIsOne, SettledIsCertified};
 ghost use Rattle.store_laws.specs.TrimmingLaws.{PassingIsLeast, TrimmedStepsWell, DoneIsTrimmed};
+ghost use Rattle.store_laws.specs.TrimmingLaws.{TrimmingIsByUse};
 ghost use Rattle.store_laws.specs.TrimmingLaws.{TrimmingStartsOver, TrimmingGoesOn, GoodStaysGood};
 
 /// What answers as the whole history does, and has nothing left to take out, is a least list.
@@ -21,9 +22,17 @@ pub fn settled_is_certified()
 {}
 
 /// A certificate that passes its check gives each listed version its claimed need in the list, and
-/// no shorter part of the list answers as it does.
+/// no shorter part of the list answers as it does: by any test that tells the previous values that
+/// are claimed.
 pub fn passing_is_least()
     ensures { PassingIsLeast }
+{}
+
+/// Of the versions at or below a compaction those go that are neither the last of their key at or
+/// below it, nor the last put of their key below it where the key has a version at it; and the
+/// tombstones below it.
+pub fn trimming_is_by_use()
+    ensures { TrimmingIsByUse }
 {}
 
 /// A trimming step by the rule keeps what answers, and is one that a run may make.

@@ -235,7 +235,7 @@ static COMPACTED: [Row; 16] = [
     Row::Compact(4, Err(Refusal::Compacted(4))),
     Row::Told(1, Ok(Some((0, Some(4))))),
     Row::Told(2, Ok(None)),
-    Row::Told(3, Ok(Some((4, None)))),
+    Row::Told(3, Ok(Some((4, Some(3))))),
     Row::Put(Ok((5, None, true))),
     Row::Told(1, NO_WATCH),
     Row::Told(2, Ok(Some((5, Some(4))))),
@@ -250,14 +250,19 @@ fn a_core_is_compacted_between_deliveries(rt: HostRuntime) {
     );
 }
 
-static TRIMMED: [Row; 9] = [
+static TRIMMED: [Row; 14] = [
     Row::Put(Ok((2, None, true))),
     Row::Put(Ok((3, None, true))),
     Row::Put(Ok((4, None, true))),
     Row::Step(Trim::Done(3), 0),
     Row::Compact(3, Ok((4, None, true))),
+    Row::Step(Trim::Kept(Rev { main: 2, sub: 0 }), 0),
+    Row::Step(Trim::Kept(Rev { main: 3, sub: 0 }), 0),
+    Row::Step(Trim::Done(3), 0),
+    Row::Compact(4, Ok((4, None, true))),
     Row::Step(Trim::Removed(Rev { main: 2, sub: 0 }), 1),
     Row::Step(Trim::Kept(Rev { main: 3, sub: 0 }), 0),
+    Row::Step(Trim::Kept(Rev { main: 4, sub: 0 }), 0),
     Row::Step(Trim::Done(2), 0),
     Row::Kept(2),
 ];

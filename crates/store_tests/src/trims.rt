@@ -99,15 +99,35 @@ static KEPT: [Row; 7] = [
     Row::Put(2, b"a"),
     Row::Gone(3, b"a"),
     Row::Compact(3),
-    Row::Step(Trim::Removed(Rev { main: 2, sub: 0 })),
+    Row::Step(Trim::Kept(Rev { main: 2, sub: 0 })),
     Row::Step(Trim::Kept(Rev { main: 3, sub: 0 })),
-    Row::Step(Trim::Done(1)),
+    Row::Step(Trim::Done(2)),
+    Row::Step(Trim::Done(2)),
+];
+
+#[test]
+fn keeps_a_tombstone_at_the_compaction_and_its_put(rt: HostRuntime) {
+    assert_eq!(rt; first_wrong_of_fresh(rt.alloc(), KEPT.as_slice()), None);
+}
+
+/// A tombstone before a put at the compaction is no previous value.
+static PUT_AGAIN: [Row; 8] = [
+    Row::Put(2, b"a"),
+    Row::Gone(3, b"a"),
+    Row::Put(4, b"a"),
+    Row::Compact(4),
+    Row::Step(Trim::Removed(Rev { main: 2, sub: 0 })),
+    Row::Step(Trim::Removed(Rev { main: 3, sub: 0 })),
+    Row::Step(Trim::Kept(Rev { main: 4, sub: 0 })),
     Row::Step(Trim::Done(1)),
 ];
 
 #[test]
-fn keeps_a_tombstone_at_the_compaction(rt: HostRuntime) {
-    assert_eq!(rt; first_wrong_of_fresh(rt.alloc(), KEPT.as_slice()), None);
+fn takes_out_a_tombstone_before_the_compaction(rt: HostRuntime) {
+    assert_eq!(rt;
+        first_wrong_of_fresh(rt.alloc(), PUT_AGAIN.as_slice()),
+        None
+    );
 }
 
 static BEGUN_AGAIN: [Row; 16] = [
@@ -123,10 +143,10 @@ static BEGUN_AGAIN: [Row; 16] = [
     Row::Compact(7),
     Row::Step(Trim::Removed(Rev { main: 3, sub: 0 })),
     Row::Step(Trim::Removed(Rev { main: 4, sub: 0 })),
-    Row::Step(Trim::Removed(Rev { main: 5, sub: 0 })),
+    Row::Step(Trim::Kept(Rev { main: 5, sub: 0 })),
     Row::Step(Trim::Removed(Rev { main: 6, sub: 0 })),
     Row::Step(Trim::Kept(Rev { main: 7, sub: 0 })),
-    Row::Step(Trim::Done(1)),
+    Row::Step(Trim::Done(2)),
 ];
 
 #[test]

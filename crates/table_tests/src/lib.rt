@@ -1,9 +1,11 @@
 //! The public calls of the tables of a store (the versions, the index of keys, the leases and their
-//! keys), each once on its happy path, with ample memory: what no clause can say of them. They
+//! keys), and of a feed over them, each once on its happy path, with ample memory: what no clause can say of them. They
 //! stand in one crate above, for the tests of a crate have it proved once more. It has nothing but
 //! tests.
 #![tactic(auto)]
 
+#[cfg(test)]
+mod feeds;
 #[cfg(test)]
 mod fixtures;
 #[cfg(test)]

@@ -1,5 +1,5 @@
 -- What goes in fewer versions goes in more.
-use Rattle.std.proofs.Common.{◌≡◌, ℕ, List, [], ◌∷◌, Bool, true, false, ◌&&◌, ◌||◌, cond, filter, refl, ◌∙◌, ap}
+use Rattle.std.proofs.Common.{◌≡◌, ℕ, ◌-◌, List, [], ◌∷◌, Bool, true, false, ◌&&◌, ◌||◌, cond, filter, refl, ◌∙◌, ap}
 use Rattle.std.specs.Prelude.{nat_le, nat_lt}
 use Rattle.std.specs.List.{AllByRecursion, list_any}
 use Rattle.std.proofs.lemmas.Bool.{or_parts}
@@ -26,8 +26,8 @@ fewer-superseded vs t c v e = any-filter (λ u. same_key u.key v.key && rev_lt v
 fewer-goes : (vs : List Version) (t : Version → Bool) (c : ℕ) (v : Version) → is_trimmed vs c v ≡ false
     → is_trimmed (filter t vs) c v ≡ false
 fewer-goes vs t c v e =
-    let n = or_parts (is_superseded vs c v) (is_tombstone v.body && nat_lt v.rev.main c) e in
-    ap (λ b. b || (is_tombstone v.body && nat_lt v.rev.main c)) (fewer-superseded vs t c v n.0) ∙ n.1
+    let n = or_parts (is_superseded vs (c - 1) v) (is_tombstone v.body && nat_lt v.rev.main c) e in
+    ap (λ b. b || (is_tombstone v.body && nat_lt v.rev.main c)) (fewer-superseded vs t (c - 1) v n.0) ∙ n.1
 
 module _ (vs : List Version) (t : Version → Bool) (p : Rev) (c : ℕ) where
   one : (v : Version) → (rev_lt v.rev p && (nat_le v.rev.main c && is_trimmed vs c v)) ≡ false

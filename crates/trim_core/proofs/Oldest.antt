@@ -1,8 +1,8 @@
--- The version that a step visits is the oldest of its key, where nothing that goes was left behind.
-use Rattle.std.proofs.Common.{◌≡◌, ◌≤◌, ℕ, List, [], ◌∷◌, ◌++◌, Bool, true, false, not, ◌&&◌, ◌||◌}
-use Rattle.std.proofs.Common.{cond, find, Option, None, Some, refl, sym, ◌∙◌, ap, subst, arith}
+-- The version that a step takes out is the oldest of its key, where nothing that goes was left behind.
+use Rattle.std.proofs.Common.{◌≡◌, ◌≤◌, ℕ, ◌-◌, List, [], ◌∷◌, ◌++◌, Bool, true, false, ◌&&◌, ◌||◌}
+use Rattle.std.proofs.Common.{cond, refl, sym, ◌∙◌, ap, subst, arith}
 use Rattle.std.specs.Prelude.{nat_le, nat_lt}
-use Rattle.std.proofs.lemmas.Bool.Decides.{nat_tests}
+use Rattle.std.proofs.lemmas.Bool.{le-leb}
 use Rattle.std.specs.List.{AllByRecursion, list_any}
 use Rattle.std.proofs.Math.Bool.{or-true}
 use Rattle.kv_model.specs.declared.version.Rev.{Rev}
@@ -15,26 +15,13 @@ use Rattle.store_laws.proofs.KeyLaws.{same-refl}
 use Rattle.store_laws.proofs.PlaceSteps.{First, first-from}
 use Rattle.store_laws.proofs.RevOrder.{rev_lt-main, is_rev-self}
 use Rattle.store_laws.proofs.Rising.{rising-parts}
+use Rattle.store_laws.proofs.TrimLaws.{goes-by}
 use Rattle.version_table.specs.Rising.{IsRising}
 use Rattle.key_index.specs.KeyRevisions.{is_oldest}
 use Rattle.key_index.specs.Agrees.{revisions_of}
 use Rattle.key_index.proofs.Agrees.{revisions_of-append, revisions_of-cons}
-use Rattle.trim_core.specs.Steps.{if_by, next_version, VisitedIsOldest}
+use Rattle.trim_core.specs.Steps.{RemovedIsOldest}
 use Rattle.trim_core.proofs.Stepping.{first-of}
-
-low : (vs : List Version) (p : Rev) (c : ℕ) (v : Version) → next_version vs p c ≡ Some v → nat_le v.rev.main c ≡ true
-low vs p c v e = by (find (λ u. not (rev_lt u.rev p)) vs) e
-  where
-    by : (o : Option Version) → if_by c o ≡ Some v → nat_le v.rev.main c ≡ true
-    by None f = cc
-    by (Some u) f = at (nat_le u.rev.main c) refl f
-      where
-        at : (b : Bool) → nat_le u.rev.main c ≡ b → cond b (Some u) None ≡ Some v → nat_le v.rev.main c ≡ true
-        at true g h = let same : u ≡ v = cc in sym (ap (λ (w : Version). nat_le w.rev.main c) same) ∙ g
-        at false g h = cc
-
-lower-number : (a b c : ℕ) → a ≤ b → nat_le b c ≡ true → nat_le a c ≡ true
-lower-number a b c h g = grind (arith, nat_tests)
 
 any-middle : (t : Version → Bool) (xs : List Version) (v : Version) (ys : List Version) → t v ≡ true → list_any t (xs ++ v ∷ ys) ≡ true
 any-middle t [] v ys h = ap (λ b. b || list_any t ys) h
@@ -49,8 +36,8 @@ replaced xs v ys c u s l n =
     let same : same_key v.key u.key ≡ true = ap (λ k. same_key v.key k) (same_key-eq u.key v.key s) ∙ same-refl v.key in
     any-middle (λ w. same_key w.key u.key && rev_lt u.rev w.rev && nat_le w.rev.main c) xs v ys (λ i. same i && l i && n i)
 
-module _ (vs : List Version) (p : Rev) (c : ℕ) (v : Version) (n : nat_le v.rev.main c ≡ true)
-    (goes : (u : Version) → same_key u.key v.key ≡ true → rev_lt u.rev v.rev ≡ true → is_superseded vs c u ≡ true) where
+module _ (vs : List Version) (p : Rev) (c : ℕ) (v : Version) (n : v.rev.main ≤ c - 1)
+    (goes : (u : Version) → same_key u.key v.key ≡ true → rev_lt u.rev v.rev ≡ true → is_superseded vs (c - 1) u ≡ true) where
   none-earlier : (us : List Version) → AllByRecursion (λ u. rev_lt u.rev p ≡ true) us
       → AllByRecursion (λ u. (rev_lt u.rev p && (nat_le u.rev.main c && is_trimmed vs c u)) ≡ false) us
       → AllByRecursion (λ u. rev_lt u.rev v.rev ≡ true) us → revisions_of v.key us ≡ []
@@ -60,19 +47,21 @@ module _ (vs : List Version) (p : Rev) (c : ℕ) (v : Version) (n : nat_le v.rev
       by : (a : Bool) → same_key u.key v.key ≡ a → revisions_of v.key us ≡ []
           → cond a (u.rev ∷ revisions_of v.key us) (revisions_of v.key us) ≡ []
       by true e rest =
-          let under : nat_le u.rev.main c ≡ true = lower-number u.rev.main v.rev.main c (rev_lt-main u.rev v.rev l.0) n in
-          let out : is_superseded vs c u ≡ true = goes u e l.0 in
+          let m : u.rev.main ≤ v.rev.main = rev_lt-main u.rev v.rev l.0 in
+          let under : nat_le u.rev.main c ≡ true = le-leb u.rev.main c (omega (arith, n)) in
+          let out : is_superseded vs (c - 1) u ≡ true = goes u e l.0 in
           let x : true ≡ false = (λ i. sym b.0 i && (sym under i && (sym out i || (is_tombstone u.body && nat_lt u.rev.main c)))) ∙ t.0 in
           cc
       by false e rest = rest
 
-pub visited-oldest : VisitedIsOldest
-visited-oldest i vs p c v r a t e =
+pub removed-oldest : RemovedIsOldest
+removed-oldest i vs p c v r a t e out =
     let f : First p v vs = first-from p v vs (first-of vs p c v e) in
     let m = rising-parts (λ u. u.rev) f.before v f.after (subst IsRising f.is r) in
-    let n = low vs p c v e in
-    let goes : (u : Version) → same_key u.key v.key ≡ true → rev_lt u.rev v.rev ≡ true → is_superseded vs c u ≡ true =
-    λ u s l. subst (λ us. is_superseded us c u ≡ true) (sym f.is) (replaced f.before v f.after c u s l n) in
+    let n : v.rev.main ≤ c - 1 = goes-by vs c v out in
+    let goes : (u : Version) → same_key u.key v.key ≡ true → rev_lt u.rev v.rev ≡ true → is_superseded vs (c - 1) u ≡ true =
+    λ u s l. subst (λ us. is_superseded us (c - 1) u ≡ true) (sym f.is) (replaced f.before v f.after (c - 1) u s l
+    (le-leb v.rev.main (c - 1) n)) in
     let left = AllByRecursion-split (λ u. (rev_lt u.rev p && (nat_le u.rev.main c && is_trimmed vs c u)) ≡ false) f.before (v ∷ f.after)
     (subst (λ us. AllByRecursion (λ u. (rev_lt u.rev p && (nat_le u.rev.main c && is_trimmed vs c u)) ≡ false) us) f.is t) in
     let none : revisions_of v.key f.before ≡ [] = none-earlier vs p c v n goes f.before f.all_before left.0 m.0 in

@@ -4,7 +4,7 @@ use Rattle.std.specs.List.{find}
 use Rattle.kv_model.specs.declared.version.Rev.{Rev}
 use Rattle.kv_model.specs.declared.version.Version.{Version}
 use Rattle.kv_model.specs.History.{rev_lt}
-use Rattle.store_laws.specs.Trimming.{TrimStep, IsTrimmedTo}
+use Rattle.store_laws.specs.Trimming.{TrimStep, IsTrimmedTo, is_trimmed}
 use Rattle.version_table.specs.Rising.{IsRising}
 use Rattle.key_index.specs.KeyRevisions.{is_oldest}
 use Rattle.key_index.specs.Index.{Index, revisions}
@@ -24,11 +24,11 @@ if_by c (Some v) = if nat_le v.rev.main c then Some v else None
 abbrev pub next_version : List Version → Rev → ℕ → Option Version
 next_version vs p c = if_by c (find (λ v. not (rev_lt v.rev p)) vs)
 
--- where nothing that goes was left behind the place, the version to visit is the oldest of its key: the index has it
--- first
-abbrev pub VisitedIsOldest : Type 0
-VisitedIsOldest = (i : Index) (vs : List Version) (p : Rev) (c : ℕ) (v : Version) → IsRising vs → Agrees i vs
-    → IsTrimmedTo vs p c → next_version vs p c ≡ Some v
+-- where nothing that goes was left behind the place, the version to visit, if it goes, is the oldest of its key: the
+-- index has it first
+abbrev pub RemovedIsOldest : Type 0
+RemovedIsOldest = (i : Index) (vs : List Version) (p : Rev) (c : ℕ) (v : Version) → IsRising vs → Agrees i vs
+    → IsTrimmedTo vs p c → next_version vs p c ≡ Some v → is_trimmed vs c v ≡ true
     → is_oldest v.rev (revisions v.key i) ≡ true
 
 -- where versions are dropped, as those of a revision that is taken back, still nothing that goes is behind the place

@@ -1,10 +1,10 @@
 //! Laws of trimming steps, each the contract of a function that does nothing.
-ghost use Rattle.trim_core.specs.Steps.{VisitedIsOldest, FewerStayTrimmed};
+ghost use Rattle.trim_core.specs.Steps.{RemovedIsOldest, FewerStayTrimmed};
 
-/// Where trimming has left nothing behind it that goes, the version that a step visits is the
+/// Where trimming has left nothing behind it that goes, the version that a step takes out is the
 /// oldest of its key. So it goes from the front of the key's revisions, and none of them is walked.
-pub fn visited_is_oldest()
-    ensures { VisitedIsOldest }
+pub fn removed_is_oldest()
+    ensures { RemovedIsOldest }
 {}
 
 /// Where versions are dropped, as those of a revision that is taken back, trimming has still left

@@ -10,7 +10,7 @@
 //!
 //! ```text
 //! kept                            step       place after it
-//! 2 put a, 3 gone a, 4 put b      Removed 2  2.1   a later version of a, that of 3, is not above 4
+//! 2 put a, 3 gone a, 4 put b      Removed 2  2.1   a later version of a, that of 3, is below 4
 //! 3 gone a, 4 put b               Removed 3  3.1   a tombstone below the compaction
 //! 4 put b                         Kept 4     4.1   b's last version
 //! 4 put b                         Done 1           no version from 4.1 on is at or below 4

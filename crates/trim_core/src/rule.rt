@@ -63,13 +63,14 @@ fn is_tombstone(version: &Version) -> bool
     }
 }
 
-/// Whether a version at or below the compaction goes: a later one of its key is there, or it is a
-/// tombstone below the compaction. The time is logarithmic in the number of keys and in that of the
-/// key's revisions.
+/// Whether a version at or below the compaction goes: a later one of its key is below the
+/// compaction, or it is a tombstone below it. So the last one stays, and a put before one at the
+/// compaction itself, which is its previous value. The time is logarithmic in the number of keys
+/// and in that of the key's revisions.
 pub(crate) fn is_trimmed(index: &KeyIndex, version: &Version, compacted: u64) -> bool
     ensures { (vs : List Version) → IsRising vs → Agrees index.now vs
         → result ≡ is_trimmed vs compacted version.now }
 {
-    is_superseded(index, version, compacted)
+    is_superseded(index, version, compacted.saturating_sub(1))
         || (is_tombstone(version) && version.rev.main < compacted)
 }

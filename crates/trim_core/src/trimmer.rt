@@ -64,8 +64,8 @@ impl Trimmer {
 
     /// Visits the next version at or below `compacted`, the revision of the last compaction, the
     /// oldest first. It is taken out of the table and of the index where a later version of its key
-    /// is at or below the compaction, or where it is a tombstone below it; else it stays. Where
-    /// none is left to visit, nothing changes and the answer is `Done`.
+    /// is below the compaction, or where it is a tombstone below it; else it stays. Where none is
+    /// left to visit, nothing changes and the answer is `Done`.
     ///
     /// The index is that of the versions in the table, and is so again. Takes no memory.
     ///
@@ -73,7 +73,7 @@ impl Trimmer {
     /// versions behind the one that goes, on its page of 256 places, move one place, and where it
     /// is not the oldest of its key, the revisions of that key are walked. It is the oldest where
     /// trimming began again at each compaction, and versions above it came since
-    /// (`laws::visited_is_oldest`).
+    /// (`laws::removed_is_oldest`).
     pub fn step(&mut self, table: &mut VersionTable, index: &mut KeyIndex, compacted: u64) -> Trim
         requires { Agrees index.old table.old }
         ensures exact { step_of result table.new self.new ≡ trimmed table.old self.old compacted }

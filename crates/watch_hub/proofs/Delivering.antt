@@ -1,18 +1,17 @@
 -- What is told to a watch, found in what is kept.
-use Rattle.std.proofs.Common.{◌≡◌, ◌≤◌, ℕ, ◌-◌, List, [], ◌∷◌, map, filter, Bool, true, false, ◌&&◌, ◌||◌, cond, None, Some, refl, sym, ◌∙◌}
+use Rattle.std.proofs.Common.{◌≡◌, ◌≤◌, ℕ, List, [], ◌∷◌, filter, Bool, true, false, ◌&&◌, ◌||◌, cond, None, Some, refl, sym, ◌∙◌}
 use Rattle.std.proofs.Common.{ap, subst, arith}
 use Rattle.std.specs.Prelude.{nat_lt, nat_le, MatchBool, ⊤}
 use Rattle.std.specs.List.{AllByRecursion, list_any}
 use Rattle.std.proofs.lemmas.Bool.Decides.{nat_tests}
 use Rattle.kv_model.specs.declared.version.Version.{Version}
-use Rattle.kv_model.specs.History.{value_at, end_of}
-use Rattle.kv_model.specs.Watches.{WatchEvent, event_of, matches}
+use Rattle.kv_model.specs.Watches.{event_of, matches}
 use Rattle.kv_model.specs.World.{World, Watch, revision, versions}
 use Rattle.kv_model.specs.Watches.{Delivery, undelivered, last_revision, delivery_of, watch_delivery}
 use Rattle.store_laws.specs.Stands.{Store, Tracked, TracksNext, Tracks, StandsFor, first_main_of}
-use Rattle.store_laws.proofs.StandsWatches.{good-undelivered}
+use Rattle.store_laws.proofs.StandsWatches.{good-undelivered, good-told}
 use Rattle.store_laws.proofs.TrimLaws.{Precedes, AreRising, rising-dress}
-use Rattle.store_laws.proofs.BetweenSteps.{all-values}
+use Rattle.store_laws.proofs.CompactLaws.{map-same}
 use Rattle.store_laws.proofs.RevOrder.{rev_lt-main}
 use Rattle.watch_hub.specs.Delivering.{message_from, delivery_kept, delivery_from}
 
@@ -114,21 +113,10 @@ none-below c (v ∷ vs) h =
 -- ---- a delivery
 
 module _ (kept ds : List Version) (c : ℕ) (x : Watch) (rising : AreRising ds)
-    (values : (r : ℕ) (k : List ℕ) → c ≤ r → value_at kept (end_of r) k ≡ value_at ds (end_of r) k)
+    (alike : AreFrom c (undelivered ds x)
+    → AllByRecursion (λ v. event_of kept c x.watched v ≡ event_of ds c x.watched v) (undelivered ds x))
     (same : (m : ℕ) → c ≤ m → filter (λ v. nat_le m v.rev.main && matches x.watched v) kept
     ≡ filter (λ v. nat_le m v.rev.main && matches x.watched v) ds) where
-  event-same : (v : Version) → event_of ds c x.watched v ≡ event_of kept c x.watched v
-  event-same v = by (nat_lt c v.rev.main) refl
-    where
-      by : (b : Bool) → nat_lt c v.rev.main ≡ b
-          → ◌≡◌ {A = WatchEvent}
-          (record { version = v; before = cond (b && x.watched.prev_kv) (value_at ds (end_of (v.rev.main - 1)) v.key) None })
-          (record { version = v; before = cond (b && x.watched.prev_kv) (value_at kept (end_of (v.rev.main - 1)) v.key) None })
-      by true f =
-          let kept_before : c ≤ v.rev.main - 1 = grind (arith, nat_tests) in
-          λ i. record { version = v; before = cond x.watched.prev_kv (sym (values (v.rev.main - 1) v.key kept_before) i) None }
-      by false f = refl
-
   told : (us : List Version) → undelivered ds x ≡ us → delivery_of ds c x us ≡ delivery_from kept c x.watched (first_main_of us)
   told [] e = refl
   told (u ∷ us) e = by (nat_lt u.rev.main c) refl
@@ -148,12 +136,18 @@ module _ (kept ds : List Version) (c : ℕ) (x : Watch) (rising : AreRising ds)
       by true f = refl
       by false f =
           let after : c ≤ u.rev.main = grind (arith, nat_tests) in
+          let all_from : AreFrom c (u ∷ us) = from-later u.rev.main c (u ∷ us) after from in
+          let events : AllByRecursion (λ v. event_of kept c x.watched v ≡ event_of ds c x.watched v) (u ∷ us)
+          = subst (AllByRecursion (λ v. event_of kept c x.watched v ≡ event_of ds c x.watched v)) e
+          (alike (subst (AreFrom c) (sym e) all_from)) in
           let back : u ∷ us ≡ filter (λ v. nat_le u.rev.main v.rev.main && matches x.watched v) kept
           = sym e ∙ sym (least x.next u.rev.main (matches x.watched) ds rising first) ∙ sym (same u.rev.main after) in
           ap (λ b. cond b (Delivery.cancelled c) (Delivery.events (message_from ds c x.watched (u ∷ us))))
           (none-below c us (from-later u.rev.main c us after from.1))
-          ∙ ap (λ (g : Version → WatchEvent). Delivery.events (map g (filter (λ z. nat_le z.rev.main (last_revision (u ∷ us))) (u ∷ us))))
-          (λ i v. event-same v i)
+          ∙ ap Delivery.events (sym (map-same (event_of kept c x.watched) (event_of ds c x.watched)
+          (filter (λ z. nat_le z.rev.main (last_revision (u ∷ us))) (u ∷ us))
+          (each-filter (λ v. event_of kept c x.watched v ≡ event_of ds c x.watched v) (λ z. nat_le z.rev.main (last_revision (u ∷ us)))
+          (u ∷ us) events)))
           ∙ ap (λ zs. Delivery.events (message_from kept c x.watched zs)) back
 
 -- what the hub holds of a watch and what is kept tell the delivery that the whole history tells
@@ -169,7 +163,7 @@ delivery_stands s w h t x k = by x.late refl
         let next : TracksNext (versions w) (revision w) t x
         = subst (λ b. MatchBool b ⊤ (TracksNext (versions w) (revision w) t x)) e k.next in
         told s.versions (versions w) w.compacted x (rising-dress w.mutations h.sound.history)
-        (λ r j l. all-values w.mutations w.compacted s.versions h.sound.history h.sound.floor h.good r j l)
+        (λ from. good-told s.versions w.mutations w.compacted x h.good h.sound.history from)
         (λ m l. good-undelivered s.versions w.mutations w.compacted (record x { next = m }) h.good h.sound.history l)
         (undelivered (versions w) x) refl
         ∙ (λ i. delivery_from s.versions (sym h.compacted i) (sym k.watched i) (sym next.first i))

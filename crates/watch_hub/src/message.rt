@@ -21,7 +21,8 @@ use std::alloc::{AllocError, Global};
 pub struct Event<'a> {
     /// The put, or the tombstone.
     pub version: &'a Version,
-    /// What the key held before the version's revision, where that is asked for and not compacted.
+    /// What the key held before the version's revision, where that is asked for and the revision is
+    /// not compacted.
     pub previous: Option<KvRef<'a>>,
 }
 
@@ -100,8 +101,9 @@ fn event_of<'a>(tables: &'a Tables, watched: &Watched, version: &'a Version) -> 
         ≡ event_of tables.now.versions tables.now.compacted watched.now version.now }
 {
     let main = version.rev.main;
-    let previous = if tables.compacted() < main && watched.prev_kv {
-        tables.view_at(end_of(main - 1)).get(&version.key)
+    let previous = if tables.compacted() <= main && watched.prev_kv {
+        let before = main.saturating_sub(1);
+        tables.view_at(end_of(before)).get(&version.key)
     } else {
         None
     };

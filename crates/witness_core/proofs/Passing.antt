@@ -1,26 +1,36 @@
 -- The walk over the claims finds the first fault of a certificate.
-use Rattle.std.proofs.Common.{◌≡◌, ◌<◌, ℕ, ◌^◌, List, [], ◌∷◌, ◌++◌, Bool, true, false, not, ◌&&◌, cond}
+use Rattle.std.proofs.Common.{◌≡◌, ◌≤◌, ◌<◌, ℕ, ◌-◌, ◌^◌, arith, List, [], ◌∷◌, ◌++◌, Bool, true, false, not, ◌&&◌, cond}
 use Rattle.std.proofs.Common.{length, Result, Ok, Err, OnOk, IfOk, IfErr, Option, None, Some, option_map, refl, sym, ◌∙◌, ap, subst}
 use Rattle.std.specs.Prelude.{nat_le}
 use Rattle.std.specs.Option.{option_or}
 use Rattle.std.specs.List.{AllByRecursion}
+use Rattle.std.proofs.lemmas.Bool.{le-leb, leb-true, and_parts}
+use Rattle.std.proofs.lemmas.Bool.Decides.{nat_tests}
 use Rattle.std.proofs.lemmas.List.{append_assoc}
 use Rattle.kv_model.specs.declared.version.Rev.{Rev}
 use Rattle.kv_model.specs.declared.version.Version.{Version}
 use Rattle.kv_model.specs.Watches.{before_is_kept}
 use Rattle.kv_model.specs.Certificates.{Dump, Claim, Need}
-use Rattle.kv_model.specs.History.{is_at, is_tombstone, is_superseded}
+use Rattle.kv_model.specs.History.{is_at, is_tombstone, is_superseded, is_next_at}
 use Rattle.kv_model.specs.Certificates.{NeedFault, is_asked, is_met, first_fall, first_double, claims_fault, first_fault, AreNeedsOf}
 use Rattle.kv_model.specs.Questions.{IsLeastOf}
 use Rattle.version_table.specs.Rising.{IsRising}
-use Rattle.store_laws.specs.TrimmingLaws.{IsLeastOfItself}
+use Rattle.store_laws.specs.TrimmingLaws.{Tells, IsLeastOfItself}
 use Rattle.store_laws.proofs.PassingLaws.{passing-least}
 use Rattle.witness_core.specs.declared.fault.NeedFault as declared
 use Rattle.witness_core.specs.declared.fault.NeedFault.TheVariants.{NotRising, DoubleKey, NoNeed, NeedUnmet, Extra, Memory}
 use Rattle.witness_core.specs.Faults.{IsFault, IsFirst, Judges, fault_by}
 use Rattle.witness_core.specs.declared.checking.Least.{Least}
-use Rattle.witness_core.specs.Walks.{next_main, next_mains, is_next_by, is_met_by, walked}
+use Rattle.witness_core.specs.Walks.{next_main, next_mains, is_next_in, is_next_by, is_met_by, walked}
 use Rattle.witness_core.proofs.Following.{superseded-next, rises, twin-double}
+
+-- the next version is of a revision where it is at or below it, and not at or below the one before
+next-at : (r : ℕ) (n : Option ℕ) → 1 ≤ r → is_next_in r n ≡ (is_next_by r n && not (is_next_by (r - 1) n))
+next-at r None l = refl
+next-at r (Some m) l = grind (arith, nat_tests)
+
+asked-from : (d : Dump) (v : Version) (r : ℕ) → is_asked d v r ≡ true → 1 ≤ r
+asked-from d v r e = leb-true 1 r (and_parts _ _ (and_parts _ _ (and_parts _ _ e).0).0).1
 
 met : (d : Dump) (before : List Version) (v : Version) (vs : List Version) (n : Need) → d.versions ≡ before ++ v ∷ vs → IsRising d.versions
     → is_met_by d v (next_main v.key vs) n ≡ is_met d v n
@@ -29,6 +39,19 @@ met d before v vs (Need.range r) e s =
     ap (λ us. is_superseded us r v) e ∙ superseded-next before v vs r (subst IsRising e s) in
     ap (λ b. is_asked d v r && not (is_tombstone v.body) && nat_le v.rev.main r && not b) (sym same)
 met d before v vs (Need.watch r) e s = refl
+met d before v vs (Need.prev r) e s = by (is_asked d v r) refl
+  where
+    n : Option ℕ
+    n = next_main v.key vs
+
+    same : (q : ℕ) → is_superseded d.versions q v ≡ is_next_by q n
+    same q = ap (λ us. is_superseded us q v) e ∙ superseded-next before v vs q (subst IsRising e s)
+
+    by : (b : Bool) → is_asked d v r ≡ b → (b && not (is_tombstone v.body) && is_next_in r n)
+        ≡ (b && not (is_tombstone v.body) && is_next_at d.versions r v)
+    by true f = ap (λ b. not (is_tombstone v.body) && b)
+        (next-at r n (asked-from d v r f) ∙ sym (λ i. same r i && not (same (r - 1) i)))
+    by false f = refl
 
 one-of : (a m : Bool) (x y : NeedFault) (rest : Option NeedFault)
     → option_or (cond a (cond m None (Some x)) (Some y)) rest ≡ cond a (cond m rest (Some x)) (Some y)
@@ -94,10 +117,20 @@ pub first : (d : Dump) (claims : List Claim) (r : Result Least declared.NeedFaul
 first d claims (Ok l) h = tt
 first d claims (Err e) h = found d claims e h
 
+-- a previous value that may be asked for is told by this store's test
+told : (c : ℕ) (n : Need) → Tells before_is_kept c n
+told c (Need.range r) = tt
+told c (Need.watch r) = tt
+told c (Need.prev r) = λ l. le-leb c r l
+
+all-told : (c : ℕ) (claims : List Claim) → AllByRecursion (λ claim. Tells before_is_kept c claim.need) claims
+all-told c [] = tt
+all-told c (claim ∷ claims) = (told c claim.need, all-told c claims)
+
 -- what a certificate that passes says
 pub least : (d : Dump) (claims : List Claim) → AllByRecursion (λ v. v.rev.sub < 2 ^ 64) d.versions → first_fault d claims ≡ None
     → IsLeastOfItself before_is_kept d claims
-least d claims places e = passing-least before_is_kept d claims places e
+least d claims places e = passing-least before_is_kept d claims places e (all-told d.floor claims)
 
 pub needed : (d : Dump) (claims : List Claim) (r : Result Least declared.NeedFault) → AllByRecursion (λ v. v.rev.sub < 2 ^ 64) d.versions
     → Judges r d (first_fault d claims) → OnOk r (AreNeedsOf d.floor d.revision d.versions d.versions claims)

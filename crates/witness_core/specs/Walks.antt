@@ -40,6 +40,7 @@ abbrev pub is_met_by : Dump → Version → Option ℕ → Need → Bool
 is_met_by d v n (Need.range r) = is_asked d v r && not (is_tombstone v.body) && nat_le v.rev.main r
     && not (is_next_by r n)
 is_met_by d v n (Need.watch r) = is_asked d v r && v.rev.main == r
+is_met_by d v n (Need.prev r) = is_asked d v r && not (is_tombstone v.body) && is_next_in r n
 
 -- what is wrong with the claim that stands where the version's has to
 abbrev pub claim_fault : Dump → Version → Option ℕ → Option Claim → Option NeedFault

@@ -9,6 +9,9 @@ pub enum Need {
     Range(u64),
     /// A watch of the version's key is told of the version at this revision.
     Watch(u64),
+    /// A watch of the version's key, with previous values, is told of an event at this revision, and
+    /// the version is the value before it.
+    Prev(u64),
 }
 
 /// The version at this revision has this need.

@@ -11,7 +11,7 @@ ghost use Rattle.witness_core.specs.Walks.{claim_fault, is_met_by, is_next_by, w
 use crate::certificate::{Certificate, Claim, Need};
 use crate::dump::Dump;
 use crate::fault::NeedFault;
-use crate::nexts::{are_places, first_fall, first_twin, next_mains};
+use crate::nexts::{are_places, first_fall, first_twin, is_next_in, next_mains};
 use kv_model::version::{Body, Version};
 use std::alloc::Global;
 
@@ -64,6 +64,11 @@ fn is_met(dump: &Dump, version: &Version, next: Option<u64>, need: Need) -> bool
         }
         Need::Watch(revision) => {
             is_asked(dump, version, revision) && version.rev.main == revision
+        }
+        Need::Prev(revision) => {
+            is_asked(dump, version, revision)
+                && !is_tombstone(version)
+                && is_next_in(revision, next)
         }
     }
 }

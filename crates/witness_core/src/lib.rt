@@ -19,8 +19,9 @@
 //!                                  one claim more        extra
 //! ```
 //!
-//! A tombstone is needed by a watch of its own revision. After a compaction at 4 and trimming,
-//! version 2 is gone, and 3 and 4 have the needs of Ranges at 4, the oldest that may be asked.
+//! A tombstone is needed by a watch of its own revision. After a compaction at 4 and trimming, 3 and
+//! 4 have the needs of Ranges at 4, the oldest that may be asked, and version 2 that of a watch of
+//! `a` at 4, which tells it as the value before version 4. After one at 5 version 2 is gone.
 //!
 //! The tests stand in the crate `certificate_tests`.
 #![tactic(auto)]

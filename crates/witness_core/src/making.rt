@@ -1,8 +1,9 @@
 //! The certificate of what a store keeps.
-ghost use Rattle.std.specs.Prelude.{◌≡◌, ◌++◌, List, option_map, IfOk, OnOk};
+ghost use Rattle.std.specs.Prelude.{◌≡◌, ◌++◌, max, List, option_map, IfOk, OnOk};
 ghost use Rattle.std.specs.List.{cons_option};
-ghost use Rattle.kv_model.specs.Certificates.{claim_of, claims_of, need_of, Claim as SeenClaim};
-ghost use Rattle.kv_model.specs.History.{is_superseded};
+ghost use Rattle.kv_model.specs.Certificates.{claim_of, claims_of, need_of, put_need};
+ghost use Rattle.kv_model.specs.Certificates.{Claim as SeenClaim};
+ghost use Rattle.kv_model.specs.History.{is_next_at, is_superseded};
 ghost use Rattle.witness_core.specs.Making.{dump_of, is_first_by};
 ghost use Rattle.witness_core.specs.Seen.{seen_need};
 
@@ -36,20 +37,42 @@ fn is_superseded(view: &View<'_>, version: &Version, revision: u64) -> bool
     is_first_by(version.rev, revision, versions)
 }
 
+/// Whether the next version of the key is of a revision, where versions stand above revision 0.
+///
+/// The time is that of two tests of whether a version is superseded.
+fn is_next_at(view: &View<'_>, version: &Version, revision: u64) -> bool
+    ensures { result ≡ is_next_at view.now.versions revision version.now }
+{
+    is_superseded(view, version, revision)
+        && !is_superseded(view, version, revision.saturating_sub(1))
+}
+
+/// What a put that is kept is needed for.
+fn put_need(view: &View<'_>, version: &Version) -> Option<Need>
+    ensures { option_map seen_need result
+        ≡ put_need
+        (is_superseded view.now.versions (max version.now.rev.main view.now.compacted) version.now)
+        (is_next_at view.now.versions view.now.compacted version.now)
+        (max version.now.rev.main view.now.compacted) view.now.compacted }
+{
+    let compacted = view.compacted();
+    let revision = version.rev.main.max(compacted);
+    if !is_superseded(view, version, revision) {
+        Some(Need::Range(revision))
+    } else if is_next_at(view, version, compacted) {
+        Some(Need::Prev(compacted))
+    } else {
+        None
+    }
+}
+
 /// What a version that is kept is needed for.
 fn need_of(view: &View<'_>, version: &Version) -> Option<Need>
     ensures { option_map seen_need result
         ≡ need_of (dump_of view.now) version.now version.now.body }
 {
     match version.body {
-        Body::Put { .. } => {
-            let revision = version.rev.main.max(view.compacted());
-            if is_superseded(view, version, revision) {
-                None
-            } else {
-                Some(Need::Range(revision))
-            }
-        }
+        Body::Put { .. } => put_need(view, version),
         Body::Gone => {
             if view.compacted() <= version.rev.main {
                 Some(Need::Watch(version.rev.main))
@@ -84,10 +107,12 @@ fn add(claims: &mut Vec<Claim>, claim: Option<Claim>) -> Result<(), AllocError>
     Ok(())
 }
 
-/// The certificate of what a view shows, behind its place too: in the order of the versions, each put that is the last
-/// version of its key at or below the last compaction, or at or below its own revision where that
-/// is above, has the need of a Range of that revision; each tombstone from the last compaction on
-/// has the need of a watch of its revision; other versions have none.
+/// The certificate of what a view shows, behind its place too: in the order of the versions, each
+/// put that is the last version of its key at or below the last compaction, or at or below its own
+/// revision where that is above, has the need of a Range of that revision; each other put whose next
+/// version is of the last compaction has the need of a watch of it, as the value before; each
+/// tombstone from the last compaction on has the need of a watch of its revision; other versions
+/// have none.
 ///
 /// The error is want of memory. The time is linear in the number of versions, and for each of them
 /// logarithmic in the number of keys and in that of its key's revisions.

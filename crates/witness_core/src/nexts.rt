@@ -62,7 +62,7 @@ pub(crate) fn next_mains(
 }
 
 /// Whether the next version is of a main revision.
-fn is_next_in(main: u64, next: Option<u64>) -> bool
+pub(crate) fn is_next_in(main: u64, next: Option<u64>) -> bool
     ensures { result ≡ is_next_in main next }
 {
     match next {

@@ -3,7 +3,7 @@ ghost use Rattle.kv_model.specs.History.{end_of};
 ghost use Rattle.kv_model.specs.Ranges.{live};
 ghost use Rattle.kv_model.specs.Txns.{if_asked};
 ghost use Rattle.range_view.specs.Replies.{kv_view};
-ghost use Rattle.std.specs.Prelude.{◌≡◌, map, ◌-◌, [], length, IfOk, IfErr, OnOk, OnErr, None};
+ghost use Rattle.std.specs.Prelude.{◌≡◌, ◌++◌, map, ◌-◌, [], length, IfOk, IfErr, OnOk, OnErr, None};
 
 use super::Core;
 use crate::answer::Todo;
@@ -18,7 +18,7 @@ use std::alloc::AllocError;
 
 impl Core {
     ghost use Rattle.kv_model.specs.Calls.{Call};
-    ghost use Rattle.request_core.specs.State.{IsTold, added_by, fault_of_delete, added_by_delete};
+    ghost use Rattle.request_core.specs.State.{IsTold, added_by, floor_by, fault_of_delete, added_by_delete};
     ghost use Rattle.request_core.specs.State.{after_delete, live_in};
     ghost use Rattle.request_core.specs.Answers.{IsRefusal};
     ghost use Rattle.request_core.specs.Commands.{CarriesOut, Refuses};
@@ -31,6 +31,10 @@ impl Core {
         sink: &mut S,
     ) -> Result<Todo<'c>, Refusal>
         ensures done { IfOk result (λ t. CarriesOut self.old self.new (Call.delete request.now) t) }
+        ensures grows { OnOk result (self.new.store.versions
+            ≡ self.old.store.versions ++ added_by self.old.store (Call.delete request.now)) }
+        ensures floors { OnOk result
+            (self.new.store.compacted ≡ floor_by self.old.store (Call.delete request.now)) }
         ensures told { OnOk result
             (IsTold S.takes (added_by self.old.store (Call.delete request.now)) sink.old sink.new) }
         ensures refused { IfErr result

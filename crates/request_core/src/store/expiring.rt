@@ -12,10 +12,10 @@ use kv_model::refusal::Refusal;
 impl Core {
     ghost use Rattle.kv_model.specs.World.{World, at_moment};
     ghost use Rattle.store_laws.specs.Stands.{StandsFor};
-    ghost use Rattle.request_core.specs.State.{IsTold, added_by_expiry, added_by_revoke};
-    ghost use Rattle.request_core.specs.State.{after_moment, counted, due_in};
+    ghost use Rattle.request_core.specs.State.{after_moment, counted, due_in, tables_of};
     ghost use Rattle.request_core.specs.Answers.{expiry_view};
-    ghost use Rattle.request_core.specs.Commands.{Expires, RefusesExpiry};
+    ghost use Rattle.request_core.specs.Commands.{Expires, IsToldExpiry, RefusesExpiry};
+    ghost use Rattle.request_core.specs.Commands.{StoresExpiry};
 
     /// Hands in the present moment, in milliseconds, and answers the clock: the greatest moment so
     /// far. An earlier one leaves the clock, and one above 2^62 counts as 2^62. Either is a
@@ -23,6 +23,7 @@ impl Core {
     pub fn moment(&mut self, now: u64) -> u64
         ensures clock { result ≡ self.new.store.clock }
         ensures made { self.new ≡ after_moment self.old now }
+        ensures kept { tables_of self.new ≡ tables_of self.old }
         ensures stands { (w : World) → StandsFor self.old.store w
             → StandsFor self.new.store (at_moment w now) × (result ≡ (at_moment w now).clock) }
     {
@@ -45,15 +46,15 @@ impl Core {
         ensures done { IfOk result (λ e. Expires self.old self.new e) }
         ensures refused { IfErr result (λ e. RefusesExpiry self.old self.new e) }
     {
-        self.expire_over(&mut NoSink)
+        self.expire_to(&mut NoSink)
     }
 
     /// One step of expiry that hands the tombstones to a sink before they stand, in one batch. A
     /// sink that finds no memory refuses the step.
-    pub(crate) fn expire_over<S: Sink>(&mut self, sink: &mut S) -> Result<Expiry, Refusal>
+    pub fn expire_to<S: Sink>(&mut self, sink: &mut S) -> Result<Expiry, Refusal>
         ensures done { IfOk result (λ e. Expires self.old self.new e) }
-        ensures told { OnOk result
-            (IsTold S.takes (added_by_expiry self.old.store) sink.old sink.new) }
+        ensures told { OnOk result (IsToldExpiry S.takes self.old.store sink.old sink.new) }
+        ensures stored { OnOk result (StoresExpiry self.old self.new) }
         ensures refused { IfErr result (λ e. RefusesExpiry self.old self.new e) }
         ensures untold { OnErr result (sink.new ≡ sink.old) }
     {
@@ -67,8 +68,8 @@ impl Core {
     fn expire_lease<S: Sink>(&mut self, id: i64, sink: &mut S) -> Result<Expiry, Refusal>
         requires { due_in self.old.store ≡ Some id }
         ensures done { IfOk result (λ e. Expires self.old self.new e) }
-        ensures told { OnOk result
-            (IsTold S.takes (added_by_revoke self.old.store id) sink.old sink.new) }
+        ensures told { OnOk result (IsToldExpiry S.takes self.old.store sink.old sink.new) }
+        ensures stored { OnOk result (StoresExpiry self.old self.new) }
         ensures refused { IfErr result (λ e. RefusesExpiry self.old self.new e) }
         ensures untold { OnErr result (sink.new ≡ sink.old) }
     {

@@ -7,7 +7,7 @@ ghost use Rattle.kv_model.specs.Txns.{if_asked};
 ghost use Rattle.range_view.specs.Replies.{kv_view};
 ghost use Rattle.request_core.specs.Answers.{answer_view};
 ghost use Rattle.std.specs.Prelude.{◌≡◌, unwrap_or, option_map, map, None};
-ghost use Rattle.std.specs.Prelude.{IfOk, IfErr, OnErr};
+ghost use Rattle.std.specs.Prelude.{IfOk, IfErr, OnOk, OnErr};
 
 use super::Core;
 use crate::answer::{Answer, Todo};
@@ -25,6 +25,10 @@ impl Core {
     /// A grant takes one node of the book.
     pub(crate) fn apply_grant<'c>(&mut self, ttl: i64, id: i64) -> Result<Todo<'c>, Refusal>
         ensures done { IfOk result (λ t. CarriesOut self.old self.new (Call.grant ttl id) t) }
+        ensures versions { OnOk result
+            (self.new.store.versions ≡ self.old.store.versions) }
+        ensures compacted { OnOk result
+            (self.new.store.compacted ≡ self.old.store.compacted) }
         ensures refused { IfErr result (λ e. Refuses self.old self.new (Call.grant ttl id) e) }
     {
         match self.grant(ttl, id) {
@@ -51,7 +55,9 @@ impl Core {
 
     /// A keepalive changes nothing where the lease is not granted. Takes no memory.
     pub(crate) fn apply_keep_alive<'c>(&mut self, id: i64) -> Todo<'c>
-        ensures { CarriesOut self.old self.new (Call.keep_alive id) result }
+        ensures done { CarriesOut self.old self.new (Call.keep_alive id) result }
+        ensures versions { self.new.store.versions ≡ self.old.store.versions }
+        ensures compacted { self.new.store.compacted ≡ self.old.store.compacted }
     {
         let ttl = self.keep_alive(id);
         Todo::KeepAlive { id, ttl }

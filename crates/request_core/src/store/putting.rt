@@ -3,7 +3,7 @@ ghost use Rattle.kv_model.specs.History.{end_of, value_at};
 ghost use Rattle.kv_model.specs.Txns.{previous_value};
 ghost use Rattle.range_view.specs.Replies.{kv_view};
 ghost use Rattle.request_core.specs.Writing.{AreNext};
-ghost use Rattle.std.specs.Prelude.{◌≡◌, option_map, ◌-◌, [], ◌∷◌, None};
+ghost use Rattle.std.specs.Prelude.{◌≡◌, ◌++◌, option_map, ◌-◌, [], ◌∷◌, None};
 ghost use Rattle.std.specs.Prelude.{IfOk, IfErr, OnOk, OnErr};
 
 use super::Core;
@@ -19,7 +19,7 @@ use range_view::revision::end_of;
 
 impl Core {
     ghost use Rattle.kv_model.specs.Calls.{Call};
-    ghost use Rattle.request_core.specs.State.{IsTold, added_by, fault_of_put, added_by_put};
+    ghost use Rattle.request_core.specs.State.{IsTold, added_by, floor_by, fault_of_put, added_by_put};
     ghost use Rattle.request_core.specs.State.{after_put, held_in};
     ghost use Rattle.request_core.specs.Answers.{IsRefusal};
     ghost use Rattle.request_core.specs.Commands.{CarriesOut, Refuses};
@@ -31,6 +31,10 @@ impl Core {
         sink: &mut S,
     ) -> Result<Todo<'c>, Refusal>
         ensures done { IfOk result (λ t. CarriesOut self.old self.new (Call.put request.now) t) }
+        ensures grows { OnOk result (self.new.store.versions
+            ≡ self.old.store.versions ++ added_by self.old.store (Call.put request.now)) }
+        ensures floors { OnOk result
+            (self.new.store.compacted ≡ floor_by self.old.store (Call.put request.now)) }
         ensures told { OnOk result
             (IsTold S.takes (added_by self.old.store (Call.put request.now)) sink.old sink.new) }
         ensures refused { IfErr result (λ e. Refuses self.old self.new (Call.put request.now) e) }

@@ -1,7 +1,7 @@
 //! The keys of a lease, and its revoke.
 ghost use Rattle.kv_model.specs.Leases.{without_lease};
 ghost use Rattle.range_view.specs.Replies.{kv_view};
-ghost use Rattle.std.specs.Prelude.{◌≡◌, ◌+◌, map, [], length, IfOk, IfErr, OnOk, OnErr, None};
+ghost use Rattle.std.specs.Prelude.{◌≡◌, ◌++◌, ◌+◌, map, [], length, IfOk, IfErr, OnOk, OnErr, None};
 
 use super::Core;
 use crate::answer::Todo;
@@ -15,7 +15,7 @@ use std::alloc::AllocError;
 
 impl Core {
     ghost use Rattle.kv_model.specs.Calls.{Call};
-    ghost use Rattle.request_core.specs.State.{IsTold, added_by, added_by_revoke};
+    ghost use Rattle.request_core.specs.State.{IsTold, added_by, floor_by, added_by_revoke};
     ghost use Rattle.request_core.specs.State.{after_revoke, fault_of_revoke, leased, leased_in};
     ghost use Rattle.request_core.specs.Answers.{IsRefusal};
     ghost use Rattle.request_core.specs.Commands.{CarriesOut, Refuses};
@@ -28,6 +28,10 @@ impl Core {
         sink: &mut S,
     ) -> Result<Todo<'c>, Refusal>
         ensures done { IfOk result (λ t. CarriesOut self.old self.new (Call.revoke id) t) }
+        ensures grows { OnOk result (self.new.store.versions
+            ≡ self.old.store.versions ++ added_by self.old.store (Call.revoke id)) }
+        ensures floors { OnOk result
+            (self.new.store.compacted ≡ floor_by self.old.store (Call.revoke id)) }
         ensures told { OnOk result
             (IsTold S.takes (added_by self.old.store (Call.revoke id)) sink.old sink.new) }
         ensures refused { IfErr result (λ e. Refuses self.old self.new (Call.revoke id) e) }

@@ -5,7 +5,7 @@ ghost use Rattle.kv_model.specs.Txns.{Path, replies_of};
 ghost use Rattle.range_view.specs.Replies.{replies_view};
 ghost use Rattle.range_view.specs.Stored.{IsUpTo};
 ghost use Rattle.std.specs.List.{AllByRecursion};
-ghost use Rattle.std.specs.Prelude.{◌≡◌, ◌⊎◌, ◌+◌, ◌<◌, ◌≤◌, ◌^◌, [], length, map, None, Some};
+ghost use Rattle.std.specs.Prelude.{◌≡◌, ◌++◌, ◌⊎◌, ◌+◌, ◌<◌, ◌≤◌, ◌^◌, [], length, map, None, Some};
 ghost use Rattle.std.specs.Prelude.{IfOk, IfErr, OnOk, OnErr};
 ghost use Rattle.kv_model.specs.Commands as commands;
 ghost use Rattle.kv_model.specs.History as history;
@@ -32,7 +32,7 @@ impl Core {
     ghost use Rattle.kv_model.specs.Calls.{as_call};
     ghost use Rattle.kv_model.specs.Commands.{txn_view};
     ghost use Rattle.kv_model.specs.History.{end_of};
-    ghost use Rattle.request_core.specs.State.{IsTold, added_by, fault_of_txn, added_by_txn};
+    ghost use Rattle.request_core.specs.State.{IsTold, added_by, floor_by, fault_of_txn, added_by_txn};
     ghost use Rattle.request_core.specs.State.{after_txn};
     ghost use Rattle.request_core.specs.Answers.{CanReply, IsRefusal};
     ghost use Rattle.request_core.specs.Commands.{CarriesOut, Refuses};
@@ -46,6 +46,10 @@ impl Core {
     ) -> Result<Todo<'c>, Refusal>
         ensures done { IfOk result
             (λ t. CarriesOut self.old self.new (as_call (txn_view txn.now)) t) }
+        ensures grows { OnOk result (self.new.store.versions
+            ≡ self.old.store.versions ++ added_by self.old.store (as_call (txn_view txn.now))) }
+        ensures floors { OnOk result
+            (self.new.store.compacted ≡ floor_by self.old.store (as_call (txn_view txn.now))) }
         ensures told { OnOk result
             (IsTold S.takes (added_by self.old.store (as_call (txn_view txn.now)))
             sink.old sink.new) }

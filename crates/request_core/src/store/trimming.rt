@@ -11,9 +11,9 @@ impl Core {
 
     /// Makes one trimming step (etcd: mvcc compaction): the next version at or below the last
     /// compaction is visited, the oldest first, and taken out where no answer needs it any more:
-    /// where a later version of its key is at or below the compaction, or where it is a tombstone
-    /// below it. Where none is left to visit, nothing changes, and the answer is `Done` with the
-    /// number of versions that are kept.
+    /// where a later version of its key is below the compaction, or where it is a tombstone below
+    /// it. Where none is left to visit, nothing changes, and the answer is `Done` with the number of
+    /// versions that are kept.
     ///
     /// `TrimsOnce` says what was done. The step is the rule's, and a step that takes a version out
     /// is a changing call (`told`, `left`). It visits the next version of those that were to be

@@ -18,7 +18,7 @@ impl Core {
     ghost use Rattle.kv_model.specs.Calls.{Call};
     ghost use Rattle.request_core.specs.Answers.{IsRefusal, is_memory};
     ghost use Rattle.request_core.specs.Commands.{CarriesOut, Refuses};
-    ghost use Rattle.request_core.specs.State.{after_watch, with_watches};
+    ghost use Rattle.request_core.specs.State.{after_watch, tables_of, with_watches};
 
     /// A watch takes a place of the hub.
     pub(crate) fn apply_watch<'c>(
@@ -29,6 +29,10 @@ impl Core {
     ) -> Result<Todo<'c>, Refusal>
         ensures done { IfOk result
             (λ t. CarriesOut self.old self.new (Call.watch watched.now start id) t) }
+        ensures versions { OnOk result
+            (self.new.store.versions ≡ self.old.store.versions) }
+        ensures compacted { OnOk result
+            (self.new.store.compacted ≡ self.old.store.compacted) }
         ensures refused { IfErr result
             (λ e. Refuses self.old self.new (Call.watch watched.now start id) e) }
     {
@@ -90,6 +94,7 @@ impl Core {
         ensures stands { (w : World) → StandsFor self.old.store w
             → StandsFor self.new.store (deliver w number).1 }
         ensures others { self.new ≡ with_watches self.new.store.watches self.old }
+        ensures kept { tables_of self.new ≡ tables_of self.old }
     {
         self.hub.go_on(&self.tables, number);
     }
@@ -104,6 +109,7 @@ impl Core {
         ensures stands { (w : World) → StandsFor self.old.store w
             → StandsFor self.new.store (record w { watches = without_watch number w.watches }) }
         ensures others { self.new ≡ with_watches self.new.store.watches self.old }
+        ensures kept { tables_of self.new ≡ tables_of self.old }
         ensures missing { IfErr result (λ e. e ≡ NoWatch) }
         ensures unchanged { OnErr result (self.new ≡ self.old) }
     {

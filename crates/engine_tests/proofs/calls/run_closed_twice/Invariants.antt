@@ -1,4 +1,7 @@
 use Rattle.engine_tests.proofs.calls.run_closed_twice.Given as goal
 
-abbrev pub ghosts-closed_twice : goal.ghosts-closed_twice
-ghosts-closed_twice g a = record { name = a.opening.name; parts = a.opening.parts }
+abbrev pub ghosts-closed_twice-L-EngineName : goal.ghosts-closed_twice-L-EngineName
+ghosts-closed_twice-L-EngineName g a = record { book = a.opening.book }
+
+abbrev pub ghosts-closed_twice-L-Ledger : goal.ghosts-closed_twice-L-Ledger
+ghosts-closed_twice-L-Ledger g a = record { name = a.opening.name; parts = a.opening.parts }

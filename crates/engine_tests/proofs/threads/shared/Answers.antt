@@ -1,16 +1,13 @@
 use mathlib.Core.List.{[], ◌∷◌}
 use denote.Param.{param}
-use denote.Param.Send.{IsSend, sendable, shr_send}
-use Rattle.std.proofs.Crossing.{crosses}
+use denote.Param.Send.{shr_send}
 use Rattle.std.proofs.alloc.Global.TheSendSync as heap
-use Rattle.engine_lock.specs.contracts.opening.NoFeed as NoFeed
 use Rattle.engine_lock.proofs.Crossing.{client_send, closure_send, engine_sync}
 use Rattle.engine_tests.proofs.threads.shared.Goals as goal
 
 pub join-first-requires-send-F : goal.join-first-requires-send-F
 join-first-requires-send-F g c κs _ =
     let b = c.type_bounds in
-    let feed : IsSend NoFeed.the_row = search (sendable, crosses) depth 20 in
-    let client = client_send (param 0 g.row.L) NoFeed.the_row g.L.Ledger in
-    let engine = engine_sync (param 0 g.row.L) NoFeed.the_row g.L.Ledger feed in
+    let client = client_send (param 0 g.row.L) g.L.EngineName g.L.Ledger in
+    let engine = engine_sync (param 0 g.row.L) g.L.EngineName g.L.Ledger in
     closure_send _ _ _ (_ ∷ _ ∷ _ ∷ _ ∷ []) (shr_send _ _ _ b.sync-R, (heap.the_send, (shr_send _ _ _ engine, (client, tt))))

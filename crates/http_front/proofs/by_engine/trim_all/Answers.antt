@@ -1,10 +1,19 @@
-use Rattle.http_front.proofs.Trimmed.{done_last, others}
+use Rattle.std.proofs.Common.{arith}
+use Rattle.http_front.proofs.Trimmed.{done_last, last_refusal, others, refusal}
 use Rattle.http_front.proofs.by_engine.trim_all.Goals as goal
 
 pub returns-in-Ok-Done : goal.returns-in-Ok-Done
-returns-in-Ok-Done g c = c.loop.invariant _
-    (done_last _ _ c.in-Ok-Done.field-0 _ c.in-Ok-Done.ensures.sees c.in-Ok-Done.field-0-is tt c.in-Ok-Done.ensures.given)
+returns-in-Ok-Done g c = c.loop.invariant.0 _ _
+    (done_last _ _ _ c.in-Ok-Done.field-0 _ c.in-Ok-Done.ensures.sees c.in-Ok-Done.field-0-is tt c.in-Ok-Done.ensures.given)
 
-pub loop-preserved-in-Removed-1 : goal.loop-preserved-in-Removed-1
-loop-preserved-in-Removed-1 g c d later = c.loop.invariant d
-    (others _ _ c.trim_once_for.result c.trim_once_for.ensures.made c.trim_once_for.ensures.sees c.trim_once_for.ensures.given d later)
+pub loop-preserved-in-Ok : goal.loop-preserved-in-Ok
+loop-preserved-in-Ok g c = (
+  λ b d later. c.loop.invariant.0 b d (others c.loop.refusals b _ _ c.in-Ok.field-0 c.in-Ok.ensures.sees c.in-Ok.ensures.given d later),
+  omega arith,
+)
+
+pub returns-then-refusals-eq-MOST_REFUSALS : goal.returns-then-refusals-eq-MOST_REFUSALS
+returns-then-refusals-eq-MOST_REFUSALS g c = c.loop.invariant.0 _ _ (last_refusal c.loop.refusals _ _ c.in-Err.ensures.same c.if-refusals-eq-MOST_REFUSALS.true)
+
+pub loop-preserved : goal.loop-preserved
+loop-preserved g c = (λ b d later. c.loop.invariant.0 b d (refusal c.loop.refusals b _ _ c.in-Err.ensures.same d later), omega (arith, c.loop.invariant.1, c.if-refusals-eq-MOST_REFUSALS.false))

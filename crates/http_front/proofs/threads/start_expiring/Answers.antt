@@ -1,6 +1,7 @@
 use mathlib.Core.List.{[], ◌∷◌}
+use denote.Exit.{no}
 use denote.Param.{param}
-use denote.Param.Send.{shr_send}
+use denote.Param.Send.{arg_send, param_send, shr_send}
 use Rattle.std.proofs.sync.atomic.AtomicBool.TheSendSync as flag
 use Rattle.engine_lock.proofs.Crossing.{client_send, closure_send, engine_sync}
 use Rattle.http_front.proofs.threads.start_expiring.Goals as goal
@@ -9,7 +10,11 @@ use Rattle.http_front.proofs.threads.start_expiring.Goals as goal
 pub spawn-requires-send-F : goal.spawn-requires-send-F
 spawn-requires-send-F g c κs _ =
     let b = c.type_bounds in
-    let client = client_send (param 1 g.row.L) (param 2 g.row.F) g.L.Ledger in
-    let lent = engine_sync (param 1 g.row.L) (param 2 g.row.F) g.L.Ledger b.send-F in
+    let client = client_send (param 1 g.row.L) g.L.EngineName g.L.Ledger in
+    let lent = engine_sync (param 1 g.row.L) g.L.EngineName g.L.Ledger in
     closure_send _ _ _ (_ ∷ _ ∷ _ ∷ _ ∷ _ ∷ [])
     (shr_send _ _ _ b.sync-R, (shr_send _ _ _ lent, (shr_send _ _ _ b.sync-C, (shr_send _ _ _ flag.the_sync, (client, tt)))))
+
+-- and what it hands back, from it
+pub spawn-requires-send-T : goal.spawn-requires-send-T
+spawn-requires-send-T g c κs _ = param_send 2 _ (arg_send _ no _ (client_send (param 1 g.row.L) g.L.EngineName g.L.Ledger))

@@ -1,4 +1,7 @@
 use Rattle.server_tests.proofs.connections.run_worked.Given as goal
 
-abbrev pub ghosts-worked : goal.ghosts-worked
-ghosts-worked g a = record { name = a.opening.name; parts = a.opening.parts }
+abbrev pub ghosts-worked-L-EngineName : goal.ghosts-worked-L-EngineName
+ghosts-worked-L-EngineName g a = record { book = a.opening.book }
+
+abbrev pub ghosts-worked-L-Ledger : goal.ghosts-worked-L-Ledger
+ghosts-worked-L-Ledger g a = record { name = a.opening.name; parts = a.opening.parts }

@@ -1,8 +1,11 @@
-use Rattle.engine_lock.proofs.Counting.{submitted_expiry}
+use Rattle.engine_lock.specs.Locked.{rise_of_expiry}
+use Rattle.engine_lock.specs.declared.past.Given.TheVariants as given
+use Rattle.engine_lock.proofs.Counting.{told_same}
 use Rattle.engine_lock.proofs.state.State.expire.Goals as goal
 
 pub returns-clause-submits : goal.returns-clause-submits
 returns-clause-submits g c =
-    submitted_expiry c.args.client.now.made c.args.now c.self.inside.book.total c.self.inside.core c.moment.new.self
-    c.expired-step.new.core _ c.self.invariant.0 c.audit.ensures.most c.moment.ensures.made (λ w h. (c.moment.ensures.stands w h).0)
-    c.expired-step.ensures.makes
+    c.end-step.ensures.submits c.tell-published.result c.tell-published.new.client
+    (told_same c.tell-published.result c.end-step.new.self.log c.args.client.now c.end-step.new.client c.tell-published.new.client
+    (given.Expired c.args.now c.end-step.result) (rise_of_expiry c.end-step.result) c.end-step.ensures.client
+    c.tell-published.ensures.told)

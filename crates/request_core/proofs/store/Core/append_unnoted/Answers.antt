@@ -1,12 +1,11 @@
 use Rattle.std.proofs.Common.{◌+◌, ◌<◌, sym, ◌∙◌, ap, subst}
 use Rattle.kv_model.specs.History.{value_now}
 use Rattle.kv_model.specs.Step.{last_main}
-use Rattle.lease_keys.specs.Pairs.{Pairs}
-use Rattle.lease_keys.specs.Holding.{AreJust, ArePut, ArePartlyPut, AreSettled, AreTakenBack}
-use Rattle.range_view.specs.Stored.{IsStored, Stored, appended, retracted_to}
+use Rattle.lease_keys.specs.Holding.{AreJust}
+use Rattle.range_view.specs.Stored.{Stored, appended, retracted_to}
 use Rattle.range_view.proofs.Growing.{retracted_to-appended}
 use Rattle.request_core.specs.Writing.{AreNext}
-use Rattle.request_core.specs.State.{CoreState, IsSound, core_state, newest, with_unnoted}
+use Rattle.request_core.specs.State.{CoreState, IsSound, core_state, with_unnoted}
 use Rattle.request_core.proofs.Kept.{sound-appended, grown-state}
 use Rattle.request_core.proofs.Indexed.{IsGrown, settled-grown, taken-grown}
 use Rattle.request_core.proofs.store.Core.append_unnoted.Goals as goal

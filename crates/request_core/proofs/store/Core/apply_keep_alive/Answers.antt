@@ -3,8 +3,8 @@ use Rattle.std.specs.Int.{w64}
 use Rattle.request_core.proofs.Leases.{keep_alive_done}
 use Rattle.request_core.proofs.store.Core.apply_keep_alive.Goals as goal
 
-pub returns : goal.returns
-returns c =
+pub returns-clause-done : goal.returns-clause-done
+returns-clause-done c =
     let found = rw (to_z-of_z w64 c.args.id c.ranges.id) at c.keep_alive-ttl.ensures.ttl in
     let made = rw (to_z-of_z w64 c.args.id c.ranges.id) at c.keep_alive-ttl.ensures.made in
     rw (to_z-of_z w64 c.args.id c.ranges.id)

@@ -1,4 +1,4 @@
-use Rattle.std.proofs.Common.{◌≡◌, ◌≤◌, ℕ, sym, subst, arith}
+use Rattle.std.proofs.Common.{◌≤◌, sym, subst, arith}
 use Rattle.std.specs.Int.{w64}
 use Rattle.std.proofs.lemmas.Int.{to_z-of_z}
 use Rattle.kv_model.specs.History.{value_now}
@@ -10,7 +10,7 @@ use Rattle.request_core.proofs.Compacting.{compacted-sound}
 use Rattle.request_core.proofs.store.Core.compact.Goals as goal
 
 pub invariant_of-self : goal.invariant_of-self
-invariant_of-self c =
+invariant_of-self g c =
     let t = c.self.inside.tables in
     let clear = rw (to_z-of_z w64 c.args.revision c.ranges.revision) at c.in-Ok.ensures.floor in
     let within = compact_within c.compacted.result c.revision.result c.args.revision clear.0 in

@@ -1,5 +1,5 @@
 -- The versions above the revision before are those of the present one.
-use Rattle.std.proofs.Common.{◌≡◌, ◌+◌, filter, map, nat_le, List, sym, ◌∙◌, ap, subst}
+use Rattle.std.proofs.Common.{◌≡◌, ◌+◌, filter, map, nat_le, sym, ◌∙◌, ap, subst}
 use Rattle.kv_model.specs.declared.version.Version.{Version}
 use Rattle.store_laws.specs.Stands.{noted}
 use Rattle.watch_hub.specs.Hub.{Hub}

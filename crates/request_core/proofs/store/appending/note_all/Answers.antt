@@ -1,5 +1,5 @@
 -- A part is noted as if its revision were the one before.
-use Rattle.std.proofs.Common.{◌≡◌, ◌++◌, List, map, sym, ◌∙◌, ap, subst}
+use Rattle.std.proofs.Common.{◌≡◌, ◌++◌, map, sym, ◌∙◌, ap, subst}
 use Rattle.kv_model.specs.declared.version.Version.{Version}
 use Rattle.store_laws.specs.Stands.{noted}
 use Rattle.watch_hub.specs.Hub.{Hub}

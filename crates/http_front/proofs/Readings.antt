@@ -1,0 +1,57 @@
+-- What a client reads beside the engine, as a response.
+use Rattle.std.proofs.Common.{◌≡◌, ◌⊎◌, inl, inr, Bool, true, false, ℕ, List, Option, None, Some, Result, Ok, Err, refl, sym, ◌∙◌, ap}
+use Rattle.std.specs.Prelude.{IfSome, IfNone}
+use Rattle.kv_model.specs.declared.ids.Ids.{Ids}
+use Rattle.kv_model.specs.declared.call.Command.{Command}
+use Rattle.kv_model.specs.declared.call.Command.TheVariants as commands
+use Rattle.kv_model.specs.declared.call.RangeQuery.{RangeQuery}
+use Rattle.kv_model.specs.declared.refusal.Refusal.{Refusal}
+use Rattle.kv_model.specs.declared.refusal.Refusal.TheVariants.{Memory}
+use Rattle.kv_model.specs.Answers.{Response, fault_of, success_response}
+use Rattle.kv_model.specs.Ranges as ranges
+use Rattle.kv_model.specs.Told as model
+use Rattle.store_laws.specs.Snapshots.{Untrimmed}
+use Rattle.range_view.specs.declared.reply.RangeReply.{RangeReply}
+use Rattle.range_view.specs.Replies.{reply_view}
+use Rattle.request_core.specs.Answers.{is_memory}
+use Rattle.snapshot_feed.specs.Answers.{AnswersOf}
+use Rattle.json_gateway.specs.declared.outcome.Outcome.{Outcome}
+use Rattle.json_gateway.specs.declared.outcome.Settled.{Settled}
+use Rattle.json_gateway.specs.declared.outcome.Settled.TheVariants as settled
+use Rattle.json_gateway.specs.Endings.{Refuses}
+use Rattle.engine_lock.specs.Locked.{Caller, left}
+use Rattle.http_front.specs.Engines.{IsAnswer, Looks, Reads, SettlesAs, answer_over, response_over}
+
+-- the reader's answer is the model's, or memory was wanting
+pub is_answer : (u : Untrimmed) (q : RangeQuery) (r : Result RangeReply Refusal) → AnswersOf u q r → IsAnswer (answer_over u q) r
+is_answer u q (Ok r) h = h
+is_answer u q (Err e) h = h
+
+-- a reply's text is its response
+pub text_is : (ids : Ids) (r : RangeReply) (body : List ℕ) (told : Result ranges.RangeReply Refusal) → told ≡ Ok (reply_view r)
+    → body ≡ (success_response ids (record { reply = model.Reply.range (reply_view r); revision = r.revision })).body
+    → record { status = 200; body = body } ≡ response_over ids told
+text_is ids r body told t e = (λ i. record { status = 200; body = e i }) ∙ ap (response_over ids) (sym t)
+
+-- and a refusal's text is its response
+pub declined_is : (ids : Ids) (s : Settled) (e : Refusal) (told : Result ranges.RangeReply Refusal) → Refuses s (is_memory e) (fault_of e)
+    → (e ≡ Memory) ⊎ (told ≡ Err e) → SettlesAs (response_over ids told) s
+declined_is ids (settled.Reply r) e told h (inl m) = let bad : true ≡ false = sym (ap is_memory m) ∙ h.0 in cc
+declined_is ids (settled.Reply r) e told h (inr t) = h.1 ∙ ap (response_over ids) (sym t)
+declined_is ids settled.Memory e told h t = tt
+declined_is ids (settled.Lost n) e told h t = absurd h
+
+-- a client that entered, read and left
+pub reads_client : (c d e : Caller) → d ≡ record c { reader = d.reader } → d.reader.book ≡ c.reader.book → e ≡ left d
+    → e ≡ record c { reader = record c.reader { known = d.reader.known; inside = false } }
+reads_client c d e h b l = l ∙ ap left h ∙ (λ i. record c { reader = record c.reader { book = b i; known = d.reader.known; inside = false } })
+
+-- a serializable Range that was read
+pub looks_as : (ids : Ids) (c d : Caller) (q : RangeQuery) (command : Command) (r : Option Outcome) → command ≡ commands.Range q
+    → q.serializable ≡ true → IfSome r (λ o. Reads ids c q o d) → IfSome r (λ o. Looks ids c command o d)
+looks_as ids c d q command None is s h = tt
+looks_as ids c d q command (Some o) is s h = record { query = q; is = is; serializable = s; reads = h }
+
+pub left_twice : (c d : Caller) (r : Option Outcome) → IfNone r (d ≡ left c) → IfNone r (left d ≡ left c)
+left_twice c d None h = ap left h
+left_twice c d (Some o) h = tt

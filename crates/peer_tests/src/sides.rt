@@ -1,0 +1,199 @@
+//! Who answers a connection: a core by itself, or an engine on behalf of one of its clients.
+ghost use Rattle.std.specs.Prelude.{◌≡◌};
+
+use crate::peers::{Coming, Going, Then, short, willing};
+use crate::texts::{CREATED, PUT, PUT_REPLY, REPLIES, REQUESTS};
+use engine_lock::{Client, Engine, EngineName, Opening};
+use http_front::{Clock, Gate, serve_alone, work};
+use http_reply::{Counted, Front};
+use json_gateway::{Ids, Message, message};
+use request_core::store::Core;
+use std::alloc::{AllocError, Global};
+use std::marker::Brand;
+use std::sync::Wait;
+use std::time;
+
+/// The member's numbers.
+const ONES: Ids = Ids {
+    cluster: 1,
+    member: 1,
+};
+
+/// Who answers.
+#[derive(Clone, Copy, Debug, PartialEq, Eq)]
+pub(crate) enum Side {
+    Core,
+    Engine,
+}
+
+/// How a connection ends.
+#[derive(Clone, Copy, Debug, PartialEq, Eq)]
+pub(crate) struct End {
+    pub(crate) ended: Result<u64, Front>,
+    /// The store's revision then.
+    pub(crate) revision: u64,
+    /// Whether the first watch was made and still stands.
+    pub(crate) is_watched: bool,
+}
+
+/// A clock that stands.
+#[derive(Drop)]
+struct Still;
+
+impl Clock for Still {
+    fn now(&self) -> u64 {
+        1000
+    }
+}
+
+/// Holds no request back. The client of a watch has left once the watch is told nothing.
+#[derive(Drop)]
+struct Impatient;
+
+impl Gate for Impatient {
+    fn before(&self, _call: u64) {}
+
+    fn after(&self, _call: u64) {}
+
+    fn has_left(&self, _call: u64) -> bool {
+        true
+    }
+}
+
+/// Answers a connection over a store of its own; `None` where there is no memory for that.
+pub(crate) fn answered<R: Wait + time::Clock>(
+    rt: &R,
+    alloc: Global,
+    side: Side,
+    r: &mut Counted<Coming<'_>>,
+    w: &mut Counted<Going>,
+) -> Option<End> {
+    match side {
+        Side::Core => Some(by_core(alloc, r, w)),
+        Side::Engine => by_engine(rt, alloc, r, w),
+    }
+}
+
+fn by_core(alloc: Global, r: &mut Counted<Coming<'_>>, w: &mut Counted<Going>) -> End {
+    let mut core = Core::new(alloc);
+    let ended = serve_alone(alloc, &mut core, r, w, u64::MAX);
+    let end = End {
+        ended,
+        revision: core.status().revision,
+        is_watched: !is_nothing(&message(alloc, &mut core, 1, &ONES)),
+    };
+    drop(core);
+    end
+}
+
+fn by_engine<R: Wait + time::Clock>(
+    rt: &R,
+    alloc: Global,
+    r: &mut Counted<Coming<'_>>,
+    w: &mut Counted<Going>,
+) -> Option<End> {
+    let opening = Opening::new(alloc, rt).ok()?;
+    worked::<Brand, R>(rt, alloc, opening, r, w)
+}
+
+fn worked<L: EngineName, R: Wait + time::Clock>(
+    rt: &R,
+    alloc: Global,
+    opening: Opening,
+    r: &mut Counted<Coming<'_>>,
+    w: &mut Counted<Going>,
+) -> Option<End>
+    requires name { opening.name ≡ L.Ledger.name }
+    requires parts { opening.parts ≡ L.Ledger.parts }
+    requires book { opening.book ≡ L.book }
+{
+    let engine = Engine::<L>::new(alloc, opening, ONES);
+    let mut client = engine.client(rt).ok()?;
+    let ended = work(rt, alloc, &engine, &mut client, &Impatient, &Still, 1, r, w);
+    Some(End {
+        ended,
+        revision: client.share().saturating_add(1),
+        is_watched: !is_nothing(&engine.deliver(rt, 1)),
+    })
+}
+
+/// Whether there is no such watch.
+fn is_nothing(told: &Result<Message, AllocError>) -> bool {
+    matches!(told, Ok(Message::NoWatch))
+}
+
+/// So many connections of one engine, one after the other, make a watch of a key that was put, and
+/// their clients leave once they are told that it was made. The number of the first of which that
+/// is not what came, or whose watch stands then; 0 where the key could not be put.
+pub(crate) fn first_left<R: Wait + time::Clock>(rt: &R, alloc: Global, count: u64) -> Option<u64> {
+    match Opening::new(alloc, rt) {
+        Ok(opening) => left::<Brand, R>(rt, alloc, opening, count),
+        Err(AllocError) => Some(0),
+    }
+}
+
+fn left<L: EngineName, R: Wait + time::Clock>(
+    rt: &R,
+    alloc: Global,
+    opening: Opening,
+    count: u64,
+) -> Option<u64>
+    requires name { opening.name ≡ L.Ledger.name }
+    requires parts { opening.parts ≡ L.Ledger.parts }
+    requires book { opening.book ≡ L.book }
+{
+    let engine = Engine::<L>::new(alloc, opening, ONES);
+    let Ok(mut client) = engine.client(rt) else {
+        return Some(0);
+    };
+    if !puts(rt, alloc, &engine, &mut client) {
+        return Some(0);
+    }
+    for number in 1..=count {
+        if !leaves(rt, alloc, &engine, &mut client, number) {
+            return Some(number);
+        }
+    }
+    None
+}
+
+/// Whether a put is answered.
+fn puts<L: EngineName, R: Wait + time::Clock>(
+    rt: &R,
+    alloc: Global,
+    engine: &Engine<L>,
+    client: &mut Client<L>,
+) -> bool {
+    let mut r = Counted::new(Coming {
+        first: &REQUESTS[..PUT],
+        second: b"",
+        then: Then::Ends,
+    });
+    let mut w = Counted::new(willing(alloc));
+    work(
+        rt, alloc, engine, client, &Impatient, &Still, 0, &mut r, &mut w,
+    ) == Ok(1)
+}
+
+/// Whether a watch of this number is made, its client leaves then, and it stands no more.
+fn leaves<L: EngineName, R: Wait + time::Clock>(
+    rt: &R,
+    alloc: Global,
+    engine: &Engine<L>,
+    client: &mut Client<L>,
+    number: u64,
+) -> bool {
+    let mut r = Counted::new(Coming {
+        first: &REQUESTS[PUT..],
+        second: b"",
+        then: Then::Ends,
+    });
+    let mut w = Counted::new(short(alloc, CREATED, true));
+    let ended = work(
+        rt, alloc, engine, client, &Impatient, &Still, number, &mut r, &mut w,
+    );
+    let goes = w.into_inner();
+    let is_made = goes.got.as_slice() == &REPLIES[PUT_REPLY..PUT_REPLY + CREATED];
+    drop(goes);
+    is_made && ended == Err(Front::Write(0)) && is_nothing(&engine.deliver(rt, number))
+}

@@ -1,0 +1,5 @@
+pub mod Entries
+pub mod Shown
+pub mod States
+pub mod Seats
+pub mod Answers

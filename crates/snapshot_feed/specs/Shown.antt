@@ -1,0 +1,31 @@
+-- The rule over what is shown, and over what readers and the writer know: which list it is of.
+use Rattle.std.specs.Prelude.{◌≡◌, ℕ, List, Option, None, Some, ⊤}
+use mathlib.Core.Option.{some}
+use lib.ListN.{get_elem?}
+use Rattle.logbook.specs.Pages.{Book}
+use Rattle.store_laws.specs.Snapshots.{Stored, store_of}
+use Rattle.feed_book.specs.Feeds.{Beginning}
+use Rattle.snapshot_feed.specs.declared.entry.ReadTables.{ReadTables}
+
+-- the tables are those that the front's operations make
+abbrev pub Shows : Stored → Beginning → Type 0
+Shows t f = t ≡ store_of f.list
+
+-- what is known, if anything, is known of this list
+abbrev pub MayBeOf : Book → Option Beginning → Type 0
+MayBeOf b None = ⊤
+MayBeOf b (Some f) = f.book ≡ b
+
+-- something is known, of this list
+abbrev pub IsOf : Book → Option Beginning → Type 0
+IsOf b None = ⊥
+IsOf b (Some f) = f.book ≡ b
+
+abbrev pub Keeps : ReadTables → List (Option Beginning) → Type 0
+Keeps t views = Shows t.tables t.front
+    × ((seat : ℕ) (v : Option Beginning) → get_elem? views seat ≡ some v → MayBeOf t.front.book v)
+
+-- an entry or a publication: the tables shown after it are those of their front, which is of the list that one knew of, and
+-- which one knows of then
+abbrev pub SeesFront : Option Beginning → ReadTables → ReadTables → Option Beginning → Type 0
+SeesFront v x y w = Shows y.tables y.front × MayBeOf y.front.book v × (w ≡ Some y.front)

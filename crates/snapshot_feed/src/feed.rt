@@ -1,0 +1,203 @@
+//! The feed of what a store publishes.
+ghost use Rattle.std.specs.Prelude.{◌≡◌, ◌++◌, true, false, [], OnOk, OnErr, IfOk};
+ghost use Rattle.kv_model.specs.Feed.{published};
+ghost use Rattle.feed_book.specs.Feeds.{Beginning, IsFeed};
+ghost use Rattle.snapshot_feed.specs.States.{appended, settled, with_op};
+
+use crate::entry::ReadTables;
+use crate::reader::SnapReader;
+use crate::rule::Tells;
+use crate::writer::{FeedWriter, mark_all, publish_by, push};
+use core::mem::replace_with;
+use feed_book::{Book, Front, open};
+use kv_model::feed::{Op, Sink};
+use std::alloc::{AllocError, Global};
+use std::marker::Model;
+use std::mem::ManuallyDrop;
+use std::sync::Wait;
+
+/// There are at most so many readers at a time. Each publication visits every place.
+pub const READERS: usize = 64;
+
+/// Two copies of a store's tables, of which readers take one, and the list of what was published.
+///
+/// It is ended by [`Feed::close`]. A feed that is dropped in another way leaks both copies, since
+/// only one who may wait for the readers can take them back.
+#[derive(Drop)]
+pub struct Feed {
+    writer: ManuallyDrop<FeedWriter>,
+    book: Book,
+    /// What is listed, which is a beginning of what was appended.
+    front: Front,
+    /// The last mark of the log, or the front that is shown where there is none, has all that was
+    /// appended. So a publication that is tried again logs no second mark.
+    marked: bool,
+}
+
+impl Model for Feed {
+    ghost use Rattle.std.specs.Prelude.{◌≡◌, true, drop};
+    ghost use Rattle.core.specs.Mem.{manually_drop_value};
+    ghost use Rattle.left_right.specs.Sides as sides;
+    ghost use Rattle.snapshot_feed.specs.Entries.{marked_by};
+    ghost use Rattle.snapshot_feed.specs.Shown.{Shows, IsOf};
+    ghost use Rattle.snapshot_feed.specs.States.{FeedState, state_by, HasAll, IsListed};
+
+    ghost Value = { FeedState };
+
+    ghost view = { λ f. state_by (manually_drop_value f.writer).desk.shown.value.front
+        (drop (manually_drop_value f.writer).behind (manually_drop_value f.writer).log.items) };
+
+    ghost invariant = { λ f.
+        Shows (manually_drop_value f.writer).desk.shown.value.tables
+        (manually_drop_value f.writer).desk.shown.value.front
+        × IsListed f.front (state_by (manually_drop_value f.writer).desk.shown.value.front
+        (drop (manually_drop_value f.writer).behind (manually_drop_value f.writer).log.items))
+        × (f.book ≡ (manually_drop_value f.writer).desk.shown.value.front.book)
+        × IsOf f.book (sides.view (manually_drop_value f.writer).desk.place)
+        × (f.marked ≡ true → HasAll
+        (marked_by (manually_drop_value f.writer).desk.shown.value.front
+        (drop (manually_drop_value f.writer).behind (manually_drop_value f.writer).log.items))
+        (state_by (manually_drop_value f.writer).desk.shown.value.front
+        (drop (manually_drop_value f.writer).behind (manually_drop_value f.writer).log.items))) };
+}
+
+impl Feed {
+    /// A feed of the empty store, with room for 64 readers. It publishes nothing once, so that it
+    /// knows its list, and waits for nobody then.
+    ///
+    /// The error is want of memory: for the two copies, and the table of readers' places.
+    pub fn new<R: Wait>(alloc: Global, rt: &R) -> Result<Self, AllocError>
+        ensures { IfOk result (λ f. (f.published ≡ []) × (f.pending ≡ [])) }
+    {
+        let (book, front) = open();
+        let first = ReadTables::new(alloc, front.again());
+        let second = ReadTables::new(alloc, front.again());
+        let writer = FeedWriter::new(alloc, first, second, READERS)?;
+        let (writer, outcome) = publish_by(writer, rt);
+        match outcome {
+            Ok(()) => Ok(Feed {
+                // It is taken out again by `close`.
+                writer: unsafe { ManuallyDrop::new_unchecked(writer) },
+                book,
+                front,
+                marked: false,
+            }),
+            Err(error) => {
+                drop(writer.take(rt));
+                Err(error)
+            }
+        }
+    }
+
+    /// Takes an operation, which readers see from the next publication on.
+    ///
+    /// The error is want of memory for one entry of the log, and then nothing has changed. The time
+    /// is constant, but for the growth of the log, and no version is copied. The entry stays in the
+    /// log until both copies have taken it in, that is, up to the second publication after it.
+    pub fn append(&mut self, op: Op) -> Result<(), AllocError>
+        ensures ok { OnOk result (self.new ≡ with_op self.old (published op)) }
+        ensures err { OnErr result (self.new ≡ self.old) }
+    {
+        let Feed {
+            writer,
+            book: _book,
+            front: _front,
+            marked,
+        } = self;
+        if !push(&mut **writer, op) {
+            return Err(AllocError);
+        }
+        *marked = false;
+        Ok(())
+    }
+
+    /// Makes all that was appended visible at once. What was appended has to be a feed: a history
+    /// and its compaction, of which the stored versions answer each question.
+    ///
+    /// The error is want of memory, for the mark or within a copy's tables. Readers then see what
+    /// they saw, and the next publication goes on where this one stopped. Nothing is done where no
+    /// operation waits.
+    ///
+    /// It waits for the readings that began before the last publication. The copy that is not shown
+    /// takes in what was appended since the publication before the last: each operation is taken in
+    /// twice, once by each copy, each time as it was by the store's own tables. Each of the 64
+    /// places is visited three times.
+    pub fn publish<R: Wait>(&mut self, rt: &R) -> Result<(), AllocError>
+        requires { IsFeed (appended self.old) }
+        ensures ok { OnOk result (self.new ≡ settled self.old) }
+        ensures err { OnErr result (self.new ≡ self.old) }
+    {
+        if self.is_settled() {
+            return Ok(());
+        }
+        let Feed {
+            writer,
+            book,
+            front,
+            marked,
+        } = self;
+        if !*marked {
+            if !mark_all(&mut **writer, book, front) {
+                return Err(AllocError);
+            }
+            *marked = true;
+        }
+        replace_with(&mut **writer, rt, publish_by::<R>)
+    }
+
+    /// The front of what is published now. Takes no memory, and constant time.
+    pub fn told(&self) -> Front
+        ensures book { result.book ≡ self.now.book }
+        ensures list { result.list ≡ self.now.published }
+        ensures feed { IsFeed result.list }
+    {
+        self.writer.published().front.again()
+    }
+
+    /// Whether all that was appended is published. Takes no memory, and constant time.
+    pub fn is_settled(&self) -> bool
+        ensures { result ≡ true → self.now.pending ≡ [] }
+    {
+        !self.writer.has_pending_operations()
+    }
+
+    /// A new reader, which was told of all that is published.
+    ///
+    /// The error comes where each of the 64 places is in use. A reader that is dropped gives its
+    /// place back. Takes no memory, and time linear in the number of places.
+    pub fn reader(&mut self) -> Result<SnapReader, AllocError>
+        ensures reader { IfOk result (λ r. r ≡ record {
+          book = self.old.book;
+          known = self.old.published;
+          inside = false;
+        }) }
+        ensures same { self.new ≡ self.old }
+    {
+        let mut reader = self.writer.factory().reader()?;
+        reader.learn::<Tells>(self.writer.tell::<Tells>());
+        Ok(SnapReader::of(reader, self.told()))
+    }
+
+    /// Ends the feed, and lets both copies go. It waits for each reading to be left. Readers that
+    /// are left over find no tables to enter.
+    pub fn close<R: Wait>(self, rt: &R) {
+        let Feed {
+            writer,
+            book: _book,
+            front: _front,
+            marked: _marked,
+        } = self;
+        drop(ManuallyDrop::into_inner(writer).take(rt));
+    }
+}
+
+impl Sink for Feed {
+    ghost use Rattle.std.specs.Prelude.{◌≡◌};
+    ghost use Rattle.snapshot_feed.specs.States.{with_op};
+
+    ghost takes = { λ f op g. g ≡ with_op f op };
+
+    fn take(&mut self, op: Op) -> Result<(), AllocError> {
+        self.append(op)
+    }
+}

@@ -1,0 +1,183 @@
+//! A reader beside the writer.
+ghost use Rattle.std.specs.Prelude.{◌≡◌, true, false, OnOk, OnErr, IfErr, IfSome, IfNone, MatchBool, Ok, Err};
+ghost use mathlib.Core.List.{IsPrefix};
+ghost use Rattle.left_right.specs.Sides.{view};
+ghost use Rattle.kv_model.specs.declared.refusal.Refusal.TheVariants as refusal;
+ghost use Rattle.store_laws.specs.Snapshots.{untrimmed_of};
+ghost use Rattle.snapshot_feed.specs.Answers.{Answers, AnswersOf, ReadsOrNot};
+ghost use Rattle.snapshot_feed.specs.Seats.{Reads, MayRead, IsWithin, known_to, is_in};
+ghost use Rattle.snapshot_feed.specs.Shown.{IsOf};
+
+use crate::seat::{FeedReader, Seat, entered, left};
+use core::mem::replace_with;
+use feed_book::Front;
+use kv_model::call::RangeQuery;
+use kv_model::refusal::Refusal;
+use range_view::{RangeReply, Tables};
+use std::alloc::Global;
+use std::marker::Model;
+
+/// A reader of a feed, which reads the tables that it has entered until it leaves them.
+///
+/// It keeps a place of the feed, and gives it back where it is dropped. While it is within tables
+/// the second publication after it entered waits for it, so [`SnapReader::leave`] as soon as the
+/// reply is written.
+#[derive(Drop)]
+pub struct SnapReader {
+    seat: Seat,
+    /// All that it has seen or was told of.
+    known: Front,
+}
+
+impl Model for SnapReader {
+    ghost use Rattle.snapshot_feed.specs.Seats.{Reads, is_in, IsSeated};
+
+    ghost Value = { Reads };
+
+    ghost view = { λ r. record {
+      book = r.known.book;
+      known = r.known.list;
+      inside = is_in r.seat;
+    } };
+
+    ghost invariant = { λ r. IsSeated r.seat r.known };
+}
+
+/// The front of the tables that a seat is within, where it begins with all that is known.
+fn newer(seat: &Seat, known: &Front) -> Option<Front>
+    requires { MayRead known.now.book seat.now }
+    ensures within { IfSome result (λ f. IsWithin f seat.now) }
+    ensures begins { IfSome result (λ f. IsPrefix known.now.list f.list) }
+{
+    match seat {
+        Seat::Out(_) => None,
+        Seat::In(reading) => {
+            let front = &reading.get().front;
+            if front.begins_with(known) {
+                Some(front.again())
+            } else {
+                None
+            }
+        }
+    }
+}
+
+/// The answer to a Range over tables.
+fn answer<'a>(
+    tables: &'a Tables,
+    alloc: Global,
+    query: &RangeQuery,
+) -> Result<RangeReply<'a>, Refusal>
+    ensures { Answers tables.now.versions tables.now.compacted tables.now.revision query.now result }
+{
+    if query.range.key.is_empty() {
+        return Err(Refusal::NoKey);
+    }
+    tables.view().range(alloc, query)
+}
+
+impl SnapReader {
+    /// A reader that has seen nothing but what it was told of.
+    pub(crate) fn of(reader: FeedReader, known: Front) -> Self
+        requires { IsOf known.book (view reader.place) }
+        ensures { result ≡ record { book = known.book; known = known.list; inside = false } }
+    {
+        SnapReader {
+            seat: Seat::Out(reader),
+            known,
+        }
+    }
+
+    /// Takes the tables that are shown now, and leaves those that it was within. They have all that
+    /// this reader has seen and was told of.
+    ///
+    /// The only refusal is `NoPlace`, where the feed is closed, or where the tables are older than
+    /// what is known, which never comes. The reader is then within no tables. Takes no memory,
+    /// constant time, and waits for nobody.
+    pub fn enter(&mut self) -> Result<(), Refusal>
+        ensures ok { OnOk result (self.new.inside ≡ true) }
+        ensures begins { IsPrefix self.old.known self.new.known }
+        ensures book { self.new.book ≡ self.old.book }
+        ensures err { OnErr result (self.new ≡ record self.old { inside = false }) }
+        ensures refusal { IfErr result (λ e. e ≡ refusal.NoPlace) }
+    {
+        let SnapReader { seat, known } = self;
+        if !replace_with(&mut *seat, (), entered) {
+            return Err(Refusal::NoPlace);
+        }
+        let Some(front) = newer(seat, known) else {
+            replace_with(&mut *seat, (), left);
+            return Err(Refusal::NoPlace);
+        };
+        *known = front;
+        Ok(())
+    }
+
+    /// Leaves the tables, if it is within any. Takes no memory, constant time, and waits for nobody.
+    pub fn leave(&mut self)
+        ensures { self.new ≡ record self.old { inside = false } }
+    {
+        let SnapReader {
+            seat,
+            known: _known,
+        } = self;
+        replace_with(&mut *seat, (), left);
+    }
+
+    /// Leaves the tables, and takes note of a front that it was told of: from then on it enters no
+    /// older tables. It does not where the front is older than what it knows, and says so. Takes no
+    /// memory, constant time, and waits for nobody.
+    pub fn learn(&mut self, told: &Front) -> bool
+        requires { told.now.book ≡ self.old.book }
+        ensures told { MatchBool result
+            ((self.new.known ≡ told.now.list) × IsPrefix self.old.known told.now.list)
+            (self.new.known ≡ self.old.known) }
+        ensures book { self.new.book ≡ self.old.book }
+        ensures out { self.new.inside ≡ false }
+    {
+        self.leave();
+        let SnapReader { seat: _seat, known } = self;
+        if !told.begins_with(known) {
+            return false;
+        }
+        *known = told.again();
+        true
+    }
+
+    /// The answer to a Range, lent from the tables that the reader is within: that of the whole
+    /// history which the known operations say, of which nothing is trimmed, with its compaction and
+    /// its revision.
+    ///
+    /// The refusals are those of the model: `NoKey` where the key is empty, `Compacted` and `Future`
+    /// where the revision asked for is not kept. `Memory` comes where a list of what is found, or a
+    /// sort, found none. The cost is that of `range_view`'s [`View::range`](range_view::View::range).
+    pub fn range(&self, alloc: Global, query: &RangeQuery) -> Result<RangeReply<'_>, Refusal>
+        requires { self.now.inside ≡ true }
+        ensures { AnswersOf (untrimmed_of self.now.known) query.now result }
+    {
+        self.known.audit();
+        match &self.seat {
+            Seat::In(reading) => answer(&reading.get().tables, alloc, query),
+            Seat::Out(_) => Err(Refusal::NoPlace),
+        }
+    }
+
+    /// Enters, and answers a Range: the answer of some list of published operations that begins
+    /// with all that this reader has seen and was told of. The reader is borrowed while the reply
+    /// lives; what it has seen by it is known afterwards only where [`SnapReader::enter`] and
+    /// [`SnapReader::range`] are called apart.
+    ///
+    /// The refusals are those of the two.
+    pub fn read<'a>(
+        reader: &'a mut SnapReader,
+        alloc: Global,
+        query: &RangeQuery,
+    ) -> Result<RangeReply<'a>, Refusal>
+        ensures { ReadsOrNot reader.old.known query.now result }
+    {
+        match reader.enter() {
+            Ok(()) => reader.range(alloc, query),
+            Err(refusal) => Err(refusal),
+        }
+    }
+}

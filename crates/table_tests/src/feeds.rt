@@ -1,0 +1,124 @@
+//! A feed and its readers.
+ghost use Rattle.std.specs.Prelude.{◌≡◌, ◌∷◌, [], IfOk};
+ghost use Rattle.kv_model.specs.Feed.{Published, published};
+ghost use Rattle.table_tests.specs.Puts.{first_put};
+
+use bytes::Bytes;
+use kv_model::call::{RangeQuery, SortOrder, SortTarget};
+use kv_model::feed::Op;
+use kv_model::version::{Body, KeyRange, Rev, Version};
+use snapshot_feed::{Feed, SnapReader};
+use std::alloc::{AllocError, Global};
+use std::sync::Wait;
+
+/// The put of `a` at revision 2, as an operation.
+fn put(alloc: Global) -> Result<Op, AllocError>
+    ensures { IfOk result (λ op. published op ≡ Published.batch (first_put ∷ [])) }
+{
+    let mut list = Vec::new(alloc);
+    list.push(Version {
+        rev: Rev { main: 2, sub: 0 },
+        key: Bytes::from_static(b"a"),
+        body: Body::Put {
+            create: 2,
+            version: 1,
+            lease: 0,
+            value: Bytes::from_static(b"1"),
+        },
+    })?;
+    Ok(Op::Batch(list))
+}
+
+fn query() -> RangeQuery {
+    RangeQuery {
+        range: KeyRange {
+            key: Bytes::from_static(b"a"),
+            end: Bytes::from_static(b""),
+        },
+        limit: 0,
+        revision: 0,
+        order: SortOrder::Unsorted,
+        target: SortTarget::ByKey,
+        serializable: true,
+        keys_only: false,
+        count_only: false,
+        min_mod: 0,
+        max_mod: 0,
+        min_create: 0,
+        max_create: 0,
+    }
+}
+
+/// The revision that a reader enters at, and how many live keys it finds; nothing where it does
+/// not.
+fn seen(alloc: Global, reader: &mut SnapReader) -> (u64, u64) {
+    match SnapReader::read(reader, alloc, &query()) {
+        Ok(reply) => (reply.revision, reply.count),
+        Err(_) => (0, 0),
+    }
+}
+
+/// Publishes the put, and tells what a reader sees before it is published, within the tables that
+/// it had entered, and when it enters again.
+#[tactic(auto, using(crate::proofs::OnePut::put_is_feed))]
+fn put_and_read<R: Wait>(
+    rt: &R,
+    alloc: Global,
+    feed: &mut Feed,
+    reader: &mut SnapReader,
+) -> Option<[(u64, u64); 3]>
+    requires { (feed.old.published ≡ []) × (feed.old.pending ≡ []) }
+{
+    feed.append(put(alloc).ok()?).ok()?;
+    let before = seen(alloc, reader);
+    if reader.enter().is_err() {
+        return None;
+    }
+    feed.publish(rt).ok()?;
+    let within = match reader.range(alloc, &query()) {
+        Ok(reply) => (reply.revision, reply.count),
+        Err(_) => (0, 0),
+    };
+    Some([before, within, seen(alloc, reader)])
+}
+
+fn run_put<R: Wait>(rt: &R, alloc: Global) -> Option<[(u64, u64); 3]> {
+    let mut feed = Feed::new(alloc, rt).ok()?;
+    let mut reader = feed.reader().ok()?;
+    let read = put_and_read(rt, alloc, &mut feed, &mut reader);
+    drop(reader);
+    feed.close(rt);
+    read
+}
+
+#[test]
+fn a_reader_shows_what_was_published_once_it_enters_again(rt: HostRuntime) {
+    assert_eq!(rt; run_put(&rt, rt.alloc()), Some([(1, 0), (1, 0), (2, 1)]));
+}
+
+/// How many readers there may be at a time, and whether there may be one more once one has gone.
+fn readers(alloc: Global, feed: &mut Feed) -> (usize, bool) {
+    let mut list = Vec::new(alloc);
+    for _ in 0..66 {
+        if let Ok(reader) = feed.reader() {
+            let _ = list.push(reader);
+        }
+    }
+    let most = list.len();
+    drop(list.pop());
+    (most, feed.reader().is_ok())
+}
+
+fn run_readers<R: Wait>(rt: &R, alloc: Global) -> (usize, bool) {
+    let Ok(mut feed) = Feed::new(alloc, rt) else {
+        return (0, false);
+    };
+    let found = readers(alloc, &mut feed);
+    feed.close(rt);
+    found
+}
+
+#[test]
+fn there_are_64_readers_and_a_dropped_one_gives_its_place_back(rt: HostRuntime) {
+    assert_eq!(rt; run_readers(&rt, rt.alloc()), (64, true));
+}
