@@ -1,11 +1,19 @@
 use mathlib.Core.List.{[], ◌∷◌}
 use denote.Exit.{no}
 use denote.Param.{param}
-use denote.Param.Send.{arg_send, param_send, shr_send}
+use denote.RattleType.{RattleType}
+use denote.Param.Send.{IsSend, arg_send, param_send, sendable, shr_send}
 use Rattle.std.proofs.alloc.Global.TheSendSync as heap
+use Rattle.std.specs.declared.sync.ledger.Ledger as ledger
+use Rattle.std.proofs.Crossing.{crosses}
 use Rattle.engine_lock.proofs.Crossing.{client_send, closure_send}
-use Rattle.engine_tests.proofs.Crossing.{saw_send}
+use Rattle.engine_lock.specs.declared.opening.EngineName as names
+use Rattle.engine_tests.specs.contracts.readers.Saw as Saw
 use Rattle.engine_tests.proofs.readers.start_reader.Goals as goal
+
+-- what the thread hands back goes to who joins it
+saw_send : (T : RattleType) (n : names.Ghosts T.Denot) (g : ledger.Ghosts T.Denot) → IsSend (Saw.the_row T n g)
+saw_send T n g = search (sendable, crosses, client_send) depth 60
 
 -- what the thread is started with may cross to it
 pub spawn-requires-send-F : goal.spawn-requires-send-F
