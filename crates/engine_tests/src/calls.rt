@@ -60,12 +60,8 @@ fn posted<L: EngineName, R: Wait>(
     let Ok(command) = read(alloc, path, body) else {
         return 0;
     };
-    engine
-        .submit(rt, client, 1000, &command)
-        .outcome
-        .settled
-        .wire()
-        .0
+    let submitted = engine.submit(rt, client, 1000, &command);
+    submitted.outcome.settled.wire().0
 }
 
 /// What each call says, where a watch is told of one put, and ended; a lease of the second key
@@ -211,11 +207,22 @@ fn closed_twice<L: EngineName, R: Wait>(
         b"/v3/kv/put",
         b"{\"key\":\"YQ==\"}",
     );
+    closed_without(rt, alloc, engine, first, second)
+}
+
+/// An engine is closed with one of its clients, and then with the other one too.
+fn closed_without<L: EngineName, R: Wait>(
+    rt: &R,
+    alloc: Global,
+    engine: Engine<L>,
+    one: Client<L>,
+    other: Client<L>,
+) -> Option<(u8, usize, u64)> {
     let mut clients = Vec::new(alloc);
-    clients.push(first).ok()?;
+    clients.push(one).ok()?;
     match engine.close(rt, clients) {
         Ok(_) => None,
-        Err(fault) => closed_with(rt, fault, second),
+        Err(fault) => closed_with(rt, fault, other),
     }
 }
 

@@ -3,7 +3,7 @@ ghost use Rattle.std.specs.Prelude.{◌≡◌};
 
 use crate::lock_replies::ONES;
 use crate::texts::{COMPACT, PUT, PUT_A_1, PUT_A_2, PUT_B_1, RANGE};
-use engine_lock::{Client, Engine, EngineName, MOST_CLIENTS, Opening};
+use engine_lock::{Client, Engine, EngineName, Opening};
 use json_gateway::{Refusal, range_text, read};
 use kv_model::call::Command;
 use std::alloc::Global;
@@ -120,8 +120,8 @@ fn first_otherwise<L: EngineName, R: Wait>(
     }
 }
 
-/// The first step that goes otherwise, and whether the 65th client is refused.
-fn run<L: EngineName, R: Wait>(rt: &R, alloc: Global, opening: Opening) -> Option<(usize, bool)>
+/// The first step that goes otherwise, of two clients of a new engine.
+fn run<L: EngineName, R: Wait>(rt: &R, alloc: Global, opening: Opening) -> Option<usize>
     requires name { opening.name ≡ L.Ledger.name }
     requires parts { opening.parts ≡ L.Ledger.parts }
     requires book { opening.book ≡ L.book }
@@ -129,21 +129,15 @@ fn run<L: EngineName, R: Wait>(rt: &R, alloc: Global, opening: Opening) -> Optio
     let engine = Engine::<L>::new(alloc, opening, ONES);
     let mut a = engine.client(rt).ok()?;
     let mut b = engine.client(rt).ok()?;
-    let first = first_otherwise(rt, alloc, &engine, (&mut a, &mut b));
-    let mut others = Vec::new(alloc);
-    for _ in 2..MOST_CLIENTS {
-        others.push(engine.client(rt).ok()?).ok()?;
-    }
-    let is_full = matches!(engine.client(rt), Err(Refusal::NoPlace));
-    Some((first, is_full))
+    Some(first_otherwise(rt, alloc, &engine, (&mut a, &mut b)))
 }
 
-fn run_read_back<R: Wait>(rt: &R, alloc: Global) -> Option<(usize, bool)> {
+fn run_read_back<R: Wait>(rt: &R, alloc: Global) -> Option<usize> {
     let opening = Opening::new(alloc, rt).ok()?;
     run::<Brand, R>(rt, alloc, opening)
 }
 
 #[test]
 fn read_back(rt: HostRuntime) {
-    assert_eq!(rt; run_read_back(&rt, rt.alloc()), Some((0, true)));
+    assert_eq!(rt; run_read_back(&rt, rt.alloc()), Some(0));
 }
