@@ -2,7 +2,7 @@
 ghost use Rattle.std.specs.Prelude.{◌≡◌};
 
 use crate::texts::{ONES, PUT, PUT_REPLY, Still};
-use engine_lock::{Engine, EngineName, Opening};
+use engine_lock::{Client, Engine, EngineName, Opening};
 use http_front::{OpenGate, work};
 use http_reply::{Counted, Front};
 use std::alloc::Global;
@@ -23,13 +23,26 @@ fn worked<L: EngineName, R: Wait + time::Clock>(
     requires book { opening.book ≡ L.book }
 {
     let engine = Engine::<L>::new(alloc, opening, ONES);
-    let mut client = engine.client(rt).ok()?;
+    let client = engine.client(rt).ok()?;
+    Some(answered(rt, alloc, &engine, client, comes, goes))
+}
+
+/// The same, for a client of an engine.
+fn answered<L: EngineName, R: Wait + time::Clock>(
+    rt: &R,
+    alloc: Global,
+    engine: &Engine<L>,
+    client: Client<L>,
+    comes: &[u8],
+    goes: &mut [u8],
+) -> (Result<u64, Front>, u64, u64) {
+    let mut client = client;
     let mut r = Counted::new(comes);
     let mut w = Counted::new(goes);
     let ended = work(
         rt,
         alloc,
-        &engine,
+        engine,
         &mut client,
         &OpenGate,
         &Still,
@@ -37,7 +50,7 @@ fn worked<L: EngineName, R: Wait + time::Clock>(
         &mut r,
         &mut w,
     );
-    Some((ended, client.share(), w.failures()))
+    (ended, client.share(), w.failures())
 }
 
 fn run_worked<R: Wait + time::Clock>(
