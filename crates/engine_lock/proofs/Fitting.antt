@@ -13,7 +13,7 @@ use Rattle.kv_model.specs.Step.{perform, expire}
 use Rattle.kv_model.specs.Watches.{Delivery, after_delivery}
 use Rattle.kv_model.specs.World.{World, opening}
 use Rattle.store_laws.specs.Changes.{Takes, change_of, change_of_expiry, untrimmed}
-use Rattle.store_laws.specs.Snapshots.{Stored, Untrimmed, absorb, blank, grow, nothing_published, store_of, untrimmed_of}
+use Rattle.store_laws.specs.Snapshots.{Stored, absorb, blank, grow, nothing_published}
 use Rattle.store_laws.specs.Stands.{Store, StandsFor}
 use Rattle.store_laws.proofs.FeedLaws.{command_published, expiry_published}
 use Rattle.trim_core.specs.declared.trimmer.Trim.{Trim}

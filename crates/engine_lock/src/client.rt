@@ -1,13 +1,12 @@
 //! A client of an engine, its share of the changes, what it was given, and its reader.
-ghost use Rattle.std.specs.Prelude.{◌≡◌, ◌+◌, [], true, OnOk, OnErr, IfErr};
+ghost use Rattle.std.specs.Prelude.{◌≡◌, [], true, OnOk, OnErr, IfErr};
 ghost use mathlib.Core.List.{IsPrefix};
 ghost use Rattle.kv_model.specs.declared.refusal.Refusal.TheVariants.{NoPlace};
 ghost use Rattle.store_laws.specs.Snapshots.{untrimmed_of};
 ghost use Rattle.snapshot_feed.specs.Answers.{AnswersOf, ReadsOrNot};
 ghost use Rattle.snapshot_feed.specs.States.{appended};
 ghost use Rattle.engine_lock.specs.Fits.{Fits};
-ghost use Rattle.engine_lock.specs.Locked.{IsTold, is_quiet, left, plus, told_to, with_done};
-ghost use Rattle.engine_lock.specs.Locked.{rise};
+ghost use Rattle.engine_lock.specs.Locked.{IsTold, is_quiet, left, plus, told_to};
 ghost use Rattle.engine_lock.specs.declared.past.Given.TheVariants as given;
 
 use crate::opening::EngineName;

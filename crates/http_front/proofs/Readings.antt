@@ -1,5 +1,5 @@
 -- What a client reads beside the engine, as a response.
-use Rattle.std.proofs.Common.{◌≡◌, ◌⊎◌, inl, inr, Bool, true, false, ℕ, List, Option, None, Some, Result, Ok, Err, refl, sym, ◌∙◌, ap}
+use Rattle.std.proofs.Common.{◌≡◌, ◌⊎◌, inl, inr, true, false, ℕ, List, Option, None, Some, Result, Ok, Err, sym, ◌∙◌, ap}
 use Rattle.std.specs.Prelude.{IfSome, IfNone}
 use Rattle.kv_model.specs.declared.ids.Ids.{Ids}
 use Rattle.kv_model.specs.declared.call.Command.{Command}
@@ -7,7 +7,7 @@ use Rattle.kv_model.specs.declared.call.Command.TheVariants as commands
 use Rattle.kv_model.specs.declared.call.RangeQuery.{RangeQuery}
 use Rattle.kv_model.specs.declared.refusal.Refusal.{Refusal}
 use Rattle.kv_model.specs.declared.refusal.Refusal.TheVariants.{Memory}
-use Rattle.kv_model.specs.Answers.{Response, fault_of, success_response}
+use Rattle.kv_model.specs.Answers.{fault_of, success_response}
 use Rattle.kv_model.specs.Ranges as ranges
 use Rattle.kv_model.specs.Told as model
 use Rattle.store_laws.specs.Snapshots.{Untrimmed}

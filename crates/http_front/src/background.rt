@@ -1,11 +1,11 @@
 //! What goes on beside the connections: trimming, and leases that end.
-ghost use Rattle.std.specs.Prelude.{◌≤◌, IfSome};
+ghost use Rattle.std.specs.Prelude.{◌≤◌, IfOk, IfSome};
 ghost use Rattle.engine_lock.specs.Locked.{Trims};
 ghost use Rattle.http_front.specs.Ends.{IsDone};
 
 use crate::gate::Clock;
 use engine_lock::{Client, Engine, EngineName};
-use json_gateway::{Expiry, Trim};
+use json_gateway::{Expiry, Refusal, Trim};
 use std::sync::Wait;
 use std::sync::atomic::{AtomicBool, Ordering};
 use std::time::Duration;
@@ -17,7 +17,8 @@ const TRIM_REST: u64 = 20;
 /// How long expiry rests once no lease is due, in milliseconds.
 const EXPIRY_REST: u64 = 100;
 
-/// Makes trimming steps until the server has ended, and rests where one says that it is done.
+/// Makes trimming steps until the server has ended, and rests where one says that it is done, or is
+/// refused for memory.
 pub(crate) fn keep_trimming<L: EngineName, R: Wait + time::Clock>(
     rt: &R,
     engine: &Engine<L>,
@@ -33,16 +34,20 @@ pub(crate) fn keep_trimming<L: EngineName, R: Wait + time::Clock>(
     }
 }
 
-/// Makes a trimming step, and tells of it where it says that trimming is done.
-fn make_trim_step<L: EngineName, R: Wait>(rt: &R, engine: &Engine<L>) -> Option<Trim>
-    ensures { IfSome result (λ trim. Trims trim × IsDone trim) }
+/// Makes a trimming step, and tells of it where no other is to follow at once: it says that
+/// trimming is done, or it was refused.
+fn make_trim_step<L: EngineName, R: Wait>(
+    rt: &R,
+    engine: &Engine<L>,
+) -> Option<Result<Trim, Refusal>>
+    ensures { IfSome result (λ step. IfOk step (λ trim. Trims trim × IsDone trim)) }
 {
     match engine.trim_once(rt) {
         Ok(trim) => match trim {
-            Trim::Done(_) => Some(trim),
+            Trim::Done(_) => Some(Ok(trim)),
             _ => None,
         },
-        Err(_) => None,
+        Err(refusal) => Some(Err(refusal)),
     }
 }
 
