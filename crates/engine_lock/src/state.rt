@@ -35,7 +35,7 @@ use std::sync::ledger::{Book, Ledger, Share};
 
 /// After so many trimming steps readers are told of them, whether trimming is done or not: so no
 /// publication makes more of them in one holding of the lock.
-const MOST_STEPS: u64 = 1000;
+const MOST_STEPS: u64 = 100;
 
 /// What stands under the lock. `rest` is what no client has of the ledger: a part for each client
 /// that may still be made, and no amount. `steps` counts the trimming steps since readers were last
