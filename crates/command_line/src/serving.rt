@@ -1,5 +1,5 @@
 //! `serve`: the store over HTTP.
-ghost use Rattle.std.specs.Prelude.{◌≡◌, ◌-◌, ◌/◌, ◌^◌, min, false, true, Ok, Err, IfOk, IfErr, OnOk};
+ghost use Rattle.std.specs.Prelude.{◌≡◌, ◌+◌, ◌-◌, ◌/◌, ◌^◌, min, false, true, Ok, Err, IfOk, IfErr, OnOk};
 ghost use Rattle.std.specs.Prelude.{MatchResult};
 ghost use Rattle.std.specs.Time.{instant_nanos};
 ghost use Rattle.std.specs.Io.KnownBytes.{Appends};
@@ -125,10 +125,17 @@ fn run_server<R: Wait + Threads + time::Clock + Sync>(
     ensures fault { IfErr result (λ fault. is_write fault ≡ false) }
     ensures kind { IfErr result IsOfRun }
 {
-    match Opening::new(alloc, rt) {
+    match Opening::for_clients(alloc, rt, clients_of(serve)) {
         Ok(opening) => closed_revision::<Brand, R>(rt, alloc, opening, listener, serve),
         Err(_) => Err(Fault::Memory),
     }
+}
+
+/// How many clients a server has: one for each worker, and one for the leases that end.
+fn clients_of(serve: &Serve<'_>) -> u64
+    ensures { result ≡ min (serve.now.workers + 1) (2 ^ 64 - 1) }
+{
+    serve.workers.saturating_add(1)
 }
 
 fn closed_revision<L: EngineName + Send + Sync, R: Wait + Threads + time::Clock + Sync>(

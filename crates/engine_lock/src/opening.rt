@@ -48,12 +48,23 @@ impl Model for Opening {
 }
 
 impl Opening {
-    /// The opening of an engine. `AllocError` comes where the feed of its readers finds no memory:
-    /// for two copies of the empty tables, and for the table of the readers' places.
+    /// The opening of an engine of 64 clients, as [`Opening::for_clients`] makes it.
     pub fn new<R: Wait>(alloc: Global, rt: &R) -> Result<Self, AllocError>
         ensures { IfOk result (λ o. o.parts ≡ 64) }
     {
-        let feed = Feed::new(alloc, rt)?;
+        Opening::for_clients(alloc, rt, MOST_CLIENTS)
+    }
+
+    /// The opening of an engine that is asked for so many clients, but for one at least and for 64
+    /// at most: there are places for as many readers, each of which a publication visits. One more
+    /// client finds no place.
+    ///
+    /// `AllocError` comes where the feed of the readers finds no memory: for two copies of the empty
+    /// tables, and for the table of the readers' places.
+    pub fn for_clients<R: Wait>(alloc: Global, rt: &R, clients: u64) -> Result<Self, AllocError>
+        ensures { IfOk result (λ o. o.parts ≡ 64) }
+    {
+        let feed = Feed::with_room(alloc, rt, clients as usize)?;
         Ok(Opening {
             blank: Blank::new(MOST_CLIENTS),
             feed,

@@ -16,7 +16,7 @@ use std::marker::Model;
 use std::mem::ManuallyDrop;
 use std::sync::Wait;
 
-/// There are at most so many readers at a time. Each publication visits every place.
+/// There are at most so many readers at a time.
 pub const READERS: usize = 64;
 
 /// Two copies of a store's tables, of which readers take one, and the list of what was published.
@@ -62,17 +62,25 @@ impl Model for Feed {
 }
 
 impl Feed {
-    /// A feed of the empty store, with room for 64 readers. It publishes nothing once, so that it
-    /// knows its list, and waits for nobody then.
+    /// A feed of the empty store, with room for 64 readers: [`Feed::with_room`].
+    pub fn new<R: Wait>(alloc: Global, rt: &R) -> Result<Self, AllocError>
+        ensures { IfOk result (λ f. (f.published ≡ []) × (f.pending ≡ [])) }
+    {
+        Feed::with_room(alloc, rt, READERS)
+    }
+
+    /// A feed of the empty store, with room for so many readers, but for one at least and for 64 at
+    /// most: each publication visits the place of each, so fewer make it shorter. It publishes
+    /// nothing once, so that it knows its list, and waits for nobody then.
     ///
     /// The error is want of memory: for the two copies, and the table of readers' places.
-    pub fn new<R: Wait>(alloc: Global, rt: &R) -> Result<Self, AllocError>
+    pub fn with_room<R: Wait>(alloc: Global, rt: &R, readers: usize) -> Result<Self, AllocError>
         ensures { IfOk result (λ f. (f.published ≡ []) × (f.pending ≡ [])) }
     {
         let (book, front) = open();
         let first = ReadTables::new(alloc, front.again());
         let second = ReadTables::new(alloc, front.again());
-        let writer = FeedWriter::new(alloc, first, second, READERS)?;
+        let writer = FeedWriter::new(alloc, first, second, readers.clamp(1, READERS))?;
         let (writer, outcome) = publish_by(writer, rt);
         match outcome {
             Ok(()) => Ok(Feed {
@@ -120,8 +128,8 @@ impl Feed {
     ///
     /// It waits for the readings that began before the last publication. The copy that is not shown
     /// takes in what was appended since the publication before the last: each operation is taken in
-    /// twice, once by each copy, each time as it was by the store's own tables. Each of the 64
-    /// places is visited three times.
+    /// twice, once by each copy, each time as it was by the store's own tables. The place of each
+    /// reader that there is room for is visited three times.
     pub fn publish<R: Wait>(&mut self, rt: &R) -> Result<(), AllocError>
         requires { IsFeed (appended self.old) }
         ensures ok { OnOk result (self.new ≡ settled self.old) }
@@ -163,7 +171,7 @@ impl Feed {
 
     /// A new reader, which was told of all that is published.
     ///
-    /// The error comes where each of the 64 places is in use. A reader that is dropped gives its
+    /// The error comes where each of the places is in use. A reader that is dropped gives its
     /// place back. Takes no memory, and time linear in the number of places.
     pub fn reader(&mut self) -> Result<SnapReader, AllocError>
         ensures reader { IfOk result (λ r. r ≡ record {
