@@ -1,128 +1,118 @@
 //! The event of a line on an engine, and the line that tells it.
 use crate::IDS;
 use crate::lines::{Event, event_of};
+use crate::telling::{
+    shown, tell, tell_expired, tell_number, tell_reply, tell_rev, tell_submitted,
+};
 use engine_lock::{Client, Engine, EngineName};
 use json_gateway::{
-    Expiry, Message, Outcome, Refusal, Reply, Settled, Trim, declined, dismissed, range_text, read,
+    Expiry, Message, Refusal, Reply, Settled, Trim, declined, dismissed, range_text, read,
 };
 use kv_model::call::{Command, RangeQuery};
-use std::alloc::Global;
-use std::rt::Runtime;
+use range_view::RangeReply;
+use std::alloc::{AllocError, Global};
+use std::io::{ErrorKind, Write};
 use std::sync::Wait;
 use std::{io, str};
 
-/// Makes the event of a line, and writes what it came to.
-pub fn answer<L: EngineName, R: Runtime + AllocGlobal + Wait>(
+/// Makes the event of each line, and writes what it came to.
+pub fn answer_lines<L: EngineName, R: Wait, W: Write>(
     rt: &R,
+    alloc: Global,
     engine: &Engine<L>,
     client: &mut Client<L>,
-    now: &mut u64,
-    line: &str,
+    script: &[u8],
+    w: &mut W,
 ) -> io::Result<()> {
-    match event_of(line) {
+    let Ok(text) = str::from_utf8(script) else {
+        return Err(io::Error::from(ErrorKind::InvalidData));
+    };
+    let mut now = 0;
+    for line in text.lines() {
+        let event = event_of(line);
+        if let Event::At(moment) = event {
+            now = moment;
+        }
+        answer(rt, alloc, engine, client, now, event, w)?;
+    }
+    Ok(())
+}
+
+/// Makes an event, and writes what it came to.
+fn answer<L: EngineName, R: Wait, W: Write>(
+    rt: &R,
+    alloc: Global,
+    engine: &Engine<L>,
+    client: &mut Client<L>,
+    now: u64,
+    event: Event<'_>,
+    w: &mut W,
+) -> io::Result<()> {
+    match event {
         Event::Post(path, body) => {
-            post(rt, engine, client, *now, (path.as_bytes(), body.as_bytes()))
-        }
-        Event::At(moment) => {
-            *now = moment;
-            println!(rt; "{} at {moment}", client.share())
-        }
-        Event::Deliver(number) => {
-            let told = engine.deliver(rt, number);
-            match &told {
-                Ok(Message::NoWatch) => println!(rt; "{} no watch", client.share()),
-                Ok(Message::Nothing) => println!(rt; "{} nothing", client.share()),
-                Ok(Message::Text(text)) => println!(rt; "{} {}", client.share(), shown(text)),
-                Err(_) => println!(rt; "{} out of memory", client.share()),
+            match read(alloc, path.as_bytes(), body.as_bytes()) {
+                Ok(command) => command_made(rt, alloc, engine, client, now, command, w),
+                Err(bad) => tell_reply(w, client.share(), "unread", &dismissed(alloc, bad)),
             }
         }
-        Event::Close(number) => match engine.drop_watch(rt, number) {
-            Ok(()) => println!(rt; "{} closed", client.share()),
-            Err(_) => println!(rt; "{} no watch", client.share()),
-        },
-        Event::Trim => match engine.trim_once(rt) {
-            Ok(Trim::Removed(rev)) => {
-                println!(rt; "{} removed {}.{}", client.share(), rev.main, rev.sub)
-            }
-            Ok(Trim::Kept(rev)) => println!(rt; "{} kept {}.{}", client.share(), rev.main, rev.sub),
-            Ok(Trim::Done(count)) => println!(rt; "{} done {count}", client.share()),
-            Err(_) => println!(rt; "{} out of memory", client.share()),
-        },
-        Event::Expire => expire(rt, engine, client, *now),
-        Event::Bad => println!(rt; "{} bad line", client.share()),
+        Event::At(moment) => tell_number(w, client.share(), "at", moment),
+        Event::Deliver(number) => tell_message(w, client.share(), &engine.deliver(rt, number)),
+        Event::Close(number) => tell_closed(w, client.share(), engine.drop_watch(rt, number)),
+        Event::Trim => tell_trim(w, client.share(), engine.trim_once(rt)),
+        Event::Expire => {
+            let step = engine.expire_once(rt, client, now);
+            tell_expiry(w, client.share(), step)
+        }
+        Event::Bad => tell(w, client.share(), "bad line"),
     }
 }
 
-/// Bytes of a reply, which are ASCII.
-fn shown(bytes: &[u8]) -> &str {
-    str::from_utf8(bytes).unwrap_or("not UTF-8")
-}
-
-/// Makes a step of expiry, and writes what it came to.
-fn expire<L: EngineName, R: Runtime + AllocGlobal + Wait>(
+/// Makes the event of a request that asks for a command, and writes what it came to.
+fn command_made<L: EngineName, R: Wait, W: Write>(
     rt: &R,
+    alloc: Global,
     engine: &Engine<L>,
     client: &mut Client<L>,
     now: u64,
+    command: Command,
+    w: &mut W,
 ) -> io::Result<()> {
-    let step = engine.expire_once(rt, client, now);
-    let share = client.share();
-    match step {
-        Ok(Expiry::Nothing) => println!(rt; "{share} nothing"),
-        Ok(Expiry::Expired { id, revision, .. }) => {
-            println!(rt; "{share} expired {id} revision {revision}")
-        }
-        Err(Refusal::Memory) => println!(rt; "{share} out of memory"),
-        Err(_) => println!(rt; "{share} revisions are spent"),
-    }
-}
-
-/// Does what a request asks, and writes what it came to.
-fn post<L: EngineName, R: Runtime + AllocGlobal + Wait>(
-    rt: &R,
-    engine: &Engine<L>,
-    client: &mut Client<L>,
-    now: u64,
-    asked: (&[u8], &[u8]),
-) -> io::Result<()> {
-    let alloc = rt.alloc();
-    match &read(alloc, asked.0, asked.1) {
-        Ok(Command::Range(query)) if query.serializable => {
+    let written = match query_beside(&command) {
+        Some(query) => {
             let settled = looked(alloc, client, query);
-            tell(rt, client.share(), "beside", &settled)
+            tell_reply(w, client.share(), "beside", &settled)
         }
-        Ok(command) => submit(rt, engine, client, now, command),
-        Err(bad) => tell(rt, client.share(), "unread", &dismissed(alloc, *bad)),
+        None => submit(rt, engine, client, now, &command, w),
+    };
+    drop(command);
+    written
+}
+
+/// The Range that a command is, where it is serializable.
+fn query_beside(command: &Command) -> Option<&RangeQuery> {
+    match command {
+        Command::Range(query) if query.serializable => Some(query),
+        _ => None,
     }
 }
 
 /// Submits a command, and writes what it came to.
-fn submit<L: EngineName, R: Runtime + AllocGlobal + Wait>(
+fn submit<L: EngineName, R: Wait, W: Write>(
     rt: &R,
     engine: &Engine<L>,
     client: &mut Client<L>,
     now: u64,
     command: &Command,
+    w: &mut W,
 ) -> io::Result<()> {
     let submitted = engine.submit(rt, client, now, command);
-    let word = if submitted.published {
-        "published"
-    } else {
-        "waiting"
-    };
-    let (status, body) = submitted.outcome.settled.wire();
-    println!(rt;
-        "{} {word} {} {status} {}",
+    tell_submitted(
+        w,
         client.share(),
+        submitted.published,
         submitted.revision,
-        shown(body)
+        &submitted.outcome.settled,
     )
-}
-
-/// Writes how a request ended that was not submitted.
-fn tell<R: Runtime>(rt: &R, share: u64, word: &str, settled: &Settled) -> io::Result<()> {
-    let (status, body) = settled.wire();
-    println!(rt; "{share} {word} {status} {}", shown(body))
 }
 
 /// Answers a Range from what is published.
@@ -130,13 +120,60 @@ fn looked<L: EngineName>(alloc: Global, client: &mut Client<L>, query: &RangeQue
     if let Err(refusal) = client.enter() {
         return declined(alloc, refusal);
     }
-    let settled = match &client.range(alloc, query) {
-        Ok(reply) => match range_text(alloc, reply, &IDS) {
-            Ok(body) => Settled::Reply(Reply { status: 200, body }),
-            Err(_) => Settled::Memory,
-        },
-        Err(refusal) => declined(alloc, *refusal),
+    let settled = match client.range(alloc, query) {
+        Ok(reply) => replied(alloc, &reply),
+        Err(refusal) => declined(alloc, refusal),
     };
     client.leave();
     settled
+}
+
+/// How a Range ends that has this reply.
+fn replied(alloc: Global, reply: &RangeReply<'_>) -> Settled {
+    match range_text(alloc, reply, &IDS) {
+        Ok(body) => Settled::Reply(Reply { status: 200, body }),
+        Err(_) => Settled::Memory,
+    }
+}
+
+/// Writes what a watch was told.
+fn tell_message<W: Write>(
+    w: &mut W,
+    share: u64,
+    told: &Result<Message, AllocError>,
+) -> io::Result<()> {
+    match told {
+        Ok(Message::NoWatch) => tell(w, share, "no watch"),
+        Ok(Message::Nothing) => tell(w, share, "nothing"),
+        Ok(Message::Text(text)) => tell(w, share, shown(text)),
+        Err(_) => tell(w, share, "out of memory"),
+    }
+}
+
+/// Writes whether a watch was closed.
+fn tell_closed<W: Write>(w: &mut W, share: u64, ended: Result<(), Refusal>) -> io::Result<()> {
+    match ended {
+        Ok(()) => tell(w, share, "closed"),
+        Err(_) => tell(w, share, "no watch"),
+    }
+}
+
+/// Writes what a trimming step did.
+fn tell_trim<W: Write>(w: &mut W, share: u64, step: Result<Trim, Refusal>) -> io::Result<()> {
+    match step {
+        Ok(Trim::Removed(rev)) => tell_rev(w, share, "removed", rev),
+        Ok(Trim::Kept(rev)) => tell_rev(w, share, "kept", rev),
+        Ok(Trim::Done(count)) => tell_number(w, share, "done", count),
+        Err(_) => tell(w, share, "out of memory"),
+    }
+}
+
+/// Writes what a step of expiry did.
+fn tell_expiry<W: Write>(w: &mut W, share: u64, step: Result<Expiry, Refusal>) -> io::Result<()> {
+    match step {
+        Ok(Expiry::Nothing) => tell(w, share, "nothing"),
+        Ok(Expiry::Expired { id, revision, .. }) => tell_expired(w, share, id, revision),
+        Err(Refusal::Memory) => tell(w, share, "out of memory"),
+        Err(_) => tell(w, share, "revisions are spent"),
+    }
 }

@@ -30,17 +30,18 @@ ghost use Rattle.std.specs.Prelude.{◌≡◌};
 
 mod events;
 mod lines;
+mod telling;
 
-use engine_lock::{Engine, EngineName, Opening};
-use events::answer;
+use engine_lock::{Client, Engine, EngineName, Opening};
+use events::answer_lines;
 use json_gateway::Ids;
-use std::alloc::AllocError;
-use std::io::{ErrorKind, Read};
+use std::alloc::Global;
+use std::io;
+use std::io::{ErrorKind, Read, Write};
 use std::marker::Brand;
 use std::process::ExitCode;
 use std::rt::Runtime;
 use std::sync::Wait;
-use std::{io, str};
 
 /// The cluster and the member that answer.
 const IDS: Ids = Ids {
@@ -59,43 +60,60 @@ fn main(rt: HostRuntime) -> ExitCode {
 fn run<R: Runtime + AllocGlobal + Wait>(rt: &R) -> io::Result<()> {
     let mut script = Vec::new(rt.alloc());
     rt.reader().read_to_end(&mut script)?;
-    let Ok(text) = str::from_utf8(&script) else {
-        return Err(io::Error::from(ErrorKind::InvalidData));
-    };
-    match Opening::new(rt.alloc(), rt) {
-        Ok(opening) => answer_all::<Brand, R>(rt, opening, text),
-        Err(error) => Err(without_memory(error)),
+    answer_script(rt, rt.alloc(), &script, &mut io::writer(rt))
+}
+
+/// Answers a script, where there is memory for an engine.
+fn answer_script<R: Wait, W: Write>(
+    rt: &R,
+    alloc: Global,
+    script: &[u8],
+    w: &mut W,
+) -> io::Result<()> {
+    match Opening::new(alloc, rt) {
+        Ok(opening) => answer_on::<Brand, R, W>(rt, alloc, opening, script, w),
+        Err(_) => Err(io::Error::from(ErrorKind::OutOfMemory)),
     }
 }
 
-fn without_memory(_: AllocError) -> io::Error {
-    io::Error::from(ErrorKind::OutOfMemory)
-}
-
-/// Answers each line on a new engine, and closes it.
-fn answer_all<L: EngineName, R: Runtime + AllocGlobal + Wait>(
+/// Answers a script on a new engine, and closes it with its one client.
+fn answer_on<L: EngineName, R: Wait, W: Write>(
     rt: &R,
+    alloc: Global,
     opening: Opening,
-    text: &str,
+    script: &[u8],
+    w: &mut W,
 ) -> io::Result<()>
     requires name { opening.name ≡ L.Ledger.name }
     requires parts { opening.parts ≡ L.Ledger.parts }
     requires book { opening.book ≡ L.book }
 {
-    let mut clients = Vec::with_capacity(rt.alloc(), 1).map_err(without_memory)?;
-    let engine = Engine::<L>::new(rt.alloc(), opening, IDS);
+    let mut clients = match Vec::with_capacity(alloc, 1) {
+        Ok(clients) => clients,
+        Err(_) => return Err(io::Error::from(ErrorKind::OutOfMemory)),
+    };
+    let engine = Engine::<L>::new(alloc, opening, IDS);
     let Ok(mut client) = engine.client(rt) else {
         return Err(io::Error::from(ErrorKind::Other));
     };
-    let mut now = 0;
-    for line in text.lines() {
-        answer(rt, &engine, &mut client, &mut now, line)?;
+    let answered = answer_lines(rt, alloc, &engine, &mut client, script, w);
+    let _ = clients.push(client);
+    let closed = closed_at(rt, engine, clients);
+    answered?;
+    match closed {
+        Some(revision) => writeln!(w, "closed at revision {revision}"),
+        None => writeln!(w, "not closed"),
     }
-    if clients.push(client).is_err() {
-        return Err(io::Error::from(ErrorKind::OutOfMemory));
-    }
+}
+
+/// The revision of the core that an engine gives back for these clients.
+fn closed_at<L: EngineName, R: Wait>(
+    rt: &R,
+    engine: Engine<L>,
+    clients: Vec<Client<L>>,
+) -> Option<u64> {
     match engine.close(rt, clients) {
-        Ok(core) => println!(rt; "closed at revision {}", core.status().revision),
-        Err(_) => println!(rt; "not closed"),
+        Ok(core) => Some(core.status().revision),
+        Err(_) => None,
     }
 }

@@ -211,7 +211,7 @@ fn is_at(core: &Core, kept: &[Version], status: Status) -> bool {
     is
 }
 
-/// What an event came to at a sink that refuses from some taking on.
+/// What an event came to at a sink that may refuse it.
 #[derive(Clone, Copy, PartialEq, Eq)]
 enum Met {
     /// It stands.
@@ -246,54 +246,59 @@ fn meet(alloc: Global, core: &mut Core, event: Event, sink: &mut Refusing) -> Me
     }
 }
 
-/// Makes both rounds: how many events were refused and left all as it was, and none where any went
-/// otherwise.
-fn run(alloc: Global, core: &mut Core, sink: &mut Refusing) -> Option<u64> {
-    let mut refused: u64 = 0;
+/// Whether an event hands a change to a sink.
+fn is_told(event: Event) -> bool {
+    !matches!(event, Event::Grant(_) | Event::Wait)
+}
+
+/// Makes both rounds at a sink that takes so many operations before it refuses one: whether that
+/// refuses the event which hands over the next one, and each other event stands.
+fn is_run(alloc: Global, core: &mut Core, left: u64) -> bool {
+    let mut sink = Refusing { left };
+    let mut told: u64 = 0;
     for event in ROUND.iter().chain(ROUND.iter()) {
-        match meet(alloc, core, *event, sink) {
-            Met::Stood => {}
-            Met::Refused => refused = refused.saturating_add(1),
-            Met::Wrong => return None,
+        let expected = if is_told(*event) && told == left {
+            Met::Refused
+        } else {
+            Met::Stood
+        };
+        if meet(alloc, core, *event, &mut sink) != expected {
+            return false;
+        }
+        if is_told(*event) {
+            told = told.saturating_add(1);
         }
     }
-    Some(refused)
+    told == TAKINGS
 }
 
-/// How many events a sink refuses that takes so many operations before, where each left all as it
-/// was, stood the second time, and in the end the core is at these numbers and keeps these versions.
-fn refused_after(alloc: Global, left: u64, kept: &[Version], status: Status) -> Option<u64> {
+/// Whether both rounds go so, and the core comes to these numbers and keeps these versions.
+fn is_whole(alloc: Global, left: u64, kept: &[Version], status: Status) -> bool {
     let mut core = Core::new(alloc);
-    let mut sink = Refusing { left };
-    let refused = run(alloc, &mut core, &mut sink);
-    let is_whole = is_at(&core, kept, status);
+    let is = is_run(alloc, &mut core, left) && is_at(&core, kept, status);
     drop(core);
-    if is_whole { refused } else { None }
+    is
 }
 
-/// The first taking, counted from 1, at which a sink's refusal does not refuse its event alone; the
-/// one after the last where that is so of each.
+/// The first taking, counted from 1, whose refusal goes otherwise; the one after the last where
+/// none does.
 fn first_wrong_taking(alloc: Global, kept: &[Version], status: Status) -> u64 {
     for left in 0..TAKINGS {
-        if refused_after(alloc, left, kept, status) != Some(1) {
+        if !is_whole(alloc, left, kept, status) {
             return left + 1;
         }
     }
     TAKINGS + 1
 }
 
-/// How many events are refused by a sink that takes all of them, and the first taking at which a
-/// refusal is not met rightly, judged by the core that the first leaves.
-fn refusals(alloc: Global) -> Option<(u64, u64)> {
+/// The first taking whose refusal goes otherwise, judged by the core that is left where none is
+/// refused.
+fn first_wrong(alloc: Global) -> Option<u64> {
     let mut core = Core::new(alloc);
-    let mut sink = Refusing { left: TAKINGS };
-    let refused = run(alloc, &mut core, &mut sink);
+    let is = is_run(alloc, &mut core, TAKINGS);
     let dump = core.dump();
-    let found = match (&dump, refused) {
-        (Ok(dump), Some(refused)) => Some((
-            refused,
-            first_wrong_taking(alloc, &dump.versions, core.status()),
-        )),
+    let found = match &dump {
+        Ok(dump) if is => Some(first_wrong_taking(alloc, &dump.versions, core.status())),
         _ => None,
     };
     drop(dump);
@@ -303,5 +308,5 @@ fn refusals(alloc: Global) -> Option<(u64, u64)> {
 
 #[test]
 fn a_refused_taking_changes_nothing(rt: HostRuntime) {
-    assert_eq!(rt; refusals(rt.alloc()), Some((0, TAKINGS + 1)));
+    assert_eq!(rt; first_wrong(rt.alloc()), Some(TAKINGS + 1));
 }
