@@ -1,15 +1,19 @@
-"""The program with allocations refused, and what its replies tell: for tests/allocations and tests/allocations_served."""
+"""The program with allocations refused, and what its replies tell: for the scripts tests/allocations..."""
 import argparse
+import glob
 import importlib.machinery
 import importlib.util
 import json
 import mmap
 import os
+import pathlib
 import struct
 import subprocess
+import sys
 
 TOP = os.path.dirname(os.path.dirname(os.path.abspath(__file__)))
 PROGRAM = os.path.join(TOP, 'crates/etcd_one/out/etcd_one')
+ENGINE = os.path.join(TOP, 'crates/engine_script')
 NO_MEMORY = 'etcdserver: out of memory'
 LOST = 'etcdserver: answer lost, the change stands'
 UNCHECKED = ' unchecked'
@@ -27,14 +31,43 @@ def expect(holds, what):
         raise Wrong(what)
 
 
-def program_of(description):
-    """The program to run: the proved one, which is built first, or another that the command line names."""
+def words_of(description):
+    """The words of the command line: another program than the proved one may be named."""
     words = argparse.ArgumentParser(description=description)
     words.add_argument('--binary', help='another program than the proved one')
-    binary = words.parse_args().binary
+    return words
+
+
+def proved(binary):
+    """The program to run: the proved one, which is built first, or another one."""
     if binary is None:
         subprocess.check_call([os.path.join(TOP, 'etcd_one'), 'replay'], stdin=subprocess.DEVNULL)
     return binary or PROGRAM
+
+
+def program_of(description):
+    """The program to run."""
+    return proved(words_of(description).parse_args().binary)
+
+
+def programs_of(description):
+    """The program to run, and the one for tests alone that makes a script's events through an engine."""
+    words = words_of(description)
+    words.add_argument('--engine', help='another program for the engine than the proved one')
+    given = words.parse_args()
+    return proved(given.binary), given.engine or engine_built()
+
+
+def engine_built():
+    """The program of crates/engine_script, proved and built where that was never done or a source has changed since."""
+    built, mark = (os.path.join(ENGINE, 'out', name) for name in ('engine_script', 'proved'))
+    sources = [os.path.join(TOP, 'crates.txt'), *(file for folder in ('src', 'specs', 'proofs')
+                                                  for file in glob.glob(os.path.join(TOP, 'crates/*', folder, '**'), recursive=True))]
+    if not os.path.exists(built) or not os.path.exists(mark) or os.path.getmtime(mark) < max(map(os.path.getmtime, sources)):
+        print('proving crates/engine_script', file=sys.stderr)
+        subprocess.check_call(['rt', 'run'], cwd=ENGINE, stdin=subprocess.DEVNULL, stdout=subprocess.DEVNULL)
+        pathlib.Path(mark).touch()
+    return built
 
 
 def script(name):
