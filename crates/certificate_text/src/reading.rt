@@ -37,8 +37,8 @@ pub enum Unreadable {
 /// The time is linear in the text. Memory: what is read, of which each key and value is a copy of
 /// its own.
 ///
-/// Fails with `Unreadable::Line` where the text is that of no dump in either format, and with `Unreadable::Memory`
-/// where memory is wanting.
+/// Fails with `Unreadable::Line` where the text is that of no dump in either format, and with
+/// `Unreadable::Memory` where memory is wanting.
 pub fn read(alloc: Global, text: &[u8]) -> Result<(Dump, Certificate), Unreadable>
     ensures ok { IfOk result (λ r. IsTextOf text.now r.0 r.1 × AreInLimits r.0 r.1) }
     ensures unreadable { IfErr result (λ e. IsUnreadable text.now e) }
