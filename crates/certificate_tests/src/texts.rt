@@ -40,6 +40,16 @@ fn come_back(rt: HostRuntime) {
     assert_eq!(&rt; first_lost(rt.alloc(), &TEXTS), None);
 }
 
+/// The text of two keys in format 1.
+const OLDER: &[u8] = b"dump 1\nfloor 0\nrevision 2\nput 2 0 :eA== 2 1 0 :MQ==\n\
+put 2 1 :eQ== 2 1 0 :Mg==\nend\nneeds 1\nrange 2 0 2\nrange 2 1 2\nend\n";
+
+/// What is read in format 1 is written in format 2.
+#[test]
+fn older(rt: HostRuntime) {
+    assert!(&rt; is_written_as(rt.alloc(), OLDER, TWO_KEYS.as_bytes()));
+}
+
 /// Each field goes to its place.
 #[test]
 fn fields(rt: HostRuntime) {

@@ -5,8 +5,9 @@ use std::alloc::{AllocError, Global};
 /// A line of the text of two keys, what is put in its place, and the line that is unreadable then.
 type Case = (usize, &'static str, u64);
 
-const HEADS: [Case; 18] = [
-    (1, "dump 1", 1),
+const HEADS: [Case; 19] = [
+    (1, "dump 1", 7),
+    (1, "dump 3", 1),
     (1, "dump 2 ", 1),
     (1, " dump 2", 1),
     (1, "dump  2", 1),
@@ -114,6 +115,19 @@ fn versions(rt: HostRuntime) {
 #[test]
 fn needs(rt: HostRuntime) {
     assert_eq!(&rt; first_wrong(rt.alloc(), &NEEDS), None);
+}
+
+/// Format 1 has no line `prev`.
+#[test]
+fn previous(rt: HostRuntime) {
+    assert_eq!(&rt;
+        stops_at(
+            rt.alloc(),
+            b"dump 1\nfloor 3\nrevision 3\nput 2 0 :YQ== 2 1 0 :MQ==\ngone 3 0 :YQ==\nend\n\
+needs 1\nprev 2 0 3\nwatch 3 0 3\nend\n"
+        ),
+        Some(8)
+    );
 }
 
 /// A missing line is the one behind the last.

@@ -6,6 +6,7 @@ pub mod LineLaws
 pub mod Walks
 pub mod WalkLaws
 pub mod TextLaws
+pub mod FormatLaws
 pub mod LinesLaws
 pub mod ReadLaws
 pub mod Written

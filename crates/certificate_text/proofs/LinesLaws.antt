@@ -1,5 +1,5 @@
 -- The lines of a text, and the text of lines.
-use Rattle.std.proofs.Common.{◌≡◌, ℕ, ◌+◌, ◌-◌, ◌<◌, ◌≤◌, List, [], ◌∷◌, ◌++◌, length, map, Bool, true, false, cond, nat_eq, codes, refl, sym, ap, subst, ◌∙◌, append_assoc, inl, inr, arith}
+use Rattle.std.proofs.Common.{◌≡◌, ℕ, ◌+◌, ◌-◌, ◌<◌, List, [], ◌∷◌, ◌++◌, length, map, Bool, true, false, cond, nat_eq, codes, refl, sym, ap, subst, ◌∙◌, append_assoc, inl, inr, arith}
 use Rattle.std.specs.Fmt.{decimal}
 use Rattle.std.specs.Prelude.{◌⊎◌}
 use Rattle.std.specs.List.{AllByRecursion, slice_split, onto_first, join_with_byte}
@@ -9,8 +9,8 @@ use Rattle.std.proofs.lemmas.List.Elements.{All-from_recursion}
 use Rattle.std.proofs.lemmas.List.Splits.{slice_split_at, join_with_byte-slice_split}
 use Rattle.kv_model.specs.declared.version.Version.{Version}
 use Rattle.kv_model.specs.Certificates.{Dump, Claim}
-use Rattle.certificate_text.specs.Lines.{is, lines_of, lines_of_parts, IsTextOf}
-use Rattle.certificate_text.specs.Texts.{body_fields, need_fields, line_of, version_line, claim_line, number_line, written, ended, dump_lines, needs_lines, text_lines, text_of, IsRevision, IsVersion, IsClaim, AreInLimits}
+use Rattle.certificate_text.specs.Lines.{is, lines_of, lines_of_parts, IsTextIn}
+use Rattle.certificate_text.specs.Texts.{body_fields, need_fields, line_of, version_line, claim_line, number_line, written, dump_head, needs_head, dump_lines, needs_lines, text_lines, IsRevision, IsVersion, IsClaim, AreInLimits}
 use Rattle.certificate_text.proofs.Base64.{IsAbove}
 use Rattle.certificate_text.proofs.Cuts.{some_parts, lines_more}
 use Rattle.certificate_text.proofs.LineLaws.{AreAbove, not_within, body_above, need_above, revision_above}
@@ -47,10 +47,18 @@ both_clear (x ∷ xs) ys h k = (h.0, both_clear xs ys h.1 k)
 end_clear : IsClear (codes "end")
 end_clear = (refl, (refl, (refl, tt)))
 
-text_clear : (d : Dump) (claims : List Claim) → AreInLimits d claims → AllByRecursion IsClear (text_lines d claims)
-text_clear d claims h =
-    both_clear (dump_lines d) (needs_lines claims) (
-      (refl, (refl, (refl, (refl, (refl, (refl, tt)))))),
+dump_head_clear : (first : Bool) → IsClear (dump_head first)
+dump_head_clear true = (refl, (refl, (refl, (refl, (refl, (refl, tt))))))
+dump_head_clear false = (refl, (refl, (refl, (refl, (refl, (refl, tt))))))
+
+needs_head_clear : (first : Bool) → IsClear (needs_head first)
+needs_head_clear true = (refl, (refl, (refl, (refl, (refl, (refl, (refl, tt)))))))
+needs_head_clear false = (refl, (refl, (refl, (refl, (refl, (refl, (refl, tt)))))))
+
+text_clear : (first : Bool) (d : Dump) (claims : List Claim) → AreInLimits d claims → AllByRecursion IsClear (text_lines first d claims)
+text_clear first d claims h =
+    both_clear (dump_lines first d) (needs_lines first claims) (
+      dump_head_clear first,
       (
         number_clear (codes "floor") d.floor (omega arith, (omega arith, (omega arith, (omega arith, (omega arith, tt))))) h.floor,
         (
@@ -59,7 +67,7 @@ text_clear d claims h =
         ),
       ),
     ) (
-      (refl, (refl, (refl, (refl, (refl, (refl, (refl, tt))))))),
+      needs_head_clear first,
       both_clear (map claim_line claims) (codes "end" ∷ []) (claims_clear claims h.needs) (end_clear, tt),
     )
 
@@ -95,19 +103,22 @@ split_feed (b ∷ bs) =
     ap (λ parts. cond (is 10 b) ([] ∷ parts) (onto_first b parts)) (split_feed bs)
     ∙ feed_by b (slice_split (is 10) bs) (is 10 b) (some_parts 10 bs)
 
-abbrev front_of : Dump → List Claim → List (List ℕ)
-front_of d claims = dump_lines d ++ codes "needs 2" ∷ map claim_line claims
+abbrev front_of : Bool → Dump → List Claim → List (List ℕ)
+front_of first d claims = dump_lines first d ++ needs_head first ∷ map claim_line claims
 
-last_is_end : (d : Dump) (claims : List Claim) → text_lines d claims ≡ front_of d claims ++ codes "end" ∷ []
-last_is_end d claims = sym (append_assoc (dump_lines d) (codes "needs 2" ∷ map claim_line claims) (codes "end" ∷ []))
+last_is_end : (first : Bool) (d : Dump) (claims : List Claim) → text_lines first d claims ≡ front_of first d claims ++ codes "end" ∷ []
+last_is_end first d claims = sym (append_assoc (dump_lines first d) (needs_head first ∷ map claim_line claims) (codes "end" ∷ []))
 
-pub lines_of_text : (text : List ℕ) (d : Dump) (claims : List Claim) → AreInLimits d claims → IsTextOf text d claims → lines_of text ≡ text_lines d claims
-lines_of_text text d claims h (inl e) = ap lines_of e ∙ ap lines_of_parts (split_written (text_lines d claims) (text_clear d claims h)) ∙ lines_ended (text_lines d claims)
-lines_of_text text d claims h (inr e) =
-    let parts : slice_split (is 10) text ++ [] ∷ [] ≡ text_lines d claims ++ [] ∷ [] =
-    sym (split_feed text) ∙ ap (slice_split (is 10)) e ∙ split_written (text_lines d claims) (text_clear d claims h) in
-    let same : slice_split (is 10) text ≡ text_lines d claims = sym (lines_ended (slice_split (is 10) text)) ∙ ap lines_of_parts parts ∙ lines_ended (text_lines d claims) in
-    ap lines_of_parts (same ∙ last_is_end d claims) ∙ lines_last_end (front_of d claims) ∙ sym (last_is_end d claims)
+pub lines_of_text : (first : Bool) (text : List ℕ) (d : Dump) (claims : List Claim) → AreInLimits d claims → IsTextIn first text d claims
+    → lines_of text ≡ text_lines first d claims
+lines_of_text first text d claims h (inl e) =
+    ap lines_of e ∙ ap lines_of_parts (split_written (text_lines first d claims) (text_clear first d claims h)) ∙ lines_ended (text_lines first d claims)
+lines_of_text first text d claims h (inr e) =
+    let parts : slice_split (is 10) text ++ [] ∷ [] ≡ text_lines first d claims ++ [] ∷ [] =
+    sym (split_feed text) ∙ ap (slice_split (is 10)) e ∙ split_written (text_lines first d claims) (text_clear first d claims h) in
+    let same : slice_split (is 10) text ≡ text_lines first d claims =
+    sym (lines_ended (slice_split (is 10) text)) ∙ ap lines_of_parts parts ∙ lines_ended (text_lines first d claims) in
+    ap lines_of_parts (same ∙ last_is_end first d claims) ∙ lines_last_end (front_of first d claims) ∙ sym (last_is_end first d claims)
 
 -- ---- the text that lines are of
 
@@ -132,8 +143,8 @@ all_joined : (parts : List (List ℕ)) → 0 < length parts → IsJoined (join_w
 all_joined [] h = absurd (omega (arith, h))
 all_joined (part ∷ parts) h = parts_joined part parts
 
-pub text_of_lines : (text : List ℕ) (d : Dump) (claims : List Claim) → lines_of text ≡ text_lines d claims → IsTextOf text d claims
-text_of_lines text d claims e =
+pub text_of_lines : (first : Bool) (text : List ℕ) (d : Dump) (claims : List Claim) → lines_of text ≡ text_lines first d claims → IsTextIn first text d claims
+text_of_lines first text d claims e =
     subst (λ ls. IsJoined text ls) e
     (subst (λ t. IsJoined t (lines_of text)) (join_with_byte-slice_split 10 text) (all_joined (slice_split (is 10) text) (some_parts 10 text)))
 

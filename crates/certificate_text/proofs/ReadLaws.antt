@@ -1,19 +1,18 @@
 -- Reading a text: what it gives, the line that it names, and that texts are read.
-use Rattle.std.proofs.Common.{◌≡◌, ℕ, ◌+◌, ◌-◌, List, length, Result, Ok, Err, sym, ap, ◌∙◌}
+use Rattle.std.proofs.Common.{◌≡◌, ℕ, ◌+◌, ◌-◌, List, length, Bool, Ok, Err, sym, ap, ◌∙◌}
 use Rattle.kv_model.specs.Certificates.{Dump, Claim}
-use Rattle.certificate_text.specs.declared.reading.Unreadable.{Unreadable}
 use Rattle.certificate_text.specs.declared.reading.Unreadable.TheVariants as unreadable
 use Rattle.certificate_text.specs.Lines.{lines_of, IsTextOf, IsFirstUnreadable}
-use Rattle.certificate_text.specs.Outcomes.{ReadsBack}
 use Rattle.certificate_text.specs.Texts.{AreInLimits}
-use Rattle.certificate_text.specs.Walking.{text_read}
+use Rattle.certificate_text.specs.Walking.{begins_first, text_read}
 use Rattle.certificate_text.proofs.LinesLaws.{lines_of_text, text_of_lines, line_number}
-use Rattle.certificate_text.proofs.TextLaws.{text_takes, text_again, text_stops}
+use Rattle.certificate_text.proofs.FormatLaws.{text_takes, text_again, text_stops}
 
 pub read_is : (text : List ℕ) (r : Dump × List Claim) → text_read (lines_of text) ≡ Ok r → IsTextOf text r.0 r.1 × AreInLimits r.0 r.1
 read_is text r e =
     let found = text_takes (lines_of text) r.0 r.1 e in
-    (text_of_lines text r.0 r.1 found.0, found.1)
+    let first : Bool = begins_first (lines_of text) in
+    ((first, found.1.1, text_of_lines first text r.0 r.1 found.0), found.1.0)
 
 pub refused_at : (text : List ℕ) (rest : List (List ℕ)) (n : ℕ) → text_read (lines_of text) ≡ Err rest → n ≡ length (lines_of text) - length rest + 1
     → IsFirstUnreadable (lines_of text) n
@@ -22,7 +21,7 @@ refused_at text rest n e is =
     (at.0, rest, at.1, is ∙ line_number (lines_of text) at.0 rest at.1, at.2, at.3)
 
 pub reads_text : (text : List ℕ) (d : Dump) (claims : List Claim) → AreInLimits d claims → IsTextOf text d claims → text_read (lines_of text) ≡ Ok (d, claims)
-reads_text text d claims limits is = ap text_read (lines_of_text text d claims limits is) ∙ text_again d claims limits
+reads_text text d claims limits is = ap text_read (lines_of_text is.0 text d claims limits is.2) ∙ text_again is.0 d claims (limits, is.1)
 
 pub back_ok : (text : List ℕ) (r : Dump × List Claim) (d : Dump) (claims : List Claim) → text_read (lines_of text) ≡ Ok r → AreInLimits d claims → IsTextOf text d claims
     → (r.0 ≡ d) × (r.1 ≡ claims)

@@ -1,6 +1,6 @@
--- Whole texts: steps one behind the other, and what reading a text says of texts.
-use Rattle.std.proofs.Common.{◌≡◌, ℕ, ◌+◌, ◌<◌, List, [], ◌∷◌, ◌++◌, length, map, Bool, true, false, cond, Option, None, Some, Result, Ok, Err, codes, refl, sym, ap, subst, ◌∙◌, append_assoc, arith}
-use Rattle.std.specs.Prelude.{⊤}
+-- Whole texts of a format: steps one behind the other, and what reading a text in a format says of its texts.
+use Rattle.std.proofs.Common.{◌≡◌, ℕ, List, [], ◌∷◌, ◌++◌, Bool, true, false, cond, ◌&&◌, Option, None, Some, Result, Ok, Err, codes, refl, sym, ap, subst, ◌∙◌, append_assoc, arith}
+use Rattle.std.specs.Prelude.{⊤, option_and_then}
 use Rattle.std.specs.List.{AllByRecursion}
 use Rattle.std.specs.Cmp.Lexicographic.{same_text as told_same}
 use Rattle.std.proofs.lemmas.List.{append-nil}
@@ -9,13 +9,14 @@ use Rattle.kv_model.specs.declared.version.Rev.{Rev}
 use Rattle.kv_model.specs.declared.version.Body.{Body}
 use Rattle.kv_model.specs.declared.version.Body.TheVariants.{Put, Gone}
 use Rattle.kv_model.specs.Certificates.{Dump, Claim, Need}
-use Rattle.certificate_text.specs.Texts.{body_fields, need_fields, line_of, version_line, claim_line, number_line, ended, dump_lines, needs_lines, text_lines, IsRevision, IsVersion, IsClaim, AreInLimits}
-use Rattle.certificate_text.specs.Reading.{same_text, version_of, claim_of, numbered}
-use Rattle.certificate_text.specs.Walking.{Read, ◌>>=◌, line_by, exactly, up_to_end, if_none_left, dump_of, needs_of, text_read}
-use Rattle.certificate_text.specs.Lines.{Begins, IsWhole, Stops}
+use Rattle.witness_core.specs.Older.{is_previous}
+use Rattle.certificate_text.specs.Texts.{body_fields, need_fields, line_of, version_line, claim_line, number_line, dump_head, needs_head, dump_lines, needs_lines, text_lines, IsRevision, IsVersion, IsClaim, FitFormat}
+use Rattle.certificate_text.specs.Reading.{same_text, version_of, claim_of, if_fits, claim_in, numbered}
+use Rattle.certificate_text.specs.Walking.{Read, ◌>>=◌, line_by, exactly, up_to_end, if_none_left, dump_of, needs_of, read_in}
+use Rattle.certificate_text.specs.Lines.{HasText, Begins}
 use Rattle.certificate_text.proofs.Base64.{IsAbove}
 use Rattle.certificate_text.proofs.LineLaws.{version_read, version_again, claim_line_read, claim_line_again, number_line_read, number_line_again}
-use Rattle.certificate_text.proofs.WalkLaws.{Lines, pair, StoppedIn, IsReader, IsLine, line_reader, all_reader, all_form, bind_ok, bind_err}
+use Rattle.certificate_text.proofs.WalkLaws.{Lines, pair, StoppedIn, IsReader, IsLine, line_reader, all_reader, bind_ok, bind_err}
 
 -- ---- one step behind the other
 
@@ -141,6 +142,31 @@ claim_is = record {
   again = λ claim h. claim_line_again claim h;
 }
 
+abbrev IsClaimIn : Bool → Claim → Type 0
+IsClaimIn first claim = IsClaim claim × (first && is_previous claim.need ≡ false)
+
+fits_by : (first : Bool) (found claim : Claim) (b : Bool) → first && is_previous found.need ≡ b → cond b None (Some found) ≡ Some claim
+    → (found ≡ claim) × (first && is_previous claim.need ≡ false)
+fits_by first found claim true t e = cc e
+fits_by first found claim false t e = let same : found ≡ claim = cc e in (same, subst (λ c. first && is_previous c.need ≡ false) same t)
+
+fits : (first : Bool) (o : Option Claim) (claim : Claim) → option_and_then (if_fits first) o ≡ Some claim → (o ≡ Some claim) × (first && is_previous claim.need ≡ false)
+fits first None claim e = cc e
+fits first (Some found) claim e = let got = fits_by first found claim (first && is_previous found.need) refl e in (ap Some got.0, got.1)
+
+no_claim_fails : (first : Bool) → first && false ≡ false
+no_claim_fails true = refl
+no_claim_fails false = refl
+
+claim_in_is : (first : Bool) → IsLine (claim_in first) claim_line (IsClaimIn first)
+unfolding claim_in claim_is
+claim_in_is first = record {
+  some = claim_is.some;
+  some_limits = (claim_is.some_limits, no_claim_fails first);
+  found = λ line claim e. (let got = fits first (claim_of line) claim e in let shape = claim_is.found line claim got.0 in (shape.0, (shape.1, got.1)));
+  again = λ claim h. ap (option_and_then (if_fits first)) (claim_is.again claim h.0) ∙ ap (λ b. cond b None (Some claim)) h.1;
+}
+
 body_is_no_end : (p : Rev) (key : List ℕ) (body : Body) → same_text (line_of (body_fields p key body)) (codes "end") ≡ false
 body_is_no_end p key (Put create version lease value) = refl
 body_is_no_end p key Gone = refl
@@ -196,8 +222,8 @@ moved r q f L to from forth back same is = record {
 abbrev Head : Type 0
 Head = ((⊤ × ℕ) × ℕ) × List Version
 
-abbrev opening : Lines → Read Head
-opening = both (both (both (line_by (exactly (codes "dump 2"))) (line_by (numbered (codes "floor")))) (line_by (numbered (codes "revision")))) (up_to_end version_of)
+abbrev opening : Bool → Lines → Read Head
+opening first = both (both (both (line_by (exactly (dump_head first))) (line_by (numbered (codes "floor")))) (line_by (numbered (codes "revision")))) (up_to_end version_of)
 
 abbrev dump_from : Head → Dump
 dump_from p = record { floor = p.0.0.1; revision = p.0.1; versions = p.1 }
@@ -237,29 +263,35 @@ head_behind : (r : Read ⊤) (f n : Lines → Read ℕ) (vs : Lines → Read (Li
 head_behind (Ok u) f n vs = floor_behind u.0 (f u.1) n vs
 head_behind (Err ls) f n vs = refl
 
-same_dump : (ls : Lines) → dump_of ls ≡ (opening ls >>= from_head)
+same_dump : (first : Bool) (ls : Lines) → dump_of first ls ≡ (opening first ls >>= from_head)
 unfolding dump_of
-same_dump ls = head_behind (line_by (exactly (codes "dump 2")) ls) (line_by (numbered (codes "floor"))) (line_by (numbered (codes "revision"))) (up_to_end version_of)
+same_dump first ls = head_behind (line_by (exactly (dump_head first)) ls) (line_by (numbered (codes "floor"))) (line_by (numbered (codes "revision"))) (up_to_end version_of)
 
 abbrev HeadLimits : Head → Type 0
 HeadLimits p = ((⊤ × IsRevision p.0.0.1) × IsRevision p.0.1) × AllByRecursion IsVersion p.1
 
-opening_reader : IsReader opening (λ p. dump_lines (dump_from p)) HeadLimits
-opening_reader =
-    both_reader (both (both (line_by (exactly (codes "dump 2"))) (line_by (numbered (codes "floor")))) (line_by (numbered (codes "revision")))) (up_to_end version_of) _ _ _ _
-    (both_reader (both (line_by (exactly (codes "dump 2"))) (line_by (numbered (codes "floor")))) (line_by (numbered (codes "revision"))) _ _ _ _
-    (both_reader (line_by (exactly (codes "dump 2"))) (line_by (numbered (codes "floor"))) _ _ _ _
-    (line_reader _ _ _ (exactly_is (codes "dump 2") refl)) (line_reader _ _ _ (numbered_is (codes "floor") floor_above refl)))
+dump_head_is : (first : Bool) → same_text (dump_head first) (dump_head first) ≡ true
+dump_head_is true = refl
+dump_head_is false = refl
+
+opening_reader : (first : Bool) → IsReader (opening first) (λ p. dump_lines first (dump_from p)) HeadLimits
+opening_reader first =
+    both_reader (both (both (line_by (exactly (dump_head first))) (line_by (numbered (codes "floor")))) (line_by (numbered (codes "revision")))) (up_to_end version_of) _ _ _ _
+    (both_reader (both (line_by (exactly (dump_head first))) (line_by (numbered (codes "floor")))) (line_by (numbered (codes "revision"))) _ _ _ _
+    (both_reader (line_by (exactly (dump_head first))) (line_by (numbered (codes "floor"))) _ _ _ _
+    (line_reader _ _ _ (exactly_is (dump_head first) (dump_head_is first))) (line_reader _ _ _ (numbered_is (codes "floor") floor_above refl)))
     (line_reader _ _ _ (numbered_is (codes "revision") revision_above refl)))
     (all_reader version_of version_line IsVersion version_is (λ v. body_is_no_end v.rev v.key v.body))
 
-dump_reader : IsReader dump_of dump_lines (λ d. HeadLimits (head_of d))
-dump_reader = moved opening dump_of (λ p. dump_lines (dump_from p)) HeadLimits dump_from head_of (λ d. refl) (λ p. refl) same_dump opening_reader
+dump_reader : (first : Bool) → IsReader (dump_of first) (dump_lines first) (λ d. HeadLimits (head_of d))
+dump_reader first =
+    moved (opening first) (dump_of first) (λ p. dump_lines first (dump_from p)) HeadLimits dump_from head_of (λ d. refl) (λ p. refl) (same_dump first)
+    (opening_reader first)
 
 -- ---- its needs
 
-abbrev closing : Lines → Read (⊤ × List Claim)
-closing = both (line_by (exactly (codes "needs 2"))) (up_to_end claim_of)
+abbrev closing : Bool → Lines → Read (⊤ × List Claim)
+closing first = both (line_by (exactly (needs_head first))) (up_to_end (claim_in first))
 
 abbrev from_needs : (⊤ × List Claim) × Lines → Result (List Claim × Lines) Lines
 from_needs x = Ok (x.0.1, x.1)
@@ -272,45 +304,61 @@ needs_behind : (r : Read ⊤) (claims : Lines → Read (List Claim)) → (r >>= 
 needs_behind (Ok u) claims = claims_behind u.0 (claims u.1)
 needs_behind (Err ls) claims = refl
 
-same_needs : (ls : Lines) → needs_of ls ≡ (closing ls >>= from_needs)
+same_needs : (first : Bool) (ls : Lines) → needs_of first ls ≡ (closing first ls >>= from_needs)
 unfolding needs_of
-same_needs ls = needs_behind (line_by (exactly (codes "needs 2")) ls) (up_to_end claim_of)
+same_needs first ls = needs_behind (line_by (exactly (needs_head first)) ls) (up_to_end (claim_in first))
 
-abbrev NeedsLimits : ⊤ × List Claim → Type 0
-NeedsLimits p = ⊤ × AllByRecursion IsClaim p.1
+abbrev NeedsLimits : Bool → ⊤ × List Claim → Type 0
+NeedsLimits first p = ⊤ × AllByRecursion (IsClaimIn first) p.1
 
-closing_reader : IsReader closing (λ p. needs_lines p.1) NeedsLimits
-closing_reader =
-    both_reader (line_by (exactly (codes "needs 2"))) (up_to_end claim_of) _ _ _ _ (line_reader _ _ _ (exactly_is (codes "needs 2") refl))
-    (all_reader claim_of claim_line IsClaim claim_is (λ claim. need_is_no_end claim.rev claim.need))
+needs_head_is : (first : Bool) → same_text (needs_head first) (needs_head first) ≡ true
+needs_head_is true = refl
+needs_head_is false = refl
 
-needs_reader : IsReader needs_of needs_lines (λ claims. NeedsLimits (tt, claims))
-needs_reader = moved closing needs_of (λ p. needs_lines p.1) NeedsLimits (λ p. p.1) (λ claims. (tt, claims)) (λ claims. refl) (λ p. refl) same_needs closing_reader
+closing_reader : (first : Bool) → IsReader (closing first) (λ p. needs_lines first p.1) (NeedsLimits first)
+closing_reader first =
+    both_reader (line_by (exactly (needs_head first))) (up_to_end (claim_in first)) _ _ _ _ (line_reader _ _ _ (exactly_is (needs_head first) (needs_head_is first)))
+    (all_reader (claim_in first) claim_line (IsClaimIn first) (claim_in_is first) (λ claim. need_is_no_end claim.rev claim.need))
+
+needs_reader : (first : Bool) → IsReader (needs_of first) (needs_lines first) (λ claims. NeedsLimits first (tt, claims))
+needs_reader first =
+    moved (closing first) (needs_of first) (λ p. needs_lines first p.1) (NeedsLimits first) (λ p. p.1) (λ claims. (tt, claims)) (λ claims. refl) (λ p. refl)
+    (same_needs first) (closing_reader first)
 
 -- ---- a text
 
 abbrev Whole : Type 0
 Whole = Dump × List Claim
 
-abbrev pieces : Lines → Read Whole
-pieces = both dump_of needs_of
+abbrev pieces : Bool → Lines → Read Whole
+pieces first = both (dump_of first) (needs_of first)
 
-abbrev WholeLimits : Whole → Type 0
-WholeLimits p = HeadLimits (head_of p.0) × NeedsLimits (tt, p.1)
+abbrev WholeLimits : Bool → Whole → Type 0
+WholeLimits first p = HeadLimits (head_of p.0) × NeedsLimits first (tt, p.1)
 
-pieces_reader : IsReader pieces (λ p. text_lines p.0 p.1) WholeLimits
-pieces_reader = both_reader dump_of needs_of dump_lines needs_lines (λ d. HeadLimits (head_of d)) (λ claims. NeedsLimits (tt, claims)) dump_reader needs_reader
+pieces_reader : (first : Bool) → IsReader (pieces first) (λ p. text_lines first p.0 p.1) (WholeLimits first)
+pieces_reader first =
+    both_reader (dump_of first) (needs_of first) (dump_lines first) (needs_lines first) (λ d. HeadLimits (head_of d)) (λ claims. NeedsLimits first (tt, claims))
+    (dump_reader first) (needs_reader first)
 
-in_limits : (d : Dump) (claims : List Claim) → WholeLimits (d, claims) → AreInLimits d claims
-in_limits d claims h = record {
-  floor = h.0.0.0.1;
-  revision = h.0.0.1;
-  versions = h.0.1;
-  needs = h.1.1;
-}
+claims_fit : (first : Bool) (claims : List Claim) → AllByRecursion (IsClaimIn first) claims → AllByRecursion IsClaim claims × FitFormat first claims
+claims_fit true [] h = (tt, tt)
+claims_fit false [] h = (tt, tt)
+claims_fit true (claim ∷ claims) h = let others = claims_fit true claims h.1 in ((h.0.0, others.0), (h.0.1, others.1))
+claims_fit false (claim ∷ claims) h = let others = claims_fit false claims h.1 in ((h.0.0, others.0), tt)
 
-from_limits : (d : Dump) (claims : List Claim) → AreInLimits d claims → WholeLimits (d, claims)
-from_limits d claims h = ((((tt, h.floor), h.revision), h.versions), (tt, h.needs))
+fitting_claims : (first : Bool) (claims : List Claim) → AllByRecursion IsClaim claims → FitFormat first claims → AllByRecursion (IsClaimIn first) claims
+fitting_claims first [] h fit = tt
+fitting_claims true (claim ∷ claims) h fit = ((h.0, fit.0), fitting_claims true claims h.1 fit.1)
+fitting_claims false (claim ∷ claims) h fit = ((h.0, refl), fitting_claims false claims h.1 tt)
+
+in_limits : (first : Bool) (d : Dump) (claims : List Claim) → WholeLimits first (d, claims) → HasText first d claims
+in_limits first d claims h =
+    let needs = claims_fit first claims h.1.1 in
+    (record { floor = h.0.0.0.1; revision = h.0.0.1; versions = h.0.1; needs = needs.0 }, needs.1)
+
+from_limits : (first : Bool) (d : Dump) (claims : List Claim) → HasText first d claims → WholeLimits first (d, claims)
+from_limits first d claims h = ((((tt, h.0.floor), h.0.revision), h.0.versions), (tt, fitting_claims first claims h.0.needs h.1))
 
 abbrev finish : Whole × Lines → Result Whole Lines
 finish x = if_none_left x.0 x.1
@@ -324,9 +372,9 @@ dump_then : (r : Read Dump) (needs : Lines → Read (List Claim))
 dump_then (Ok d) needs = needs_then d.0 (needs d.1)
 dump_then (Err ls) needs = refl
 
-same_text_read : (ls : Lines) → text_read ls ≡ (pieces ls >>= finish)
-unfolding text_read
-same_text_read ls = dump_then (dump_of ls) needs_of
+same_read : (first : Bool) (ls : Lines) → read_in first ls ≡ (pieces first ls >>= finish)
+unfolding read_in
+same_read first ls = dump_then (dump_of first ls) (needs_of first)
 
 left_ok : (a b : Whole) (ls : Lines) → if_none_left a ls ≡ Ok b → (ls ≡ []) × (a ≡ b)
 left_ok a b [] e = (refl, cc e)
@@ -337,61 +385,52 @@ left_err a [] rest e = cc e
 left_err a (line ∷ ls) rest e = (line, ls, refl, sym (cc e))
 
 -- what was read has these very lines
-pub text_takes : (ls : Lines) (d : Dump) (claims : List Claim) → text_read ls ≡ Ok (d, claims) → (ls ≡ text_lines d claims) × AreInLimits d claims
-text_takes ls d claims e =
-    let first = bind_ok (pieces ls) finish (d, claims) (sym (same_text_read ls) ∙ e) in
-    let done = left_ok first.0.0 (d, claims) first.0.1 first.2 in
-    let shape = pieces_reader.read ls first.0.1 first.0.0 first.1 in
-    subst (λ p. (ls ≡ text_lines p.0 p.1) × AreInLimits p.0 p.1) done.1 (
-      shape.0 ∙ ap (λ rest. text_lines first.0.0.0 first.0.0.1 ++ rest) done.0 ∙ append-nil (text_lines first.0.0.0 first.0.0.1),
-      in_limits first.0.0.0 first.0.0.1 shape.1,
+pub read_takes : (first : Bool) (ls : Lines) (d : Dump) (claims : List Claim) → read_in first ls ≡ Ok (d, claims)
+    → (ls ≡ text_lines first d claims) × HasText first d claims
+read_takes first ls d claims e =
+    let got = bind_ok (pieces first ls) finish (d, claims) (sym (same_read first ls) ∙ e) in
+    let done = left_ok got.0.0 (d, claims) got.0.1 got.2 in
+    let shape = (pieces_reader first).read ls got.0.1 got.0.0 got.1 in
+    subst (λ p. (ls ≡ text_lines first p.0 p.1) × HasText first p.0 p.1) done.1 (
+      shape.0 ∙ ap (λ rest. text_lines first got.0.0.0 got.0.0.1 ++ rest) done.0 ∙ append-nil (text_lines first got.0.0.0 got.0.0.1),
+      in_limits first got.0.0.0 got.0.0.1 shape.1,
     )
 
 -- and its lines are read again
-pub text_again : (d : Dump) (claims : List Claim) → AreInLimits d claims → text_read (text_lines d claims) ≡ Ok (d, claims)
-text_again d claims h =
-    ap text_read (sym (append-nil (text_lines d claims))) ∙ same_text_read (text_lines d claims ++ [])
-    ∙ on_ok (pieces (text_lines d claims ++ [])) finish ((d, claims), []) (Ok (d, claims)) (pieces_reader.again [] (d, claims) (from_limits d claims h)) refl
+pub read_again : (first : Bool) (d : Dump) (claims : List Claim) → HasText first d claims → read_in first (text_lines first d claims) ≡ Ok (d, claims)
+read_again first d claims h =
+    ap (read_in first) (sym (append-nil (text_lines first d claims))) ∙ same_read first (text_lines first d claims ++ [])
+    ∙ on_ok (pieces first (text_lines first d claims ++ [])) finish ((d, claims), []) (Ok (d, claims))
+    ((pieces_reader first).again [] (d, claims) (from_limits first d claims h)) refl
 
--- ---- where reading stops
+-- reading stopped behind some lines, with which a text begins, and it stops there whatever follows the line
+pub record StopsAt (first : Bool) (ls rest : Lines) : Type 0 where
+  pub before : Lines
+  pub parts : ls ≡ before ++ rest
+  pub begins : Begins before
+  pub stays : (line : List ℕ) (after other : Lines) → rest ≡ line ∷ after → read_in first (before ++ line ∷ other) ≡ Err (line ∷ other)
 
-stops_of : (before rest : Lines) → ((line : List ℕ) (after other : Lines) → rest ≡ line ∷ after → text_read (before ++ line ∷ other) ≡ Err (line ∷ other))
-    → text_read (before ++ rest) ≡ Err rest → Stops before rest
-stops_of before [] stays failed = λ whole.
-    let fine = text_again whole.0 whole.1 whole.2 in
-    let bad : Ok (whole.0, whole.1) ≡ Err [] = sym fine ∙ ap text_read (whole.3 ∙ sym (append-nil before)) ∙ failed in
-    cc bad
-stops_of before (line ∷ after) stays failed = λ begins.
-    let fine = text_again begins.0 begins.1 begins.3 in
-    let bad : Ok (begins.0, begins.1) ≡ Err (line ∷ begins.2) =
-    sym fine ∙ ap text_read (begins.4 ∙ append_assoc before (line ∷ []) begins.2) ∙ stays line after begins.2 refl in
-    cc bad
-
-abbrev IsStop : Lines → Lines → Type 0
-IsStop ls rest = (before : Lines) × (ls ≡ before ++ rest) × Begins before × Stops before rest
-
-pub text_stops : (ls rest : Lines) → text_read ls ≡ Err rest → (before : Lines) × (ls ≡ before ++ rest) × Begins before × Stops before rest
-text_stops ls rest e =
-    bind_err (pieces ls) finish rest (IsStop ls rest) (sym (same_text_read ls) ∙ e)
+pub read_stops : (first : Bool) (ls rest : Lines) → read_in first ls ≡ Err rest → StopsAt first ls rest
+read_stops first ls rest e =
+    bind_err (pieces first ls) finish rest (StopsAt first ls rest) (sym (same_read first ls) ∙ e)
     (λ failed.
-    let at = pieces_reader.stop ls rest failed in (
-      at.before,
-      at.parts,
-      (at.some.0, at.some.1, at.more, in_limits at.some.0 at.some.1 at.limits, at.whole),
-      stops_of at.before rest
-          (λ line after other h. same_text_read (at.before ++ line ∷ other) ∙ on_err (pieces (at.before ++ line ∷ other)) finish (line ∷ other) (at.stays line after other h))
-          (ap text_read (sym at.parts) ∙ e),
-    ))
+    let at = (pieces_reader first).stop ls rest failed in
+    record {
+      before = at.before;
+      parts = at.parts;
+      begins = (first, at.some.0, at.some.1, at.more, in_limits first at.some.0 at.some.1 at.limits, at.whole);
+      stays = λ line after other h.
+          same_read first (at.before ++ line ∷ other) ∙ on_err (pieces first (at.before ++ line ∷ other)) finish (line ∷ other) (at.stays line after other h);
+    })
     (λ x fine later.
-    let shape = pieces_reader.read ls x.1 x.0 fine in
+    let shape = (pieces_reader first).read ls x.1 x.0 fine in
     let left = left_err x.0 x.1 rest later in
-    let lines : Lines = text_lines x.0.0 x.0.1 in
-    let split : ls ≡ lines ++ rest = shape.0 ∙ ap (λ xs. lines ++ xs) (left.2 ∙ sym left.3) in (
-      lines,
-      split,
-      (x.0.0, x.0.1, [], in_limits x.0.0 x.0.1 shape.1, sym (append-nil lines)),
-      stops_of lines rest
-          (λ line after other h. same_text_read (lines ++ line ∷ other)
-          ∙ on_ok (pieces (lines ++ line ∷ other)) finish (x.0, line ∷ other) (Err (line ∷ other)) (pieces_reader.again (line ∷ other) x.0 shape.1) refl)
-          (ap text_read (sym split) ∙ e),
-    ))
+    let lines : Lines = text_lines first x.0.0 x.0.1 in
+    record {
+      before = lines;
+      parts = shape.0 ∙ ap (λ xs. lines ++ xs) (left.2 ∙ sym left.3);
+      begins = (first, x.0.0, x.0.1, [], in_limits first x.0.0 x.0.1 shape.1, sym (append-nil lines));
+      stays = λ line after other h.
+          same_read first (lines ++ line ∷ other)
+          ∙ on_ok (pieces first (lines ++ line ∷ other)) finish (x.0, line ∷ other) (Err (line ∷ other)) ((pieces_reader first).again (line ∷ other) x.0 shape.1) refl;
+    })

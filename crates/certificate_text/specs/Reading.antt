@@ -1,8 +1,8 @@
 -- A text, line by line and field by field, as it is read. What that comes to say of texts is in `Lines`.
 use Rattle.std.specs.Prelude.{⊤, ℕ, zero, suc, ◌^◌, ◌-◌, ◌==◌, ℤ, pos, negsuc, nat_le, nat_lt, nat_eq, List, [], ◌∷◌}
-use Rattle.std.specs.Prelude.{◌++◌, length}
+use Rattle.std.specs.Prelude.{length}
 use Rattle.std.specs.Prelude.{Bool, not, ◌&&◌, if◌then◌else◌, Option, None, Some, option_map, option_and_then}
-use Rattle.std.specs.Prelude.{Result, Ok, Err, slice_index, codes}
+use Rattle.std.specs.Prelude.{slice_index, codes}
 use Rattle.std.specs.List.{slice_split, list_all}
 use Rattle.std.specs.Cmp.Lexicographic.{pointwise}
 use Rattle.std.specs.Str.{all_ascii_digits}
@@ -11,9 +11,9 @@ use Rattle.base64.specs.Engines.{standard}
 use Rattle.base64.specs.GeneralPurpose.{decoded_of}
 use Rattle.kv_model.specs.declared.version.Rev.{Rev}
 use Rattle.kv_model.specs.declared.version.Version.{Version}
-use Rattle.kv_model.specs.declared.version.Body.{Body}
 use Rattle.kv_model.specs.declared.version.Body.TheVariants.{Put, Gone}
-use Rattle.kv_model.specs.Certificates.{Dump, Claim, Need}
+use Rattle.kv_model.specs.Certificates.{Claim, Need}
+use Rattle.witness_core.specs.Older.{is_previous}
 use Rattle.certificate_text.specs.Lines.{is}
 
 abbrev pub same_text : List ℕ → List ℕ → Bool
@@ -151,6 +151,13 @@ version_of line = version_by (fields_of line)
 -- the claim of a line
 unfoldable pub claim_of : List ℕ → Option Claim
 claim_of line = claim_at (fields_of line)
+
+-- the same in a format: the first has no line of a previous value
+abbrev pub if_fits : Bool → Claim → Option Claim
+if_fits first claim = if first && is_previous claim.need then None else Some claim
+
+unfoldable pub claim_in : Bool → List ℕ → Option Claim
+claim_in first line = option_and_then (if_fits first) (claim_of line)
 
 -- the number behind a word
 unfoldable pub numbered : List ℕ → List ℕ → Option ℕ

@@ -1,5 +1,6 @@
--- The text of a dump and of what its versions are needed for: format 2.
-use Rattle.std.specs.Prelude.{◌≡◌, ⊤, ℕ, ◌<◌, ◌^◌, List, [], ◌∷◌, ◌++◌, map, codes, decimal, FitsSigned}
+-- The text of a dump and of what its versions are needed for: format 2, and format 1 that was before it.
+use Rattle.std.specs.Prelude.{⊤, ℕ, ◌<◌, ◌^◌, List, [], ◌∷◌, ◌++◌, map, codes, decimal, FitsSigned}
+use Rattle.std.specs.Prelude.{Bool, true, false}
 use Rattle.std.specs.Fmt.{signed_decimal}
 use Rattle.std.specs.Int.{w64}
 use Rattle.std.specs.List.{flat_map, join_with_byte, AllByRecursion}
@@ -10,6 +11,7 @@ use Rattle.kv_model.specs.declared.version.Version.{Version}
 use Rattle.kv_model.specs.declared.version.Body.{Body}
 use Rattle.kv_model.specs.declared.version.Body.TheVariants.{Put, Gone}
 use Rattle.kv_model.specs.Certificates.{Dump, Claim, Need}
+use Rattle.witness_core.specs.Older.{HasNoPrevious}
 
 -- ---- lines
 
@@ -53,23 +55,41 @@ number_line word n = line_of (word ∷ decimal n ∷ [])
 abbrev pub ended : List (List ℕ) → List (List ℕ)
 ended ls = ls ++ codes "end" ∷ []
 
-abbrev pub dump_lines : Dump → List (List ℕ)
-dump_lines d = codes "dump 2" ∷ number_line (codes "floor") d.floor ∷ number_line (codes "revision") d.revision
+-- the first line of each part, by whether the format is the first: both parts are of the same one
+abbrev pub dump_head : Bool → List ℕ
+dump_head true = codes "dump 1"
+dump_head false = codes "dump 2"
+
+abbrev pub needs_head : Bool → List ℕ
+needs_head true = codes "needs 1"
+needs_head false = codes "needs 2"
+
+abbrev pub dump_lines : Bool → Dump → List (List ℕ)
+dump_lines first d = dump_head first ∷ number_line (codes "floor") d.floor ∷ number_line (codes "revision") d.revision
     ∷ ended (map version_line d.versions)
 
-abbrev pub needs_lines : List Claim → List (List ℕ)
-needs_lines claims = codes "needs 2" ∷ ended (map claim_line claims)
+abbrev pub needs_lines : Bool → List Claim → List (List ℕ)
+needs_lines first claims = needs_head first ∷ ended (map claim_line claims)
 
-abbrev pub text_lines : Dump → List Claim → List (List ℕ)
-text_lines d claims = dump_lines d ++ needs_lines claims
+abbrev pub text_lines : Bool → Dump → List Claim → List (List ℕ)
+text_lines first d claims = dump_lines first d ++ needs_lines first claims
 
 -- lines in a row, a line feed behind each
 abbrev pub written : List (List ℕ) → List ℕ
 written = flat_map (λ line. line ++ 10 ∷ [])
 
 -- the text of a dump and of its claims
+abbrev pub text_in : Bool → Dump → List Claim → List ℕ
+text_in first d claims = written (text_lines first d claims)
+
+-- the text that is written: of format 2
 abbrev pub text_of : Dump → List Claim → List ℕ
-text_of d claims = written (text_lines d claims)
+text_of = text_in false
+
+-- the first format has no line of a previous value
+abbrev pub FitFormat : Bool → List Claim → Type 0
+FitFormat true claims = HasNoPrevious claims
+FitFormat false claims = ⊤
 
 -- ---- limits
 
@@ -94,7 +114,7 @@ IsNeed (Need.prev r) = IsRevision r
 abbrev pub IsClaim : Claim → Type 0
 IsClaim claim = IsRev claim.rev × IsNeed claim.need
 
--- the numbers are within the limits of the format, and keys and values are bytes
+-- the numbers are within the limits of either format, and keys and values are bytes
 pub record AreInLimits (d : Dump) (claims : List Claim) : Type 0 where
   pub floor : IsRevision d.floor
   pub revision : IsRevision d.revision

@@ -1,7 +1,8 @@
 -- A text that is read, line after line: what was read and the lines after it, or the lines from the unreadable one on.
-use Rattle.std.specs.Prelude.{⊤, ℕ, List, [], ◌∷◌, ◌++◌, if◌then◌else◌, Option, None, Some, Result, Ok, Err, codes}
+use Rattle.std.specs.Prelude.{⊤, ℕ, List, [], ◌∷◌, ◌++◌, Bool, true, false, if◌then◌else◌, Option, None, Some, Result, Ok, Err, codes}
 use Rattle.kv_model.specs.Certificates.{Dump, Claim}
-use Rattle.certificate_text.specs.Reading.{same_text, version_of, claim_of, numbered}
+use Rattle.certificate_text.specs.Texts.{dump_head, needs_head}
+use Rattle.certificate_text.specs.Reading.{same_text, version_of, claim_in, numbered}
 
 abbrev pub Read : Type 0 → Type 0
 Read A = Result (A × List (List ℕ)) (List (List ℕ))
@@ -39,21 +40,31 @@ abbrev pub if_none_left : {A : Type 0} → A → List (List ℕ) → Result A (L
 if_none_left a [] = Ok a
 if_none_left a (line ∷ ls) = Err (line ∷ ls)
 
-unfoldable pub dump_of : List (List ℕ) → Read Dump
-dump_of ls = do
-  head ← line_by (exactly (codes "dump 2")) ls
+unfoldable pub dump_of : Bool → List (List ℕ) → Read Dump
+dump_of first ls = do
+  head ← line_by (exactly (dump_head first)) ls
   floor ← line_by (numbered (codes "floor")) head.1
   revision ← line_by (numbered (codes "revision")) floor.1
   versions ← up_to_end version_of revision.1
   Ok (record { floor = floor.0; revision = revision.0; versions = versions.0 }, versions.1)
 
-unfoldable pub needs_of : List (List ℕ) → Read (List Claim)
-needs_of ls = do
-  head ← line_by (exactly (codes "needs 2")) ls
-  up_to_end claim_of head.1
+unfoldable pub needs_of : Bool → List (List ℕ) → Read (List Claim)
+needs_of first ls = do
+  head ← line_by (exactly (needs_head first)) ls
+  up_to_end (claim_in first) head.1
 
-unfoldable pub text_read : List (List ℕ) → Result (Dump × List Claim) (List (List ℕ))
-text_read ls = do
-  dump ← dump_of ls
-  claims ← needs_of dump.1
+-- a text in a format
+unfoldable pub read_in : Bool → List (List ℕ) → Result (Dump × List Claim) (List (List ℕ))
+read_in first ls = do
+  dump ← dump_of first ls
+  claims ← needs_of first dump.1
   if_none_left (dump.0, claims.0) claims.1
+
+-- whether the first line is that of the first format
+abbrev pub begins_first : List (List ℕ) → Bool
+begins_first [] = false
+begins_first (line ∷ ls) = same_text line (dump_head true)
+
+-- a text in the format of its first line
+abbrev pub text_read : List (List ℕ) → Result (Dump × List Claim) (List (List ℕ))
+text_read ls = read_in (begins_first ls) ls

@@ -1,4 +1,5 @@
-//! The text of a dump and of what its versions are needed for, format 2: written and read.
+//! The text of a dump and of what its versions are needed for: written in format 2, and read in
+//! formats 1 and 2.
 //!
 //! The one contract: [`write`] gives the text of what it is handed, and [`read`] gives what a text
 //! is of, or the number of the first line at which no text goes on. `specs/Texts.antt` says what
@@ -19,6 +20,8 @@
 //! range 4 0 4
 //! end
 //! ```
+//!
+//! Format 1 has `dump 1` and `needs 1` in the place of `dump 2` and `needs 2`, and no line `prev`.
 //!
 //! Its tests stand in the crate `certificate_tests`.
 #![tactic(auto)]

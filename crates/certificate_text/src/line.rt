@@ -58,7 +58,7 @@ fn gone_of(alloc: Global, fields: &mut Fields<'_>) -> Result<Version, Unfit>
 
 /// The claim of a line `range MAIN SUB R`, `watch MAIN SUB R` or `prev MAIN SUB R`.
 #[tactic(auto, unfolding(crate::specs::Reading::claim_of))]
-pub(crate) fn claim_of(line: &[u8]) -> Result<Claim, Unfit>
+fn claim_of(line: &[u8]) -> Result<Claim, Unfit>
     ensures { Gives (λ c. c) result (reading.claim_of line.now) }
 {
     let mut fields = Fields::new(line);
@@ -105,6 +105,18 @@ fn prev_of(fields: &mut Fields<'_>) -> Result<Claim, Unfit>
     fields.end()?;
     let need = Need::Prev(revision);
     Ok(Claim { rev, need })
+}
+
+/// The claim of a line in a format. The first format has no line `prev MAIN SUB R`.
+#[tactic(auto, unfolding(crate::specs::Reading::claim_in))]
+pub(crate) fn claim_in(is_first: bool, line: &[u8]) -> Result<Claim, Unfit>
+    ensures { Gives (λ c. c) result (reading.claim_in is_first line.now) }
+{
+    let claim = claim_of(line)?;
+    match claim.need {
+        Need::Prev(_) if is_first => Err(Unfit::Form),
+        _ => Ok(claim),
+    }
 }
 
 /// The number behind this word, alone on a line.

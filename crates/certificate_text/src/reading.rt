@@ -6,11 +6,12 @@ ghost use Rattle.certificate_text.specs.Lines.{lines_of, IsTextOf};
 ghost use Rattle.certificate_text.specs.Outcomes.{IsUnreadable, Reads, ReadsAll, ReadsBack};
 ghost use Rattle.certificate_text.specs.Outcomes.{stopped};
 ghost use Rattle.certificate_text.specs.Reading as reading;
+ghost use Rattle.certificate_text.specs.Texts as texts;
 ghost use Rattle.certificate_text.specs.Texts.{AreInLimits};
 ghost use Rattle.certificate_text.specs.Walking as walking;
 
 use crate::fields::{Unfit, cut};
-use crate::line::{claim_of, numbered, version_of};
+use crate::line::{claim_in, numbered, version_of};
 use crate::stop::Stop;
 use kv_model::version::Version;
 use std::alloc::Global;
@@ -29,14 +30,15 @@ pub enum Unreadable {
     Memory,
 }
 
-/// What a text is the text of. Of what is read nothing need agree: versions need not rise, claims
-/// need not name them, and the floor may be above the revision.
+/// What a text is the text of, in format 1 or 2. Both parts of a text are of the same format, and
+/// format 1 has no needs of previous values. Of what is read nothing need agree: versions need not
+/// rise, claims need not name them, and the floor may be above the revision.
 ///
 /// The time is linear in the text. Memory: what is read, of which each key and value is a copy of
 /// its own.
 ///
-/// Fails with `Unreadable::Line` where the text is that of no dump, and with `Unreadable::Memory`
-/// where memory is wanting.
+/// Fails with `Unreadable::Line` where the text is that of no dump in either format, and with
+/// `Unreadable::Memory` where memory is wanting.
 pub fn read(alloc: Global, text: &[u8]) -> Result<(Dump, Certificate), Unreadable>
     ensures ok { IfOk result (λ r. IsTextOf text.now r.0 r.1 × AreInLimits r.0 r.1) }
     ensures unreadable { IfErr result (λ e. IsUnreadable text.now e) }
@@ -71,12 +73,30 @@ fn count_lines(text: &[u8]) -> usize
     count
 }
 
-#[tactic(auto, unfolding(crate::specs::Walking::text_read))]
+/// Reads a text in the format of its first line.
 fn text_read(alloc: Global, text: &[u8]) -> Result<(Dump, Certificate), Stop<'_>>
     ensures { ReadsAll (λ x. x) result (walking.text_read (lines_of text.now)) }
 {
-    let (dump, rest) = dump_of(alloc, text)?;
-    let (certificate, rest) = needs_of(alloc, rest)?;
+    read_in(alloc, begins_first(text), text)
+}
+
+/// Whether the first line is that of the first format.
+fn begins_first(text: &[u8]) -> bool
+    ensures { result ≡ walking.begins_first (lines_of text.now) }
+{
+    match first_line(text) {
+        Some((line, _)) => line == dump_head(true),
+        None => false,
+    }
+}
+
+/// Reads a text in a format.
+#[tactic(auto, unfolding(crate::specs::Walking::read_in))]
+fn read_in(alloc: Global, is_first: bool, text: &[u8]) -> Result<(Dump, Certificate), Stop<'_>>
+    ensures { ReadsAll (λ x. x) result (walking.read_in is_first (lines_of text.now)) }
+{
+    let (dump, rest) = dump_of(alloc, is_first, text)?;
+    let (certificate, rest) = needs_of(alloc, is_first, rest)?;
     match first_line(rest) {
         Some(_) => Err(Stop::At(rest)),
         None => Ok((dump, certificate)),
@@ -84,10 +104,10 @@ fn text_read(alloc: Global, text: &[u8]) -> Result<(Dump, Certificate), Stop<'_>
 }
 
 #[tactic(auto, unfolding(crate::specs::Walking::dump_of))]
-fn dump_of(alloc: Global, text: &[u8]) -> Result<(Dump, &[u8]), Stop<'_>>
-    ensures { Reads (λ x. x) result (walking.dump_of (lines_of text.now)) }
+fn dump_of(alloc: Global, is_first: bool, text: &[u8]) -> Result<(Dump, &[u8]), Stop<'_>>
+    ensures { Reads (λ x. x) result (walking.dump_of is_first (lines_of text.now)) }
 {
-    let ((), rest) = expect(b"dump 2", text)?;
+    let ((), rest) = expect(dump_head(is_first), text)?;
     let (floor, rest) = number_line(b"floor", rest)?;
     let (revision, rest) = number_line(b"revision", rest)?;
     let (versions, rest) = versions_up_to_end(alloc, rest)?;
@@ -100,12 +120,26 @@ fn dump_of(alloc: Global, text: &[u8]) -> Result<(Dump, &[u8]), Stop<'_>>
 }
 
 #[tactic(auto, unfolding(crate::specs::Walking::needs_of))]
-fn needs_of(alloc: Global, text: &[u8]) -> Result<(Certificate, &[u8]), Stop<'_>>
-    ensures { Reads (λ x. x) result (walking.needs_of (lines_of text.now)) }
+fn needs_of(alloc: Global, is_first: bool, text: &[u8]) -> Result<(Certificate, &[u8]), Stop<'_>>
+    ensures { Reads (λ x. x) result (walking.needs_of is_first (lines_of text.now)) }
 {
-    let ((), rest) = expect(b"needs 2", text)?;
-    let (claims, rest) = claims_up_to_end(alloc, rest)?;
+    let ((), rest) = expect(needs_head(is_first), text)?;
+    let (claims, rest) = claims_up_to_end(alloc, is_first, rest)?;
     Ok((Certificate { claims }, rest))
+}
+
+/// The first line of a dump in a format.
+fn dump_head(is_first: bool) -> &'static [u8]
+    ensures { result.now ≡ texts.dump_head is_first }
+{
+    if is_first { b"dump 1" } else { b"dump 2" }
+}
+
+/// The first line of needs in a format.
+fn needs_head(is_first: bool) -> &'static [u8]
+    ensures { result.now ≡ texts.needs_head is_first }
+{
+    if is_first { b"needs 1" } else { b"needs 2" }
 }
 
 /// Passes over this very line.
@@ -156,9 +190,13 @@ fn versions_up_to_end(alloc: Global, text: &[u8]) -> Result<(Vec<Version>, &[u8]
     Err(Stop::At(rest))
 }
 
-fn claims_up_to_end(alloc: Global, text: &[u8]) -> Result<(Vec<Claim>, &[u8]), Stop<'_>>
+fn claims_up_to_end(
+    alloc: Global,
+    is_first: bool,
+    text: &[u8],
+) -> Result<(Vec<Claim>, &[u8]), Stop<'_>>
     ensures { Reads (λ claims. claims.items) result
-        (walking.up_to_end reading.claim_of (lines_of text.now)) }
+        (walking.up_to_end (reading.claim_in is_first) (lines_of text.now)) }
 {
     let mut claims = Vec::new(alloc);
     let mut rest = text;
@@ -166,7 +204,7 @@ fn claims_up_to_end(alloc: Global, text: &[u8]) -> Result<(Vec<Claim>, &[u8]), S
         if is_end(line) {
             return Ok((claims, later));
         }
-        match claim_of(line) {
+        match claim_in(is_first, line) {
             Ok(claim) => claims.push(claim)?,
             Err(unfit) => return Err(stop_at(rest, unfit)),
         }

@@ -1,5 +1,5 @@
 //! A text written.
-ghost use Rattle.std.specs.Prelude.{◌≡◌, ◌++◌, [], ◌∷◌, map, decimal, IfOk, OnOk, string_bytes};
+ghost use Rattle.std.specs.Prelude.{◌≡◌, ◌++◌, [], ◌∷◌, false, map, decimal, IfOk, OnOk, string_bytes};
 ghost use Rattle.std.specs.Fmt.{signed_decimal};
 ghost use Rattle.certificate_text.specs.Texts as texts;
 ghost use Rattle.certificate_text.specs.Texts.{text_of, written};
@@ -12,7 +12,7 @@ use kv_model::version::{Body, Rev, Version};
 use std::alloc::{AllocError, Global};
 use witness_core::{Certificate, Claim, Dump, Need};
 
-/// The text of a dump and of its certificate.
+/// The text of a dump and of its certificate, in format 2.
 pub fn write(alloc: Global, dump: &Dump, certificate: &Certificate) -> Result<Vec<u8>, AllocError>
     ensures { IfOk result (λ text. text.items ≡ text_of dump.now certificate.now) }
 {
@@ -24,7 +24,7 @@ pub fn write(alloc: Global, dump: &Dump, certificate: &Certificate) -> Result<Ve
 
 fn write_dump(out: &mut String, dump: &Dump) -> Result<(), AllocError>
     ensures { OnOk result (string_bytes out.new
-        ≡ string_bytes out.old ++ written (texts.dump_lines dump.now)) }
+        ≡ string_bytes out.old ++ written (texts.dump_lines false dump.now)) }
 {
     out.push_str("dump 2\n")?;
     write_number(out, "floor", dump.floor)?;
@@ -53,7 +53,7 @@ fn write_list(out: &mut String, versions: &[Version]) -> Result<(), AllocError>
 
 fn write_needs(out: &mut String, certificate: &Certificate) -> Result<(), AllocError>
     ensures { OnOk result (string_bytes out.new
-        ≡ string_bytes out.old ++ written (texts.needs_lines certificate.now)) }
+        ≡ string_bytes out.old ++ written (texts.needs_lines false certificate.now)) }
 {
     out.push_str("needs 2\n")?;
     write_claims(out, &certificate.claims)?;

@@ -171,7 +171,7 @@ static SCRIPTS: [Row; 33] = [
     ),
 ];
 
-static CERTIFICATES: [Row; 15] = [
+static CERTIFICATES: [Row; 17] = [
     // A version whose need is another's.
     (
         b"dump 2\nfloor 0\nrevision 5\nput 2 0 :YQ== 2 1 0 :MQ==\nput 3 0 :Yg== 3 1 0 :MQ==\nput 4 0 :YQ== 2 2 0 :MQ==\nput 5 0 :YQ== 2 3 0 :MQ==\nend\nneeds 2\nrange 2 0 2\nrange 3 0 3\nrange 4 0 5\nrange 5 0 5\nend\n",
@@ -237,10 +237,20 @@ static CERTIFICATES: [Row; 15] = [
         b"dump 2\nfloor 3\nrevision 3\nput 2 0 :YQ== 2 1 0 :MQ==\ngone 3 0 :YQ==\nend\nneeds 2\nprev 2 0 2\nwatch 3 0 3\nend\n",
         b"refused: need unmet 2.0\n",
     ),
-    // A text of another format.
+    // A text of the first format.
     (
         b"dump 1\nfloor 0\nrevision 2\nput 2 0 :eA== 2 1 0 :MQ==\nput 2 1 :eQ== 2 1 0 :Mg==\nend\nneeds 1\nrange 2 0 2\nrange 2 1 2\nend\n",
-        b"unreadable: line 1\n",
+        b"least 2\n",
+    ),
+    // A dump of the first format, and needs of the second.
+    (
+        b"dump 1\nfloor 0\nrevision 2\nput 2 0 :eA== 2 1 0 :MQ==\nput 2 1 :eQ== 2 1 0 :Mg==\nend\nneeds 2\nrange 2 0 2\nrange 2 1 2\nend\n",
+        b"unreadable: line 7\n",
+    ),
+    // A previous value in the first format.
+    (
+        b"dump 1\nfloor 3\nrevision 3\nput 2 0 :YQ== 2 1 0 :MQ==\ngone 3 0 :YQ==\nend\nneeds 1\nprev 2 0 3\nwatch 3 0 3\nend\n",
+        b"unreadable: line 8\n",
     ),
     // An empty text.
     (b"", b"unreadable: line 1\n"),

@@ -3,3 +3,4 @@ pub mod Following
 pub mod Passing
 pub mod Faulty
 pub mod Kept
+pub mod Either

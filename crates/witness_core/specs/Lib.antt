@@ -3,3 +3,4 @@ pub mod Walks
 pub mod Faults
 pub mod Standing
 pub mod Making
+pub mod Older

@@ -32,9 +32,11 @@ pub mod dump;
 pub mod fault;
 mod making;
 mod nexts;
+mod older;
 
 pub use certificate::{Certificate, Claim, Need};
 pub use checking::{Least, check};
 pub use dump::Dump;
 pub use fault::NeedFault;
 pub use making::make;
+pub use older::needs_are_needs_by_either_test;
