@@ -8,6 +8,8 @@ mod calls;
 #[cfg(test)]
 mod lock_replies;
 #[cfg(test)]
+mod many_clients;
+#[cfg(test)]
 mod read_back;
 #[cfg(test)]
 mod readers;
