@@ -1,0 +1,7 @@
+use Rattle.engine_tests.proofs.many_clients.run_many.Given as goal
+
+abbrev pub ghosts-run-L-EngineName : goal.ghosts-run-L-EngineName
+ghosts-run-L-EngineName g a = record { book = a.opening.book }
+
+abbrev pub ghosts-run-L-Ledger : goal.ghosts-run-L-Ledger
+ghosts-run-L-Ledger g a = record { name = a.opening.name; parts = a.opening.parts }
