@@ -225,8 +225,10 @@ fn ended(made: Result<Core, Front>) -> Result<u64, Fault>
     ensures { MatchResult made (λ core. result ≡ Ok core.store.revision)
         (λ front. result ≡ Err (Fault.Server front)) }
 {
-    match made {
+    let told = match &made {
         Ok(core) => Ok(core.status().revision),
-        Err(front) => Err(Fault::Server(front)),
-    }
+        Err(front) => Err(Fault::Server(*front)),
+    };
+    drop(made);
+    told
 }
