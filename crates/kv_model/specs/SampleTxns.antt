@@ -112,9 +112,9 @@ abbrev pub none_deleted : ℕ → Replies
 none_deleted zero = Replies.no_replies
 none_deleted (suc n) = Replies.delete 0 [] (none_deleted n)
 
-pub most_operations : told_by opening (txn_event [] (deletes 128) Ops.no_ops ∷ txn_event [] (deletes 129) Ops.no_ops
+pub most_operations : told_by opening (txn_event [] (deletes 1024) Ops.no_ops ∷ txn_event [] (deletes 1025) Ops.no_ops
     ∷ [])
-    ≡ told 1 (Reply.txn true (none_deleted 128)) ∷ refused TooManyOps ∷ []
+    ≡ told 1 (Reply.txn true (none_deleted 1024)) ∷ refused TooManyOps ∷ []
 unfolding model_on_literals
 most_operations = refl
 

@@ -66,7 +66,7 @@ abbrev pub most_depth : ℕ
 most_depth = 8
 
 abbrev pub most_ops : ℕ
-most_ops = 128
+most_ops = 1024
 
 abbrev pub put_fault : PutRequest → Option Refusal
 put_fault p = option_or (refuse_if (is_empty p.key) NoKey)

@@ -13,7 +13,7 @@ pub enum Refusal {
     Future(u64),
     /// A key is empty.
     NoKey,
-    /// A transaction has more than 128 compares or operations in a branch.
+    /// A transaction has more than 1,024 compares or operations in a branch.
     TooManyOps,
     /// Two operations of a transaction that can run together change one key, one of them by a put.
     DuplicateKey,

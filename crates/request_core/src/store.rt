@@ -153,7 +153,7 @@ impl Core {
     ///
     /// A Txn is first refused for what its request shows, also in branches that do not run, and a
     /// transaction before its parts: `TooDeep` where it lies in eight others, `TooManyOps` where it
-    /// has more than 128 compares or operations of a branch, and `NoKey`, `ValueGiven` and
+    /// has more than 1,024 compares or operations of a branch, and `NoKey`, `ValueGiven` and
     /// `LeaseGiven` as each by itself; then `DuplicateKey` where operations that can run together
     /// put one key, or put a key and delete it; then, of the operations that run, in their order,
     /// `Compacted`, `Future`, `KeyMissing` and `LeaseMissing`; and `RevisionsSpent` last. `Memory`

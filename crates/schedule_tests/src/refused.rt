@@ -38,7 +38,7 @@ pub(crate) fn put_fault(put: &PutRequest) -> Answered {
 pub(crate) fn txn_fault(txn: &Txn, depth: u8) -> Answered {
     refuse_if(depth >= 8, Refusal::TooDeep)?;
     let sizes = [txn.compare.len(), txn.success.len(), txn.failure.len()];
-    refuse_if(sizes.iter().any(|size| *size > 128), Refusal::TooManyOps)?;
+    refuse_if(sizes.iter().any(|size| *size > 1_024), Refusal::TooManyOps)?;
     let lacks = txn.compare.iter().any(|c| c.range.key.is_empty());
     refuse_if(lacks, Refusal::NoKey)?;
     for operation in txn.success.iter().chain(txn.failure.iter()) {

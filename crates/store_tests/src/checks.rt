@@ -79,8 +79,8 @@ fn eight_lie_in_one_another(rt: HostRuntime) {
 }
 
 static SIZES: [(Walked, Option<Refusal>); 2] = [
-    (Walked::Compares(128), Some(Refusal::NoKey)),
-    (Walked::Compares(129), Some(Refusal::TooManyOps)),
+    (Walked::Compares(1_024), Some(Refusal::NoKey)),
+    (Walked::Compares(1_025), Some(Refusal::TooManyOps)),
 ];
 
 #[test]

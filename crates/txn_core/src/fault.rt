@@ -17,13 +17,13 @@ use kv_model::refusal::Refusal;
 const MOST_DEPTH: u8 = 8;
 
 /// How many compares, and how many operations of a branch, a transaction may have.
-const MOST_OPERATIONS: usize = 128;
+const MOST_OPERATIONS: usize = 1_024;
 
 /// The first fault of a transaction in the order of its document, whatever the state: a transaction
 /// before its parts, and of those its compares, the operations on success and those on failure, in
 /// branches that do not run too.
 ///
-/// `TooDeep` comes of a ninth transaction in one another, `TooManyOps` of more than 128 compares or
+/// `TooDeep` comes of a ninth transaction in one another, `TooManyOps` of more than 1,024 compares or
 /// operations of one branch, `NoKey` of an empty key of a compare or an operation, `ValueGiven` and
 /// `LeaseGiven` of a put that brings what it is to keep. Operations that may not run together are
 /// not looked for here.
