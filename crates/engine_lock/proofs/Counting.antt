@@ -1,7 +1,8 @@
 -- What a command and a step of expiry do to the revision, and that the core goes on standing for a world.
-use Rattle.std.proofs.Common.{◌≡◌, ◌≤◌, inl, inr, ℕ, ◌+◌, Bool, false, cond, Option, None, Some, Result, Ok, Err, refl, sym, ◌∙◌, ap, subst, arith}
+use Rattle.std.proofs.Common.{◌≡◌, ◌≤◌, inl, inr, ℕ, ◌+◌, Bool, true, false, cond, Option, None, Some, Result, Ok, Err, refl, sym, ◌∙◌, ap, subst, arith}
 use Rattle.std.proofs.Common.{List, ◌++◌}
-use Rattle.std.specs.Prelude.{is_some, IfOk, IfErr}
+use Rattle.std.specs.Prelude.{is_some, IfOk, IfErr, MatchBool, ⊤}
+use Rattle.std.proofs.lemmas.List.{append-nil}
 use Rattle.kv_model.specs.Feed.{Published}
 use Rattle.kv_model.specs.declared.refusal.Refusal.{Refusal}
 use Rattle.kv_model.specs.declared.ids.Ids.{Ids}
@@ -25,7 +26,7 @@ use Rattle.json_gateway.specs.Endings.{EndsAs}
 use Rattle.json_gateway.specs.Outcomes.{is_accepted}
 use Rattle.engine_lock.specs.declared.past.Given.{Given}
 use Rattle.engine_lock.specs.Fits.{IsLocked, change_by, change_by_expiry}
-use Rattle.engine_lock.specs.Locked.{Caller, Enters, IsTold, MakesExpiry, Performs, Submits, SubmitsExpiry, with_done}
+use Rattle.engine_lock.specs.Locked.{CatchesUp, Caller, Enters, IsTold, MakesExpiry, Performs, StaysOut, Submits, SubmitsExpiry, knowing, left, with_done}
 use Rattle.engine_lock.specs.Locked.{rise, rise_of_step, rise_of_expiry}
 
 -- the revision rose by so much
@@ -115,6 +116,22 @@ submitted ids c now total call old mid new log more o locked most same stands pe
   };
 }
 
+-- Nothing but the moment was handed in: what was appended says the world before it, and so the world at it.
+pub caught_up : (c : Caller) (now total : ℕ) (old mid : CoreState) (log : List Published)
+    → IsLocked old log total → c.made ≤ total → mid ≡ after_moment old now
+    → ((w : World) → StandsFor old.store w → StandsFor mid.store (at_moment w now))
+    → (b : Bool) (d : Caller) → IsTold b log c d → CatchesUp c now b d
+unfolding entered
+caught_up c now total old mid log locked most same stands b d known = record {
+  old = old;
+  enters = entered c.made now total old mid log locked most same stands;
+  publishes = record {
+    log = log;
+    said = locked.fits.said;
+    told = subst (λ l. IsTold b l c d) (sym (append-nil log)) known;
+  };
+}
+
 pub submitted_expiry : (c : Caller) (now total : ℕ) (old mid new : CoreState) (log more : List Published) (r : Result Expiry Refusal)
     → IsLocked old log total → c.made ≤ total → mid ≡ after_moment old now
     → ((w : World) → StandsFor old.store w → StandsFor mid.store (at_moment w now)) → MakesExpiry mid new r
@@ -139,6 +156,25 @@ submitted_expiry c now total old mid new log more r locked most same stands make
 pub told_same : (b : Bool) (log : List Published) (c mid later : Caller) (one : Given) (up : ℕ) → mid ≡ with_done c one up
     → IsTold b log mid later → IsTold b log c later
 told_same b log c mid later one up e h = subst (λ x. IsTold b log x later) e h
+
+-- a client that had left its reading, and was told of so much
+pub knows : (c out d : Caller) → out ≡ left c → d ≡ record out { reader = d.reader } → StaysOut out d → d ≡ knowing c d.reader.known
+knows c out d l e s =
+    e
+    ∙ ap (λ (x : Caller). record x { reader = d.reader }) l
+    ∙ (λ i. record c {
+      reader = record c.reader {
+        book = (s.0 ∙ ap (λ (x : Caller). x.reader.book) l) i;
+        known = d.reader.known;
+        inside = s.1 (ap (λ (x : Caller). x.reader.inside) l) i;
+      };
+    })
+
+-- or of nothing
+pub untold : (b : Bool) (c out d : Caller) (now : ℕ) → out ≡ left c → d ≡ knowing c d.reader.known → CatchesUp out now b d
+    → MatchBool b ⊤ (d ≡ left c)
+untold true c out d now l e h = tt
+untold false c out d now l e h = e ∙ ap (knowing c) (h.publishes.told ∙ ap (λ (x : Caller). x.reader.known) l)
 
 pub revised : (ids : Ids) (c : Caller) (now : ℕ) (call : Call) (o : Outcome) (b : Bool) (r s : ℕ) (later : Caller) → r ≡ s
     → Submits ids c now call (record { outcome = o; published = b; revision = s }) later

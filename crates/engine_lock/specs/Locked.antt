@@ -102,6 +102,14 @@ abbrev pub IsTold : Bool → List Published → Caller → Caller → Type 0
 IsTold published log c later =
     MatchBool published ((later.reader.known ≡ log) × IsPrefix c.reader.known log) (later.reader.known ≡ c.reader.known)
 
+-- one that is in no reading is in none afterwards, and its reader is of the same list
+abbrev pub StaysOut : Caller → Caller → Type 0
+StaysOut c later = (later.reader.book ≡ c.reader.book) × (c.reader.inside ≡ false → later.reader.inside ≡ false)
+
+-- a client that has left its reading, and knows of so much
+abbrev pub knowing : Caller → List Published → Caller
+knowing c log = record c { reader = record c.reader { known = log; inside = false } }
+
 -- what the operations before a holding say is this world, and where the holding published, the client was told of them
 -- and of this change
 pub record Publishes (w : World) (change : List Published) (published : Bool) (c later : Caller) : Type 0 where
@@ -174,6 +182,12 @@ pub record SubmitsExpiry (c : Caller) (now : ℕ) (r : Result Expiry Refusal) (l
   pub makes : MakesExpiry (after_moment old now) new r
   pub published : Bool
   pub publishes : Publishes (at_moment enters.world now) (change_by_expiry r (at_moment enters.world now)) published c later
+
+-- or nothing more was done, but the client was told of all that was
+pub record CatchesUp (c : Caller) (now : ℕ) (is_told : Bool) (later : Caller) : Type 0 where
+  pub old : CoreState
+  pub enters : Enters c.made now old
+  pub publishes : Publishes (at_moment enters.world now) [] is_told c later
 
 -- the watch of this number is told so in some world
 abbrev pub Tells : Ids → ℕ → Message → Type 0

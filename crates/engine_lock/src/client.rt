@@ -6,7 +6,7 @@ ghost use Rattle.store_laws.specs.Snapshots.{untrimmed_of};
 ghost use Rattle.snapshot_feed.specs.Answers.{AnswersOf, ReadsOrNot};
 ghost use Rattle.snapshot_feed.specs.States.{appended};
 ghost use Rattle.engine_lock.specs.Fits.{Fits};
-ghost use Rattle.engine_lock.specs.Locked.{IsTold, is_quiet, left, plus, told_to};
+ghost use Rattle.engine_lock.specs.Locked.{IsTold, StaysOut, is_quiet, left, plus, told_to};
 ghost use Rattle.engine_lock.specs.declared.past.Given.TheVariants as given;
 
 use crate::opening::EngineName;
@@ -142,6 +142,7 @@ impl<L: EngineName> Client<L> {
         requires book { feed.old.book ≡ L.book }
         ensures told { IsTold result (appended feed.old) self.old self.new }
         ensures others { self.new ≡ record self.old { reader = self.new.reader } }
+        ensures out { StaysOut self.old self.new }
         ensures feed { (appended feed.new ≡ appended feed.old) × (feed.new.book ≡ feed.old.book) }
     {
         if !published(rt, core, feed) {
@@ -155,6 +156,7 @@ impl<L: EngineName> Client<L> {
         requires { feed.now.book ≡ L.book }
         ensures told { IsTold result (appended feed.now) self.old self.new }
         ensures others { self.new ≡ record self.old { reader = self.new.reader } }
+        ensures out { StaysOut self.old self.new }
     {
         if !feed.is_settled() {
             return false;

@@ -1,11 +1,12 @@
 //! The engine: one event of the core for each holding of its lock.
 ghost use Rattle.std.specs.Prelude.{◌≡◌, ◌+◌, ◌<◌, is_ok, map, sum, length, IfOk, IfErr, OnErr};
-ghost use Rattle.std.specs.Prelude.{[], ◌∷◌, ◌++◌};
+ghost use Rattle.std.specs.Prelude.{[], ◌∷◌, ◌++◌, MatchBool, ⊤};
 ghost use Rattle.kv_model.specs.Commands.{call_of};
 ghost use Rattle.kv_model.specs.declared.refusal.Refusal.TheVariants.{Memory, NoPlace, NoWatch};
 ghost use Rattle.engine_lock.specs.Fits.{IsStanding};
 ghost use Rattle.engine_lock.specs.Locked.{Drops, Submits, SubmitsExpiry, Tells, Trims};
 ghost use Rattle.engine_lock.specs.Locked.{DropsFor, TellsTo, TrimsFor};
+ghost use Rattle.engine_lock.specs.Locked.{CatchesUp, knowing};
 ghost use Rattle.engine_lock.specs.Locked.{left, plus, rise, rise_of_expiry, told_to, with_done};
 ghost use Rattle.engine_lock.specs.declared.past.Given.TheVariants as given;
 
@@ -122,6 +123,26 @@ impl<L: EngineName> Engine<L> {
     {
         client.leave();
         locked(rt, &self.state).submit(rt, self.alloc, &self.ids, client, now, command)
+    }
+
+    /// Hands in the moment `now`, in milliseconds, and tells the client of all that the engine has
+    /// done, in one holding: each later reading of the client begins with it (etcd: the read index
+    /// of a linearizable read). So a Range that the client reads then beside the lock answers from a
+    /// state that was the engine's between this call and that reading.
+    ///
+    /// Says whether the client was told. It is not where something is not published yet, as a
+    /// trimming step, and publishing it finds no memory; then nothing has changed but the moment,
+    /// and the client's reading is left, as always.
+    ///
+    /// Constant time under the lock, but where something has to be published: then the cost is that
+    /// of `Feed::publish`, which waits for readings, too.
+    pub fn catch_up<R: Wait>(&self, rt: &R, client: &mut Client<L>, now: u64) -> bool
+        ensures catches { CatchesUp (left client.old) now result client.new }
+        ensures client { client.new ≡ knowing client.old client.new.reader.known }
+        ensures untold { MatchBool result ⊤ (client.new ≡ left client.old) }
+    {
+        client.leave();
+        locked(rt, &self.state).catch_up(rt, client, now)
     }
 
     /// Tells the watch of a number what it is told next, and moves it past that, as

@@ -10,7 +10,8 @@ ghost use Rattle.request_core.specs.Commands.{TrimsOnce};
 ghost use Rattle.request_core.specs.State.{after_moment};
 ghost use Rattle.snapshot_feed.specs.States.{appended};
 ghost use Rattle.engine_lock.specs.Fits.{Fits, IsStanding};
-ghost use Rattle.engine_lock.specs.Locked.{Caller, IsTold, Drops, EndsWatch, MakesExpiry, Performs};
+ghost use Rattle.engine_lock.specs.Locked.{CatchesUp, Caller, IsTold, StaysOut};
+ghost use Rattle.engine_lock.specs.Locked.{Drops, EndsWatch, MakesExpiry, Performs};
 ghost use Rattle.engine_lock.specs.Locked.{Submits, SubmitsExpiry, Tells, TellsFrom, Trims};
 ghost use Rattle.engine_lock.specs.Locked.{DropsFor, Sees, TellsTo, TrimsFor};
 ghost use Rattle.engine_lock.specs.Locked.{plus, rise, rise_of_expiry, told_to, with_done};
@@ -177,6 +178,7 @@ impl<L: EngineName> State<L> {
     fn tell<R: Wait>(&mut self, rt: &R, client: &mut Client<L>, has_appended: bool) -> bool
         ensures told { IsTold result self.old.log client.old client.new }
         ensures others { client.new ≡ record client.old { reader = client.new.reader } }
+        ensures out { StaysOut client.old client.new }
         ensures same { self.new ≡ self.old }
     {
         if has_appended {
@@ -184,6 +186,30 @@ impl<L: EngineName> State<L> {
         } else {
             client.learn(&self.feed)
         }
+    }
+
+    /// Hands in a moment, and tells the client of all that was done; says whether it did. Where some
+    /// of it is not published yet, it is published first.
+    pub(crate) fn catch_up<R: Wait>(&mut self, rt: &R, client: &mut Client<L>, now: u64) -> bool
+        ensures catches { CatchesUp client.old now result client.new }
+        ensures others { client.new ≡ record client.old { reader = client.new.reader } }
+        ensures out { StaysOut client.old client.new }
+        ensures clients { self.new.clients ≡ self.old.clients }
+    {
+        self.hand_in(client, now);
+        let has_pending = !self.feed.is_settled();
+        self.tell(rt, client, has_pending)
+    }
+
+    /// Hands in a moment. Whatever the client is told of then is what the holding tells it.
+    fn hand_in(&mut self, client: &mut Client<L>, now: u64)
+        ensures catches { (b : Bool) → (c : Caller) → IsTold b self.new.log client.old c
+            → CatchesUp client.old now b c }
+        ensures same { client.new ≡ client.old }
+        ensures clients { self.new.clients ≡ self.old.clients }
+    {
+        audit(&mut self.book, client);
+        moved(&mut self.core, &self.feed, now);
     }
 
     /// Hands in a moment and then makes a step of expiry; a change is the client's.

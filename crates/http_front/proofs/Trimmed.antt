@@ -29,18 +29,6 @@ refusal n b c c' e d later = AreTrimmed.again (subst (λ (x : Caller). AreTrimme
 pub last_refusal : (n : ℕ) (c c' : Caller) → c' ≡ left c → n + 1 ≡ 1000 → AreTrimmed n false c c'
 last_refusal n c c' e is = refusal n false c c' e c' (subst (λ (k : ℕ). AreTrimmed k false c' c') (sym is) AreTrimmed.given_up)
 
--- what a client does is the same after a reading that it has left
-pub does_left : (ids : Ids) (c d e : Caller) (command : Command) (o : Outcome) → left d ≡ left c → Does ids d command o e → Does ids c command o e
-does_left ids c d e command o same x = record {
-  now = x.now;
-  submitted = x.submitted;
-  told = x.told;
-  submits = subst (λ (k : Caller). Submits ids k x.now (call_of command) x.submitted x.told) same x.submits;
-  given_is = subst (λ (k : Caller). x.told ≡ record (with_done k (given.Done command x.now x.submitted.outcome) (rise x.submitted.outcome.raised))
-      { reader = x.told.reader }) same x.given_is;
-  awaits = x.awaits;
-}
-
 -- ---- an answer that waits for it, or does not
 
 pub off : (b : Bool) → not b ≡ true → b ≡ false

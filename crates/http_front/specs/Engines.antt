@@ -1,6 +1,6 @@
 -- What an engine answers a connection, on behalf of one of its clients: by the list of all that it gave that client, and
 -- by what the client read beside it.
-use Rattle.std.specs.Prelude.{◌≡◌, ◌⊎◌, ℕ, ◌+◌, Bool, true, false, List, Option, None, Some, Result, Ok, Err, ⊤}
+use Rattle.std.specs.Prelude.{◌≡◌, ◌⊎◌, ℕ, ◌+◌, Bool, true, false, List, Option, None, Some, Result, Ok, Err, MatchBool, ⊤}
 use mathlib.Core.List.{IsPrefix}
 use Rattle.kv_model.specs.declared.ids.Ids.{Ids}
 use Rattle.kv_model.specs.declared.call.Command.{Command}
@@ -28,7 +28,7 @@ use Rattle.json_gateway.specs.declared.outcome.Settled.{Settled}
 use Rattle.json_gateway.specs.declared.outcome.Settled.TheVariants as settled
 use Rattle.json_gateway.specs.Endings.{Refuses, fault_of_reading, is_want}
 use Rattle.json_gateway.specs.Outcomes.{response_of}
-use Rattle.engine_lock.specs.Locked.{Caller, left, plus, rise, with_done}
+use Rattle.engine_lock.specs.Locked.{Caller, knowing, left, plus, rise, with_done}
 use Rattle.engine_lock.specs.Locked as lock
 use Rattle.engine_lock.specs.declared.engine.Submitted.{Submitted}
 use Rattle.engine_lock.specs.declared.past.Given.TheVariants as given
@@ -104,12 +104,41 @@ pub record Reads (ids : Ids) (c : Caller) (q : RangeQuery) (o : Outcome) (c' : C
   pub bare : (o.raised ≡ None) × (o.watch ≡ None)
   pub client : c' ≡ record c { reader = record c.reader { known = log; inside = false } }
 
--- It is a Range that may be read beside the engine, and it was.
+-- The client left its reading and caught up: at some moment it was told of all that the engine had done.
+pub record CatchesUp (c later : Caller) : Type 0 where
+  pub now : ℕ
+  pub catches : lock.CatchesUp (left c) now true later
+  pub same : later ≡ knowing c later.reader.known
+
+-- A reading of a Range begins: a serializable one with what the client knows of, any other once the client caught up.
+abbrev pub Begins : Bool → Caller → Caller → Type 0
+Begins serializable c later = MatchBool serializable (later ≡ c) (CatchesUp c later)
+
+-- it left its reading, or caught up, and nothing else
+abbrev pub Stays : Caller → Caller → Type 0
+Stays c later = (left later ≡ left c) ⊎ CatchesUp c later
+
+-- a Range was read so
+pub record LooksUp (ids : Ids) (c : Caller) (query : RangeQuery) (o : Outcome) (c' : Caller) : Type 0 where
+  pub from : Caller
+  pub begins : Begins query.serializable c from
+  pub reads : Reads ids from query o c'
+
+-- Only for a Range that then had no entry to what is published does a client catch up that does not read.
+abbrev pub Starts : Command → Caller → Caller → Type 0
+Starts command c from = (left from ≡ left c) ⊎ ((query : RangeQuery) × (command ≡ commands.Range query) × CatchesUp c from)
+
+-- It was submitted.
+pub record Submits (ids : Ids) (c : Caller) (command : Command) (o : Outcome) (c' : Caller) : Type 0 where
+  pub from : Caller
+  pub starts : Starts command c from
+  pub does : Does ids from command o c'
+
+-- It is a Range, and it was read beside the engine.
 pub record Looks (ids : Ids) (c : Caller) (command : Command) (o : Outcome) (c' : Caller) : Type 0 where
   pub query : RangeQuery
   pub is : command ≡ commands.Range query
-  pub serializable : query.serializable ≡ true
-  pub reads : Reads ids c query o c'
+  pub looks : LooksUp ids c query o c'
 
 -- ---- a request
 
@@ -117,7 +146,7 @@ pub record Looks (ids : Ids) (c : Caller) (command : Command) (o : Outcome) (c' 
 pub record Did (ids : Ids) (c : Caller) (a : Asked) (o : Outcome) (c' : Caller) : Type 0 where
   pub command : Command
   pub is : request_of (path_asked a) a.body ≡ Ok (call_of command)
-  pub does : Does ids c command o c' ⊎ Looks ids c command o c'
+  pub does : Submits ids c command o c' ⊎ Looks ids c command o c'
 
 -- A request asked for none, and is refused in the words of its fault; the engine gave nothing.
 pub record Refused (c : Caller) (a : Asked) (o : Outcome) (c' : Caller) : Type 0 where

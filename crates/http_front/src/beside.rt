@@ -1,47 +1,87 @@
-//! Serializable Ranges, which a client reads beside the engine.
-ghost use Rattle.std.specs.Prelude.{◌≡◌, true, None, Ok, Result, IfSome, IfNone};
+//! Ranges, which a client reads beside the engine.
+ghost use Rattle.std.specs.Prelude.{◌≡◌, None, Ok, Result, IfSome, IfNone, MatchBool};
 ghost use Rattle.range_view.specs.Replies.{reply_view};
 ghost use Rattle.kv_model.specs.declared.refusal.Refusal.{Refusal as RefusalOf};
 ghost use Rattle.kv_model.specs.declared.call.Command.TheVariants as commands;
 ghost use Rattle.kv_model.specs.Ranges as ranges;
 ghost use Rattle.engine_lock.specs.Locked.{left};
-ghost use Rattle.http_front.specs.Engines.{IsAnswer, Looks, Reads, SettlesAs, response_over};
+ghost use Rattle.http_front.specs.Engines.{Begins, IsAnswer, Looks, LooksUp, Reads, SettlesAs};
+ghost use Rattle.http_front.specs.Engines.{Starts, Stays, response_over};
 
-use engine_lock::{Client, EngineName};
+use engine_lock::{Client, Engine, EngineName};
 use json_gateway::{Ids, Outcome, Refusal, Reply, Settled, declined, range_text};
 use kv_model::call::{Command, RangeQuery};
 use range_view::RangeReply;
 use std::alloc::Global;
+use std::sync::Wait;
 
-/// Answers a command beside the engine, where it is a serializable Range (the etcd documentation's
-/// RangeRequest) and the client has an entry to what is published; `None` where it has to be
-/// submitted. The reading is left as soon as the answer's text is made.
+/// Answers a command beside the engine, where it is a Range (the etcd documentation's RangeRequest)
+/// and the client has an entry to what is published; `None` where it has to be submitted. The
+/// reading is left as soon as the answer's text is made.
 ///
-/// The cost is that of `View::range`, and linear in the text. Waits for nobody.
-pub(crate) fn looked<L: EngineName>(
+/// A serializable Range begins with what the client has read and was told of. Any other is answered
+/// once the client was told of all that the engine has done at the moment `now`.
+///
+/// The cost is that of [`Engine::catch_up`] for a Range that is not serializable, that of
+/// `View::range`, and linear in the text. A serializable one waits for nobody.
+pub(crate) fn looked<L: EngineName, R: Wait>(
+    rt: &R,
     alloc: Global,
+    engine: &Engine<L>,
     client: &mut Client<L>,
+    now: u64,
     command: &Command,
-    ids: &Ids,
 ) -> Option<Outcome>
-    ensures looks { IfSome result (λ o. Looks ids.now client.old command.now o client.new) }
-    ensures none { IfNone result (left client.new ≡ left client.old) }
+    ensures looks { IfSome result (λ o. Looks engine.now client.old command.now o client.new) }
+    ensures none { IfNone result (Starts command.now client.old client.new) }
 {
-    match serializable(command) {
-        Some(query) => read_beside(alloc, client, query, ids),
+    match range_of(command) {
+        Some(query) => looked_up(rt, alloc, engine, client, now, query),
         None => None,
     }
 }
 
-/// The Range that a command is, where it may be answered by what is published.
-fn serializable(command: &Command) -> Option<&RangeQuery>
-    ensures { IfSome result
-        (λ q. (command.now ≡ commands.Range q.now) × (q.now.serializable ≡ true)) }
+/// The Range that a command is.
+fn range_of(command: &Command) -> Option<&RangeQuery>
+    ensures { IfSome result (λ q. command.now ≡ commands.Range q.now) }
 {
     match command {
-        Command::Range(query) if query.serializable => Some(query),
+        Command::Range(query) => Some(query),
         _ => None,
     }
+}
+
+/// Answers a Range beside the engine; `None` where it has to be submitted.
+fn looked_up<L: EngineName, R: Wait>(
+    rt: &R,
+    alloc: Global,
+    engine: &Engine<L>,
+    client: &mut Client<L>,
+    now: u64,
+    query: &RangeQuery,
+) -> Option<Outcome>
+    ensures looks { IfSome result (λ o. LooksUp engine.now client.old query.now o client.new) }
+    ensures none { IfNone result (Stays client.old client.new) }
+{
+    if !may_begin(rt, engine, client, now, query) {
+        return None;
+    }
+    read_beside(alloc, client, query, engine.ids())
+}
+
+/// Whether a Range may be answered by what is published from now on, once the client was told of
+/// all that the engine has done where the Range asks for that.
+fn may_begin<L: EngineName, R: Wait>(
+    rt: &R,
+    engine: &Engine<L>,
+    client: &mut Client<L>,
+    now: u64,
+    query: &RangeQuery,
+) -> bool
+    ensures { MatchBool result (Begins query.now.serializable client.old client.new)
+        (client.new ≡ left client.old) }
+{
+    query.serializable || engine.catch_up(rt, client, now)
 }
 
 /// Answers a Range from what is published; `None` where the client has no entry to it.

@@ -2,7 +2,7 @@
 ghost use Rattle.std.specs.Prelude.{◌≡◌, ◌⊎◌, None};
 ghost use Rattle.json_gateway.specs.Endings.{Refuses, fault_of_reading, is_want};
 ghost use Rattle.http_front.specs.Engines as engines;
-ghost use Rattle.http_front.specs.Engines.{AreTrimmed, Awaits, Does, Looks, lost_answer};
+ghost use Rattle.http_front.specs.Engines.{AreTrimmed, Awaits, Does, Looks, Submits, lost_answer};
 
 use crate::beside::looked;
 use crate::gate::{Clock, Gate};
@@ -101,7 +101,7 @@ fn refused(alloc: Global, bad: Bad) -> Outcome
     }
 }
 
-/// Does a command: reads it beside the engine where that may be, and else submits it.
+/// Does a command: reads a Range beside the engine where it can be, and else submits it.
 fn done<L: EngineName, R: Wait>(
     rt: &R,
     alloc: Global,
@@ -110,10 +110,10 @@ fn done<L: EngineName, R: Wait>(
     now: u64,
     command: &Command,
 ) -> Outcome
-    ensures { Does engine.now client.old command.now result client.new
+    ensures { Submits engine.now client.old command.now result client.new
         ⊎ Looks engine.now client.old command.now result client.new }
 {
-    if let Some(outcome) = looked(alloc, client, command, engine.ids()) {
+    if let Some(outcome) = looked(rt, alloc, engine, client, now, command) {
         return outcome;
     }
     performed(rt, engine, client, now, command)

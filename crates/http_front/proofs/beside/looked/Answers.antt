@@ -1,9 +1,10 @@
-use Rattle.http_front.proofs.Readings.{left_twice, looks_as}
+use Rattle.http_front.proofs.Readings.{looks_as, starts_as}
 use Rattle.http_front.proofs.beside.looked.Goals as goal
 
 pub returns-in-Some-clause-looks : goal.returns-in-Some-clause-looks
-returns-in-Some-clause-looks g c = looks_as c.args.ids.now c.args.client.now c.read_beside.new.client c.in-Some.query.now c.args.command.now
-    c.read_beside.result c.in-Some.ensures.0 c.in-Some.ensures.1 c.read_beside.ensures.reads
+returns-in-Some-clause-looks g c = looks_as c.args.engine.now c.args.client.now c.looked_up.new.client c.in-Some.query.now c.args.command.now
+    c.looked_up.result c.in-Some.ensures c.looked_up.ensures.looks
 
 pub returns-in-Some-clause-none : goal.returns-in-Some-clause-none
-returns-in-Some-clause-none g c = left_twice c.args.client.now c.read_beside.new.client c.read_beside.result c.read_beside.ensures.none
+returns-in-Some-clause-none g c = starts_as c.args.command.now c.in-Some.query.now c.args.client.now c.looked_up.new.client c.looked_up.result
+    c.in-Some.ensures c.looked_up.ensures.none
