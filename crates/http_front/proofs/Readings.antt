@@ -76,4 +76,4 @@ pub starts_as : (command : Command) (q : RangeQuery) (c d : Caller) (r : Option 
     → IfNone r (Stays c d) → IfNone r (Starts command c d)
 starts_as command q c d (Some o) is h = tt
 starts_as command q c d None is (inl h) = inl h
-starts_as command q c d None is (inr h) = inr (q, (is, h))
+starts_as command q c d None is (inr h) = inr (q, is, h)
