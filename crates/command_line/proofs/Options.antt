@@ -15,7 +15,7 @@ use Rattle.clap.specs.declared.parser.matches.Found.{Found}
 use Rattle.clap.proofs.OnLiterals.{clap_on_literals}
 use Rattle.clap.proofs.WalkLemmas.{first_value-rows, one_text-rows}
 use Rattle.command_line.specs.declared.words.Serve.{Serve}
-use Rattle.command_line.specs.Arguments.{AsksToServe, IsFound, IsGiven, IsInRange, IsNumber, is_end_of_options, serving}
+use Rattle.command_line.specs.Arguments.{AsksToServe, IsFound, IsGiven, IsInRange, IsNumber, is_end_of_options, is_set, serving}
 use Rattle.commands.specs.declared.fault.Fault.{Fault}
 use Rattle.commands.specs.declared.fault.Fault.TheVariants as fault
 
@@ -37,6 +37,7 @@ given_by_rows f rows s e g = record {
   connections = subst (λ t. IsNumber t 0 s.connections) (read (codes "connections")) g.connections;
   cluster = subst (λ t. IsNumber t 1 s.cluster) (read (codes "cluster-id")) g.cluster;
   member = subst (λ t. IsNumber t 1 s.member) (read (codes "member-id")) g.member;
+  control = g.control ∙ ap is_set (first_value-rows f (codes "control") ∙ ap (first_of (codes "control")) e);
 }
   where
     read : (name : Text) → one_text f name ≡ one_of name rows
@@ -50,6 +51,7 @@ found_by_rows f rows s e g = record {
   connections = subst (λ t. IsNumber t 0 s.connections) (read (codes "connections")) g.connections;
   cluster = subst (λ t. IsNumber t 1 s.cluster) (read (codes "cluster-id")) g.cluster;
   member = subst (λ t. IsNumber t 1 s.member) (read (codes "member-id")) g.member;
+  control = g.control ∙ ap is_set (sym (first_value-rows f (codes "control") ∙ ap (first_of (codes "control")) e));
 }
   where
     read : (name : Text) → one_of name rows ≡ one_text f name

@@ -1,6 +1,6 @@
 -- The words of a command line.
 use Rattle.std.specs.Prelude.{◌≡◌, ℕ, ◌<◌, ◌≤◌, ◌^◌, List, [], ◌∷◌, drop, Bool, true, false, nat_eq, codes}
-use Rattle.std.specs.Prelude.{Option, Some, MatchOption}
+use Rattle.std.specs.Prelude.{Option, None, Some, MatchOption}
 use Rattle.std.specs.Cmp.Lexicographic.{pointwise}
 use Rattle.std.specs.List.{list_any}
 use Rattle.std.specs.Str.Parse.{IsNumeral, digits_value, without_leading_plus}
@@ -9,6 +9,7 @@ use Rattle.clap.specs.Simple.{App, matches_of, new_app, new_rule, on_top, with_r
 use Rattle.clap.specs.Walk.{Row, Rule, first_of, one_of}
 use Rattle.clap.specs.Matches.{first_value, one_text}
 use Rattle.clap.specs.declared.parser.matches.Found.{Found}
+use Rattle.clap.specs.declared.builder.action.ArgAction.TheVariants.{SetTrue}
 use Rattle.clap.specs.declared.builder.value_parser.ValueParser.TheVariants as value
 use Rattle.command_line.specs.declared.words.Args.{Args}
 use Rattle.command_line.specs.declared.words.Args.TheVariants as args
@@ -58,14 +59,18 @@ option_rule name = record (new_rule name) { long = Some name }
 abbrev pub number_rule : List ℕ → Rule
 number_rule name = record (option_rule name) { parser = Some (value.Unsigned 0 18446744073709551615) }
 
+-- one that stands alone
+abbrev pub switch_rule : List ℕ → Rule
+switch_rule name = record (option_rule name) { action = Some SetTrue }
+
 abbrev pub address_rule : Rule
 address_rule = record (option_rule (codes "listen")) { required = true }
 
 -- what clap reads: the options of a server
 unfoldable pub serving : App
-serving = with_rule (with_rule (with_rule (with_rule (with_rule (new_app (codes "serve")) address_rule)
+serving = with_rule (with_rule (with_rule (with_rule (with_rule (with_rule (new_app (codes "serve")) address_rule)
     (number_rule (codes "workers"))) (number_rule (codes "connections"))) (number_rule (codes "cluster-id")))
-    (number_rule (codes "member-id"))
+    (number_rule (codes "member-id"))) (switch_rule (codes "control"))
 
 -- what clap finds for them in the words of a command line
 abbrev pub options_in : List (List ℕ) → List Row
@@ -76,6 +81,11 @@ abbrev pub IsNumber : Option (List ℕ) → ℕ → ℕ → Type 0
 IsNumber text otherwise n = MatchOption text (n ≡ otherwise)
     (λ t. IsNumeral 10 (without_leading_plus t) × (n ≡ digits_value 10 (without_leading_plus t)))
 
+-- an option that stands alone was given
+abbrev pub is_set : Option (List ℕ) → Bool
+is_set None = false
+is_set (Some text) = pointwise nat_eq text (codes "true")
+
 -- each option of a server is what stands for its name, or what it is otherwise; an address as it is written, and a
 -- number as it is read
 pub record IsGiven (written read : List ℕ → Option (List ℕ)) (s : Serve) : Type 0 where
@@ -84,6 +94,7 @@ pub record IsGiven (written read : List ℕ → Option (List ℕ)) (s : Serve) :
   pub connections : IsNumber (read (codes "connections")) 0 s.connections
   pub cluster : IsNumber (read (codes "cluster-id")) 1 s.cluster
   pub member : IsNumber (read (codes "member-id")) 1 s.member
+  pub control : s.control ≡ is_set (written (codes "control"))
 
 -- by what clap found
 abbrev pub IsFound : Found → Serve → Type 0

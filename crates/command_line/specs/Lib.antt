@@ -1,2 +1,3 @@
 pub mod Arguments
 pub mod Serving
+pub mod Controls

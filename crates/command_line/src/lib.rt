@@ -20,9 +20,11 @@
 //! The tests stand in the crate `server_tests`, in `src/streams.rt` and `src/serving.rt`.
 #![tactic(auto)]
 
+mod control;
 mod filters;
 mod serving;
 mod words;
 
+pub use control::serve_controlled;
 pub use serving::serve_on;
 pub use words::{Args, Serve, arguments};

@@ -100,7 +100,7 @@ fn tell_end<W: Write>(w: &mut W, ended: Result<u64, Fault>) -> Result<(), Fault>
 }
 
 /// Writes the last line, and hands it on.
-fn write_closing<W: Write>(w: &mut W, revision: u64) -> io::Result<()>
+pub(crate) fn write_closing<W: Write>(w: &mut W, revision: u64) -> io::Result<()>
     ensures { Writes result (W.contents w.old) (W.contents w.new) (closing_line revision) }
 {
     write_line(w, revision)?;
@@ -132,7 +132,7 @@ fn run_server<R: Wait + Threads + time::Clock + Sync>(
 }
 
 /// How many clients a server has: one for each worker, and one for the leases that end.
-fn clients_of(serve: &Serve<'_>) -> u64
+pub(crate) fn clients_of(serve: &Serve<'_>) -> u64
     ensures { result ≡ min (serve.now.workers + 1) (2 ^ 64 - 1) }
 {
     serve.workers.saturating_add(1)
@@ -157,7 +157,7 @@ fn closed_revision<L: EngineName + Send + Sync, R: Wait + Threads + time::Clock 
 }
 
 /// An engine that answers by the ids of a server.
-fn engine_of<L: EngineName>(alloc: Global, opening: Opening, serve: &Serve<'_>) -> Engine<L>
+pub(crate) fn engine_of<L: EngineName>(alloc: Global, opening: Opening, serve: &Serve<'_>) -> Engine<L>
     requires name { opening.name ≡ L.Ledger.name }
     requires parts { opening.parts ≡ L.Ledger.parts }
     requires book { opening.book ≡ L.book }
@@ -179,7 +179,7 @@ fn ids_of(serve: &Serve<'_>) -> Ids
 }
 
 /// After how many connections a server ends.
-fn connections_of(serve: &Serve<'_>) -> u64
+pub(crate) fn connections_of(serve: &Serve<'_>) -> u64
     ensures { result ≡ connections_of serve.now }
 {
     match serve.connections {
@@ -221,7 +221,7 @@ fn run_pool<L: EngineName + Send + Sync, R: Wait + Threads + time::Clock + Sync>
 }
 
 /// The revision of the core that a server gave back, or why it gave none.
-fn ended(made: Result<Core, Front>) -> Result<u64, Fault>
+pub(crate) fn ended(made: Result<Core, Front>) -> Result<u64, Fault>
     ensures { MatchResult made (λ core. result ≡ Ok core.store.revision)
         (λ front. result ≡ Err (Fault.Server front)) }
 {

@@ -1,17 +1,17 @@
 //! The program's arguments.
 ghost use Rattle.std.specs.Prelude.{◌≡◌, ◌≢◌, ◌≤◌, ◌||◌, ℕ, List, false, true, IfOk, IfErr, map};
 ghost use Rattle.std.specs.Prelude.{if◌then◌else◌, nat_lt, unwrap_or, string_bytes, None, Some};
-ghost use Rattle.std.specs.Prelude.{MatchOption};
+ghost use Rattle.std.specs.Prelude.{MatchOption, option_map};
 ghost use Rattle.std.specs.List.{list_any};
 ghost use Rattle.clap.specs.Words.{app_of, found_of, kind_of, one_text, rule_of};
 ghost use Rattle.command_line.specs.Arguments.{Asks, AsksToServe, IsCommand, IsFound, IsInRange};
 ghost use Rattle.command_line.specs.Arguments.{IsNoCommand, IsNumber, asks_serve, is_end_of_options};
-ghost use Rattle.command_line.specs.Arguments.{number_rule, serving};
+ghost use Rattle.command_line.specs.Arguments.{is_set, number_rule, serving, switch_rule};
 ghost use Rattle.commands.specs.Faults.{is_of_words};
 
 use crate::filters::{Filter, filter_of};
 use clap::error::ErrorKind;
-use clap::{Arg, ArgMatches, Command, Error};
+use clap::{Arg, ArgAction, ArgMatches, Command, Error};
 use commands::Fault;
 use std::alloc::{AllocError, Global};
 
@@ -38,6 +38,8 @@ pub struct Serve<'a> {
     /// The cluster and the member that answer, from 1 to 2^63 - 1.
     pub cluster: u64,
     pub member: u64,
+    /// Whether it is controlled by lines on standard input, and ends at their end.
+    pub control: bool,
 }
 
 /// The greatest number of an argument.
@@ -47,7 +49,7 @@ const MOST: u64 = 9_223_372_036_854_775_807;
 /// `check`, with nothing after them, and `serve` with its options, each once, in any order:
 /// `--listen` and an address, which is required; `--workers` and 2 to 32, which is 8 otherwise;
 /// `--connections` and 0 to 2^63 - 1, which is 0 otherwise; `--cluster-id` and `--member-id` and 1
-/// to 2^63 - 1, which are 1 otherwise.
+/// to 2^63 - 1, which are 1 otherwise; and `--control` alone.
 ///
 /// Fails with `Fault::Arguments` for any other words; where the command is not `serve`, whether or
 /// not there is memory. Fails with `Fault::Memory` where memory is wanting to read them; nothing
@@ -129,7 +131,8 @@ fn serve_command<'a>(alloc: Global) -> Result<Command<'a>, AllocError>
         .arg(number(alloc, "workers"))?
         .arg(number(alloc, "connections"))?
         .arg(number(alloc, "cluster-id"))?
-        .arg(number(alloc, "member-id"))
+        .arg(number(alloc, "member-id"))?
+        .arg(switch(alloc, "control"))
 }
 
 /// An option that has a number.
@@ -140,6 +143,14 @@ fn number<'a>(alloc: Global, name: &'a str) -> Arg<'a>
     Arg::new(alloc, name)
         .long(name)
         .value_parser(clap::value_parser!(u64))
+}
+
+/// An option that stands alone.
+fn switch<'a>(alloc: Global, name: &'a str) -> Arg<'a>
+    ensures rule { rule_of result ≡ switch_rule name.entry.now }
+    ensures local { result.global ≡ false }
+{
+    Arg::new(alloc, name).long(name).action(ArgAction::SetTrue)
 }
 
 /// What these words ask for.
@@ -171,7 +182,18 @@ fn asked<'a>(matches: &ArgMatches<'a>) -> Result<Serve<'a>, Fault>
         connections,
         cluster,
         member,
+        control: is_set(matches.get_str("control")),
     })
+}
+
+/// Whether an option that stands alone was given, by its text.
+fn is_set(text: Option<&str>) -> bool
+    ensures { result ≡ is_set (option_map (λ t. t.now) text.entry) }
+{
+    match text {
+        Some(text) => text == "true",
+        None => false,
+    }
 }
 
 /// The number of an option, or the one that stands for none, where it is in its range.

@@ -4,3 +4,4 @@ pub mod Numbers
 pub mod Reading
 pub mod Writing
 pub mod Verdicts
+pub mod Orders

@@ -5,3 +5,4 @@ pub mod Lines
 pub mod Writes
 pub mod Said
 pub mod Judging
+pub mod Controlling

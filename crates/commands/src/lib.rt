@@ -22,12 +22,16 @@
 //!                                                       ..
 //! ```
 //!
+//! [`control`] answers lines one at a time, of a server that runs ([`Controlling`]): those of `AT`,
+//! `EXPIRE`, `TRIM` and `CERTIFY`, in the words that a script's replies have.
+//!
 //! [`Fault`] says why the program ends before its work is done, a server too, and [`write_number`]
 //! writes a line that ends in a number, whole or up to a failed write.
 //!
 //! The tests stand in the crate `server_tests`, in `src/streams.rt`, and in `tests/rows.d`.
 #![tactic(auto)]
 
+mod controlling;
 mod counted;
 mod fault;
 mod input;
@@ -38,6 +42,7 @@ mod replies;
 mod said;
 mod script;
 
+pub use controlling::{Controlling, Order, control};
 pub use fault::{Fault, fault_of_words};
 pub use http_reply::Front;
 pub use judging::{Verdict, check};

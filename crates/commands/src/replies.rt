@@ -145,7 +145,7 @@ fn write_text<W: Write>(w: &mut W, texts: &[Vec<u8>], place: usize) -> io::Resul
 
 /// Writes the line of an event's outcome. What is kept has lines of its own: without them no memory
 /// was found.
-fn write_outcome<W: Write>(
+pub fn write_outcome<W: Write>(
     w: &mut W,
     event: &WireEvent<'_>,
     outcome: &WireOutcome,
@@ -185,7 +185,7 @@ fn write_settled<W: Write>(w: &mut W, settled: &Settled) -> io::Result<()>
 }
 
 /// Writes that an event found no memory.
-fn write_out_of_memory<W: Write>(w: &mut W, event: &WireEvent<'_>) -> io::Result<()>
+pub fn write_out_of_memory<W: Write>(w: &mut W, event: &WireEvent<'_>) -> io::Result<()>
     ensures { Writes result (W.contents w.old) (W.contents w.new)
         (spec.memory_line (event_view event.now)) }
 {

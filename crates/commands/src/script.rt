@@ -144,7 +144,7 @@ fn post(rest: &[u8]) -> WireEvent<'_>
 }
 
 /// The first line of a text that is not empty, without its end, and the text after that.
-fn first_line(text: &[u8]) -> (&[u8], &[u8])
+pub fn first_line(text: &[u8]) -> (&[u8], &[u8])
     requires { 0 < length text.now }
     ensures line { lines text.now ≡ result.0.now ∷ lines result.1.now }
     ensures shorter { length result.1.now < length text.now }

@@ -1,4 +1,5 @@
 pub mod Fits
 pub mod Locked
+pub mod Orders
 pub mod PastViews
 pub mod Pasts

@@ -10,6 +10,8 @@ ghost use Rattle.engine_lock.specs.Locked.{CatchesUp, knowing};
 ghost use Rattle.engine_lock.specs.Locked.{left, plus, rise, rise_of_expiry, told_to, with_done};
 ghost use Rattle.engine_lock.specs.declared.past.Given.TheVariants as given;
 
+mod orders;
+
 use crate::client::Client;
 use crate::closing::CloseFault;
 use crate::opening::{EngineName, Opening};

@@ -17,6 +17,8 @@ ghost use Rattle.engine_lock.specs.Locked.{DropsFor, Sees, TellsTo, TrimsFor};
 ghost use Rattle.engine_lock.specs.Locked.{plus, rise, rise_of_expiry, told_to, with_done};
 ghost use Rattle.engine_lock.specs.declared.past.Given.TheVariants as given;
 
+mod orders;
+
 use crate::MOST_CLIENTS;
 use crate::client::{Client, published};
 use crate::engine::Submitted;

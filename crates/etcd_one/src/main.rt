@@ -20,7 +20,7 @@
 //! itself for its exit status and what it writes to standard error.
 #![tactic(auto)]
 
-pub use command_line::{Args, Serve, arguments, serve_on};
+pub use command_line::{Args, Serve, arguments, serve_controlled, serve_on};
 use commands::fault_of_words;
 pub use commands::{Fault, Verdict, check, replay};
 use std::io::BufWriter;
@@ -101,13 +101,13 @@ fn serve_all<
     if let Ok(address) = listener.local_addr() {
         let _ = eprintln!(rt; "listening on {address}");
     }
-    serve_on(
-        rt,
-        rt.alloc(),
-        &listener,
-        &Args::Serve(*serve),
-        &mut io::writer(rt),
-    )
+    let args = Args::Serve(*serve);
+    let mut writer = io::writer(rt);
+    if serve.control {
+        let mut reader = rt.reader();
+        return serve_controlled(rt, rt.alloc(), &listener, &args, &mut reader, &mut writer);
+    }
+    serve_on(rt, rt.alloc(), &listener, &args, &mut writer)
 }
 
 fn main(rt: HostRuntime) -> ExitCode {

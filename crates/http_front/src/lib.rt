@@ -16,6 +16,9 @@
 //! reader that `pool` hands in look at the peer (`peer.rt`), so that no client keeps a worker for
 //! nothing.
 //!
+//! [`pool_directed`] serves without the two threads beside the connections, until somebody ends it
+//! ([`Directing`]).
+//!
 //! Each thread is started in a small function of its own (`threads.rt`): what a thread asks of its
 //! closure, that it may cross, is proved where little else is known.
 //!
@@ -26,6 +29,7 @@ mod background;
 mod beside;
 mod by_engine;
 mod connection;
+mod directed;
 mod door;
 pub mod gate;
 mod peer;
@@ -34,6 +38,7 @@ mod threads;
 mod workers;
 
 pub use connection::work;
+pub use directed::{Directing, pool_directed};
 pub use door::MOST_CONNECTIONS;
 pub use gate::{Clock, Gate, OpenGate};
 pub use http_head::Head;

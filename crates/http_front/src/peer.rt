@@ -35,6 +35,8 @@ pub(crate) struct Peer<'s> {
     stream: &'s TcpStream,
     listener: &'s TcpListener,
     door: &'s Mutex<Door>,
+    /// Whether the server ends.
+    ended: &'s AtomicBool,
     /// Whether no byte of the next request has come.
     awaits: AtomicBool,
 }
@@ -47,6 +49,7 @@ impl<'s> Peer<'s> {
         stream: &'s TcpStream,
         listener: &'s TcpListener,
         door: &'s Mutex<Door>,
+        ended: &'s AtomicBool,
     ) -> Self {
         // Without it a reply may wait for the peer to take note of the one before.
         let _ = stream.set_nodelay(true);
@@ -56,6 +59,7 @@ impl<'s> Peer<'s> {
             stream,
             listener,
             door,
+            ended,
             awaits: AtomicBool::new(false),
         }
     }
@@ -96,6 +100,23 @@ impl<'s> Peer<'s> {
         came
     }
 
+    /// Whether the server ends.
+    fn is_ending(&self) -> bool {
+        self.ended.load(Ordering::SeqCst)
+    }
+
+    /// Whether the connection is to end, after so many waits in a row without a byte; `awaits` tells
+    /// whether no byte of the next request has come. Where the server ends it is between requests at
+    /// once, and within one once it is idle; else it is between requests once it is idle, and another
+    /// client waits for a worker, and none is free.
+    fn is_over(&self, awaits: bool, waits: u64) -> bool {
+        let is_idle = waits >= IDLE_WAITS;
+        if self.is_ending() {
+            return awaits || is_idle;
+        }
+        awaits && is_idle && self.is_in_the_way()
+    }
+
     /// Whether another client waits for a worker, and none is free.
     fn is_in_the_way(&self) -> bool {
         match self.door.try_lock() {
@@ -114,7 +135,7 @@ fn has_waited(error: &io::Error) -> bool {
     matches!(error.kind(), ErrorKind::WouldBlock | ErrorKind::Interrupted)
 }
 
-/// A gate that knows the client of its connection, too.
+/// A gate that knows the client of its connection, too. Where the server ends, every client has left.
 #[derive(Drop)]
 pub(crate) struct PeerGate<'p, 's, G> {
     pub(crate) gate: &'p G,
@@ -136,12 +157,13 @@ impl<'p, 's, G: Gate> Gate for PeerGate<'p, 's, G> {
     }
 
     fn has_left(&self, call: u64) -> bool {
-        self.peer.has_left() || self.gate.has_left(call)
+        self.peer.is_ending() || self.peer.has_left() || self.gate.has_left(call)
     }
 }
 
 /// What comes from the client of a connection. It ends, too, where no byte of a next request has
-/// come for a second, and another client waits for a worker, and none is free.
+/// come for a second, and another client waits for a worker, and none is free; and where the server
+/// ends, between requests, or within one once no byte of it has come for a second.
 #[derive(Drop)]
 pub(crate) struct Coming<'p, 's> {
     pub(crate) peer: &'p Peer<'s>,
@@ -150,13 +172,16 @@ pub(crate) struct Coming<'p, 's> {
 impl<'p, 's> Read for Coming<'p, 's> {
     fn read(&mut self, buf: &mut [u8]) -> io::Result<usize> {
         let awaits = self.peer.awaits.swap(false, Ordering::SeqCst);
+        if awaits && self.peer.is_ending() {
+            return Ok(0);
+        }
         let mut stream = self.peer.stream;
         for waits in 1..u64::MAX {
             match stream.read(buf) {
                 Err(error) if error.kind() == ErrorKind::WouldBlock => {}
                 came => return came,
             }
-            if awaits && waits >= IDLE_WAITS && self.peer.is_in_the_way() {
+            if self.peer.is_over(awaits, waits) {
                 break;
             }
         }

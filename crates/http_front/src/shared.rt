@@ -15,7 +15,9 @@ pub(crate) struct Shared<'s, L: EngineName, G, C> {
     pub(crate) listener: &'s TcpListener,
     /// Under which a worker accepts a connection.
     pub(crate) door: Mutex<Door>,
-    /// Whether the workers have ended, so that the threads beside them end, too.
+    /// Whether the server ends: no further connection is let in, each worker ends after the request
+    /// that it is in, and so do the threads beside them. Without a director it is set once the workers
+    /// have ended.
     pub(crate) ended: AtomicBool,
 }
 

@@ -73,7 +73,7 @@ where
 
 /// Why a server ends before its connections do.
 #[derive(Clone, Copy, Debug, PartialEq, Eq)]
-enum Trouble {
+pub(crate) enum Trouble {
     /// A thread could not be started.
     Spawn,
     /// An accept failed.
@@ -95,7 +95,7 @@ fn front_of(trouble: Trouble) -> Front
 }
 
 /// So many clients.
-fn clients_of<L: EngineName, R: Wait>(
+pub(crate) fn clients_of<L: EngineName, R: Wait>(
     rt: &R,
     alloc: Global,
     engine: &Engine<L>,
@@ -118,7 +118,7 @@ fn clients_of<L: EngineName, R: Wait>(
 
 /// Closes an engine whose threads have ended, and gives its core: it has all changes of the
 /// clients.
-fn closed<L: EngineName, R: Wait>(
+pub(crate) fn closed<L: EngineName, R: Wait>(
     rt: &R,
     engine: Engine<L>,
     clients: Vec<Client<L>>,
@@ -139,9 +139,9 @@ fn closed<L: EngineName, R: Wait>(
 
 /// What is left when the threads have ended: the clients that came back, and what went wrong.
 #[derive(Drop)]
-struct Served<L: EngineName> {
-    clients: Vec<Client<L>>,
-    trouble: Option<Trouble>,
+pub(crate) struct Served<L: EngineName> {
+    pub(crate) clients: Vec<Client<L>>,
+    pub(crate) trouble: Option<Trouble>,
 }
 
 /// Starts the threads, and joins them.
@@ -226,7 +226,7 @@ where
 
 /// Starts a worker for each client, and tells why one has none. No connection comes in before all
 /// are started, and none where one is not, or where those beside them were not all started.
-fn start_all<'s, E, L, G, C, R>(
+pub(crate) fn start_all<'s, E, L, G, C, R>(
     scope: &Scope<'s, E>,
     rt: &'s R,
     alloc: Global,
@@ -343,7 +343,7 @@ where
 }
 
 /// Joins the workers.
-fn join_all<L: EngineName, R: Threads>(
+pub(crate) fn join_all<L: EngineName, R: Threads>(
     rt: &R,
     alloc: Global,
     working: Vec<JoinHandle<Worked<L>>>,
@@ -364,7 +364,7 @@ fn join_all<L: EngineName, R: Threads>(
 }
 
 /// One more client came back.
-fn with_client<L: EngineName>(served: Served<L>, client: Client<L>) -> Served<L> {
+pub(crate) fn with_client<L: EngineName>(served: Served<L>, client: Client<L>) -> Served<L> {
     let Served { clients, trouble } = served;
     let mut clients = clients;
     let trouble = match clients.push(client) {

@@ -1,15 +1,15 @@
 //! A worker: one connection after the other, each to its end.
 
 use crate::connection::work;
-use crate::door::Door;
 use crate::gate::{Clock, Gate};
 use crate::peer::{Coming, Going, Peer, PeerGate};
 use crate::shared::Shared;
 use engine_lock::{Client, EngineName};
 use http_reply::Counted;
 use std::alloc::Global;
-use std::net::{TcpListener, TcpStream};
-use std::sync::{Mutex, Wait};
+use std::net::TcpStream;
+use std::sync::Wait;
+use std::sync::atomic::Ordering;
 use std::{io, time};
 
 /// What a worker hands back: its client, with the changes that it made, and whether an accept
@@ -35,7 +35,7 @@ where
 {
     let mut client = client;
     for _ in rt.forever() {
-        match next(rt, shared.listener, &shared.door) {
+        match next(rt, shared) {
             Ok(Some((call, stream))) => {
                 serve(rt, alloc, shared, &mut client, call, &stream);
             }
@@ -56,13 +56,22 @@ where
     unreachable!()
 }
 
-/// The next connection; the door is free again once it came in.
-fn next<R: Wait>(
+/// The next connection; the door is free again once it came in. None where the server ends, also
+/// where that began while one was waited for.
+fn next<L: EngineName, G, C, R: Wait>(
     rt: &R,
-    listener: &TcpListener,
-    door: &Mutex<Door>,
+    shared: &Shared<'_, L, G, C>,
 ) -> io::Result<Option<(u64, TcpStream)>> {
-    door.lock(rt).next(listener)
+    let mut door = shared.door.lock(rt);
+    if shared.ended.load(Ordering::SeqCst) {
+        door.shut();
+        return Ok(None);
+    }
+    let came = door.next(shared.listener);
+    if shared.ended.load(Ordering::SeqCst) {
+        return Ok(None);
+    }
+    came
 }
 
 /// Serves a connection to its end. What ends it is the peer's affair.
@@ -80,7 +89,7 @@ where
     C: Clock,
     R: Wait + time::Clock,
 {
-    let peer = Peer::new(stream, shared.listener, &shared.door);
+    let peer = Peer::new(stream, shared.listener, &shared.door, &shared.ended);
     let gate = PeerGate {
         gate: shared.gate,
         peer: &peer,

@@ -35,7 +35,7 @@
 //! The tests stand in the crate `gateway_tests`, in `src/gateway.rt` and `src/messages.rt`.
 #![tactic(auto)]
 
-mod certifying;
+pub mod certifying;
 pub mod commands;
 pub mod messages;
 pub mod outcome;

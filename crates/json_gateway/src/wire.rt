@@ -226,7 +226,7 @@ fn step_certify(core: &Core) -> WireOutcome
 }
 
 /// Why a lease was not revoked, by the core's refusal, which is one of these two.
-fn why_unexpired(refusal: Refusal) -> Unexpired
+pub fn why_unexpired(refusal: Refusal) -> Unexpired
     ensures { result ≡ (if is_memory refusal then Unexpired.Memory else Unexpired.RevisionsSpent) }
 {
     match refusal {

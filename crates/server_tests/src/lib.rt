@@ -9,6 +9,8 @@
 #[cfg(test)]
 mod connections;
 #[cfg(test)]
+mod controlled;
+#[cfg(test)]
 mod ends;
 #[cfg(test)]
 mod held;

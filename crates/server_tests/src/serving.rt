@@ -51,6 +51,7 @@ where
         connections: 1,
         cluster,
         member,
+        control: false,
     });
     let ended = serve_on(rt, alloc, &listener, &args, said);
     let is_answered = io::read_to_string(alloc, peer)?.as_str() == reply;

@@ -1,0 +1,206 @@
+//! `serve --control`: the store over HTTP, whose time, expiry and trimming somebody else decides.
+ghost use Rattle.std.specs.Prelude.{◌≡◌, false, true, Err, IfOk, OnOk, ◌⊎◌};
+ghost use Rattle.kv_model.specs.Follows as follows;
+ghost use Rattle.kv_model.specs.Wire as events;
+ghost use Rattle.json_gateway.specs.Runs.{outcome_view};
+ghost use Rattle.commands.specs.Controlling.{made_view};
+ghost use Rattle.engine_lock.specs.Orders.{Makes};
+ghost use Rattle.command_line.specs.Controls.{EndsClosed, IsMade};
+ghost use Rattle.command_line.specs.Serving.{IsOfCore, asks_to_serve};
+
+use crate::serving::{clients_of, connections_of, ended, engine_of, write_closing};
+use crate::words::{Args, Serve};
+use commands::{Controlling, Fault, Order, control};
+use engine_lock::{Client, Engine, EngineName, Opening};
+use http_front::{Directing, pool_directed};
+use json_gateway::WireOutcome;
+use json_gateway::wire::why_unexpired;
+use std::alloc::{AllocError, Global};
+use std::io::{BufRead, Write};
+use std::marker::Brand;
+use std::net::{Net, TcpListener};
+use std::sync::Wait;
+use std::thread::Threads;
+use std::time;
+
+/// Does what lines ask of an engine, for one of its clients.
+#[derive(Drop)]
+struct Orders<'e, L: EngineName, R> {
+    rt: &'e R,
+    engine: &'e Engine<L>,
+}
+
+impl<'e, L: EngineName, R: Wait> Controlling<Client<L>> for Orders<'e, L, R> {
+    ghost Makes = { λ by. IsMade by.engine.now };
+
+    fn make(&self, state: &mut Client<L>, order: Order) -> Result<WireOutcome, AllocError> {
+        match order {
+            Order::Moment(now) => Ok(WireOutcome::Clock(self.engine.moment(self.rt, now))),
+            Order::Expire => Ok(expired(self.rt, self.engine, state)),
+            Order::Trim => trimmed(self.rt, self.engine),
+            Order::Certify => Ok(WireOutcome::Certified(self.engine.certificate(self.rt))),
+        }
+    }
+}
+
+/// Makes a step of expiry, at the engine's clock.
+fn expired<L: EngineName, R: Wait>(
+    rt: &R,
+    engine: &Engine<L>,
+    client: &mut Client<L>,
+) -> WireOutcome
+    ensures { Makes engine.now events.WireEvent.expire (outcome_view result) }
+{
+    match engine.expire_once(rt, client, 0) {
+        Ok(expiry) => WireOutcome::Expiry(Ok(expiry)),
+        Err(refusal) => WireOutcome::Expiry(Err(why_unexpired(refusal))),
+    }
+}
+
+/// Makes a trimming step. `AllocError` comes where readers could not be told of it for want of
+/// memory, and then it was not made.
+fn trimmed<L: EngineName, R: Wait>(rt: &R, engine: &Engine<L>) -> Result<WireOutcome, AllocError>
+    ensures { Makes engine.now events.WireEvent.trim (made_view result)
+        ⊎ (made_view result ≡ follows.Outcome.memory) }
+{
+    match engine.trim_checked(rt) {
+        Ok(trimmed) => Ok(WireOutcome::Trimmed(trimmed)),
+        Err(_) => Err(AllocError),
+    }
+}
+
+/// Runs a server by the lines of a reader, which are answered to a writer.
+#[derive(Drop)]
+struct ByLines<'x, R, In, Out> {
+    rt: &'x R,
+    alloc: Global,
+    r: &'x mut In,
+    w: &'x mut Out,
+    /// How the lines ended.
+    told: Result<(), Fault>,
+}
+
+impl<'x, L: EngineName, R: Wait, In: BufRead, Out: Write> Directing<L> for ByLines<'x, R, In, Out> {
+    fn direct(&mut self, engine: &Engine<L>, client: &mut Client<L>) {
+        let orders = Orders {
+            rt: self.rt,
+            engine,
+        };
+        self.told = control(self.alloc, &orders, client, self.r, self.w);
+    }
+}
+
+/// Serves the connections that come in at a listener, as [`serve_on`](crate::serve_on) does, but for
+/// time, expiry and trimming, which lines of a reader decide: each of them is answered, as soon as it
+/// was read, by [`control`]. The moment of each request is what `AT` handed in last, and 0 before the
+/// first. At the reader's end the server ends: no further connection is let in, each worker ends after
+/// the request that it is in, a watch too, and the line `closed at revision` and the revision of
+/// the store is written behind the replies.
+///
+/// Fails with `Fault::Arguments` where the arguments do not ask to serve, with `Fault::Memory` where
+/// memory is wanting for the engine, with `Fault::Server` as `http_front::pool_directed` fails, and as
+/// [`control`] does, when the server has ended; and with `Fault::Write` where the last line could
+/// not be written; then a front of it was.
+pub fn serve_controlled<R, In: BufRead, W: Write>(
+    rt: &R,
+    alloc: Global,
+    listener: &TcpListener,
+    args: &Args<'_>,
+    r: &mut In,
+    w: &mut W,
+) -> Result<(), Fault>
+where
+    R: Wait + Threads + time::Clock + Net + Sync,
+    ensures ok { OnOk result (EndsClosed (W.contents w.new)) }
+    ensures unasked { asks_to_serve args.now ≡ false → (result ≡ Err Fault.Arguments) × (w.new ≡ w.old) }
+{
+    let Args::Serve(serve) = args else {
+        return Err(Fault::Arguments);
+    };
+    match run_controlled(rt, alloc, listener, serve, r, w) {
+        Ok(revision) => close(w, revision),
+        Err(fault) => Err(fault),
+    }
+}
+
+/// Writes the last line of a server that has ended at a revision of a core.
+fn close<W: Write>(w: &mut W, revision: u64) -> Result<(), Fault>
+    requires { IsOfCore revision }
+    ensures { OnOk result (EndsClosed (W.contents w.new)) }
+{
+    match write_closing(w, revision) {
+        Ok(()) => Ok(()),
+        Err(error) => Err(Fault::Write(error)),
+    }
+}
+
+/// Runs a server, and gives the revision of its core when it has ended.
+fn run_controlled<R, In: BufRead, W: Write>(
+    rt: &R,
+    alloc: Global,
+    listener: &TcpListener,
+    serve: &Serve<'_>,
+    r: &mut In,
+    w: &mut W,
+) -> Result<u64, Fault>
+where
+    R: Wait + Threads + time::Clock + Net + Sync,
+    ensures { IfOk result IsOfCore }
+{
+    let mut lines = ByLines {
+        rt,
+        alloc,
+        r,
+        w,
+        told: Ok(()),
+    };
+    let ended = match Opening::for_clients(alloc, rt, clients_of(serve)) {
+        Ok(opening) => controlled_revision::<Brand, R, In, W>(
+            rt, alloc, opening, listener, serve, &mut lines,
+        ),
+        Err(_) => Err(Fault::Memory),
+    };
+    let ByLines { told, .. } = lines;
+    both(ended, told)
+}
+
+/// The revision that a server ended at, where its lines ended in order, too.
+fn both(ended: Result<u64, Fault>, told: Result<(), Fault>) -> Result<u64, Fault>
+    requires { IfOk ended IsOfCore }
+    ensures { IfOk result IsOfCore }
+{
+    match (ended, told) {
+        (Ok(revision), Ok(())) => Ok(revision),
+        (Err(fault), _) => Err(fault),
+        (Ok(_), Err(fault)) => Err(fault),
+    }
+}
+
+fn controlled_revision<L: EngineName + Send + Sync, R, In: BufRead, W: Write>(
+    rt: &R,
+    alloc: Global,
+    opening: Opening,
+    listener: &TcpListener,
+    serve: &Serve<'_>,
+    lines: &mut ByLines<'_, R, In, W>,
+) -> Result<u64, Fault>
+where
+    R: Wait + Threads + time::Clock + Net + Sync,
+    requires name { opening.name ≡ L.Ledger.name }
+    requires parts { opening.parts ≡ L.Ledger.parts }
+    requires book { opening.book ≡ L.book }
+    ensures { IfOk result IsOfCore }
+{
+    let engine = engine_of::<L>(alloc, opening, serve);
+    let workers = serve.workers;
+    let connections = connections_of(serve);
+    ended(pool_directed(
+        rt,
+        alloc,
+        engine,
+        lines,
+        listener,
+        workers,
+        connections,
+    ))
+}

@@ -1,0 +1,154 @@
+//! A server that somebody ends by hand: no clock, no expiry and no trimming of its own.
+ghost use Rattle.std.specs.Prelude.{IfOk, IfErr};
+ghost use Rattle.engine_lock.specs.Fits.{IsStanding};
+ghost use Rattle.http_front.specs.Ends.{IsOfServer};
+
+use crate::gate::{Clock, OpenGate};
+use crate::shared::Shared;
+use crate::threads::{Served, clients_of, closed, join_all, start_all, with_client};
+use engine_lock::{Client, Engine, EngineName};
+use http_reply::Front;
+use request_core::store::Core;
+use std::alloc::Global;
+use std::net::{IpAddr, Ipv4Addr, Ipv6Addr, Net, SocketAddr, TcpListener, TcpStream};
+use std::sync::Wait;
+use std::sync::atomic::Ordering;
+use std::thread::{Scope, Threads};
+use std::time::Duration;
+use std::{thread, time};
+
+/// How often the worker that accepts is woken, until one connection came in.
+const WAKES: u64 = 10;
+
+/// How long one of these waits for the connection, in milliseconds.
+const WAKE_WAIT: u64 = 100;
+
+/// Who runs a server by hand.
+pub trait Directing<L: EngineName> {
+    /// Comes once the workers have started, on the thread that started them, with a client that no
+    /// connection has. The server ends when this returns.
+    fn direct(&mut self, engine: &Engine<L>, client: &mut Client<L>);
+}
+
+/// A clock that stands at its beginning. A moment that is handed in by it leaves the engine's clock,
+/// so that this stands where the engine was last told a moment by somebody else.
+#[derive(Clone, Copy, Debug, Drop)]
+pub(crate) struct Standing;
+
+impl Clock for Standing {
+    fn now(&self) -> u64 {
+        0
+    }
+}
+
+/// Serves the connections that come in at a listener, as [`pool`](crate::pool) does, until a director
+/// returns. Nothing goes on but what its requests and the director ask for: the moment that is
+/// handed in with each request is 0, which leaves the engine's clock, no lease ends by itself, and no
+/// trimming step is made but those that a physical Compact waits for.
+///
+/// When the director has returned, no further connection is let in; a connection on which no byte of
+/// a next request has come is closed within some 100 ms, a watch ends within some 20 ms, and a
+/// request that has begun to come is answered, if no second passes without a byte of it. Then
+/// the engine is closed. The director may return after `connections` have come and gone, too: no
+/// further one is let in, and the server still ends when it returns.
+///
+/// Fails as [`pool`](crate::pool) does; where a list or a thread is wanting at the start, the
+/// director is not called.
+pub fn pool_directed<L, D, R>(
+    rt: &R,
+    alloc: Global,
+    engine: Engine<L>,
+    director: &mut D,
+    listener: &TcpListener,
+    workers: u64,
+    connections: u64,
+) -> Result<Core, Front>
+where
+    L: EngineName + Send + Sync,
+    D: Directing<L>,
+    R: Wait + Threads + time::Clock + Net + Sync,
+    ensures stands { IfOk result (λ core. IsStanding core) }
+    ensures fault { IfErr result IsOfServer }
+{
+    let Ok(client) = engine.client(rt) else {
+        return Err(Front::Unclosed);
+    };
+    let clients = match clients_of(rt, alloc, &engine, workers) {
+        Ok(clients) => clients,
+        Err(front) => return Err(front),
+    };
+    let shared = Shared::new(&engine, &OpenGate, &Standing, listener, connections);
+    let Served { clients, trouble } = run_directed(rt, alloc, &shared, clients, client, director);
+    drop(shared);
+    closed(rt, engine, clients, trouble)
+}
+
+/// Starts the workers, lets the director run, and joins them.
+fn run_directed<L, D, R>(
+    rt: &R,
+    alloc: Global,
+    shared: &Shared<'_, L, OpenGate, Standing>,
+    clients: Vec<Client<L>>,
+    client: Client<L>,
+    director: &mut D,
+) -> Served<L>
+where
+    L: EngineName + Send + Sync,
+    D: Directing<L>,
+    R: Wait + Threads + time::Clock + Net + Sync,
+{
+    thread::scope(thread::scope_env(), rt, move |scope| {
+        serve_directed(scope, rt, alloc, shared, clients, client, director)
+    })
+}
+
+/// Serves until the director has returned, and hands all clients back.
+fn serve_directed<'s, E, L, D, R>(
+    scope: &Scope<'s, E>,
+    rt: &'s R,
+    alloc: Global,
+    shared: &'s Shared<'s, L, OpenGate, Standing>,
+    clients: Vec<Client<L>>,
+    client: Client<L>,
+    director: &mut D,
+) -> Served<L>
+where
+    L: EngineName + Send + Sync + 's,
+    D: Directing<L>,
+    R: Wait + Threads + time::Clock + Net + Sync + 's,
+{
+    let mut client = client;
+    let (working, trouble) = start_all(scope, rt, alloc, shared, clients, true);
+    if trouble.is_none() {
+        director.direct(shared.engine, &mut client);
+    }
+    shared.ended.store(true, Ordering::SeqCst);
+    wake(rt, shared.listener);
+    let served = join_all(rt, alloc, working, trouble);
+    with_client(served, client)
+}
+
+/// Wakes the worker that waits for a connection, by one. Where none can be made, many others wait at
+/// the listener, and no worker waits for them.
+fn wake<R: Net>(rt: &R, listener: &TcpListener) {
+    let Ok(address) = listener.local_addr() else {
+        return;
+    };
+    let address = reachable(address);
+    for _ in 0..WAKES {
+        let came = TcpStream::connect_timeout(rt, &address, Duration::from_millis(WAKE_WAIT));
+        if came.is_ok() {
+            return;
+        }
+    }
+}
+
+/// An address by which this machine reaches a listener that listens there.
+fn reachable(address: SocketAddr) -> SocketAddr {
+    let ip = match address.ip() {
+        IpAddr::V4(ip) if ip.is_unspecified() => IpAddr::V4(Ipv4Addr::LOCALHOST),
+        IpAddr::V6(ip) if ip.is_unspecified() => IpAddr::V6(Ipv6Addr::LOCALHOST),
+        ip => ip,
+    };
+    SocketAddr::new(ip, address.port())
+}
