@@ -1,2 +1,3 @@
+pub mod Advice
 pub mod Arguments
 pub mod Serving
