@@ -6,10 +6,8 @@ import importlib.util
 import json
 import mmap
 import os
-import pathlib
 import struct
 import subprocess
-import sys
 
 TOP = os.path.dirname(os.path.dirname(os.path.abspath(__file__)))
 PROGRAM = os.path.join(TOP, 'crates/etcd_one/out/etcd_one')
@@ -64,9 +62,7 @@ def engine_built():
     sources = [os.path.join(TOP, 'crates.txt'), *(file for folder in ('src', 'specs', 'proofs')
                                                   for file in glob.glob(os.path.join(TOP, 'crates/*', folder, '**'), recursive=True))]
     if not os.path.exists(built) or not os.path.exists(mark) or os.path.getmtime(mark) < max(map(os.path.getmtime, sources)):
-        print('proving crates/engine_script', file=sys.stderr)
-        subprocess.check_call(['rt', 'run'], cwd=ENGINE, stdin=subprocess.DEVNULL, stdout=subprocess.DEVNULL)
-        pathlib.Path(mark).touch()
+        subprocess.check_call([os.path.join(TOP, 'prove'), 'engine_script'])
     return built
 
 

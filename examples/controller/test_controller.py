@@ -6,7 +6,6 @@
 The store is ./etcd_one at the top, or what ETCD_ONE names. Each test has a fresh one.
 """
 import os
-import re
 import subprocess
 import threading
 import time
@@ -22,8 +21,9 @@ class TestController(unittest.TestCase):
     def setUp(self):
         words = [PROGRAM, 'serve', '--listen', '127.0.0.1:0', '--workers', '16']
         self.server = subprocess.Popen(words, stdin=subprocess.DEVNULL, stderr=subprocess.PIPE)
-        line = self.server.stderr.readline().decode()
-        self.address = re.fullmatch(r'listening on (\S+)\n', line).group(1)
+        # On first use lines of the proof come before.
+        lines = iter(self.server.stderr.readline, b'')
+        self.address = next(line.split()[-1].decode() for line in lines if line.startswith(b'listening on '))
         self.store = Store(self.address)
         self.controllers = []
 

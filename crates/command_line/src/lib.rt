@@ -14,17 +14,23 @@
 //! etcd_one serve --listen x --connections 1    one connection is served; closed at revision 2
 //! ```
 //!
+//! Of words that are refused as bad [`advise`] says what is told of them: the commands with their
+//! options and ranges where help is asked for, the version, the option whose number is out of its
+//! range, or that there is no address.
+//!
 //! The words of `replay` and `check` are read by `filters`. What a server does is told by
 //! `http_front`.
 //!
 //! The tests stand in the crate `server_tests`, in `src/streams.rt` and `src/serving.rt`.
 #![tactic(auto)]
 
+mod advice;
 mod control;
 mod filters;
 mod serving;
 mod words;
 
+pub use advice::{Advice, advise};
 pub use control::serve_controlled;
 pub use serving::serve_on;
 pub use words::{Args, Serve, arguments};

@@ -7,7 +7,8 @@
 //! number of versions (status 0), `refused:` and the first fault (1), or `unreadable: line` and
 //! the number of the first line that is not of its form (2). Bad arguments, a failed read or
 //! write, and want of memory outside a request end both with status 2, one line on standard error,
-//! and nothing more on standard output.
+//! and nothing more on standard output. `--help` and `--version` are bad arguments too, whose line
+//! is what was asked for.
 //!
 //! `etcd_one serve` answers HTTP/1.1 instead, at the address that it is given.
 //!
@@ -20,7 +21,7 @@
 //! itself for its exit status and what it writes to standard error.
 #![tactic(auto)]
 
-pub use command_line::{Args, Serve, arguments, serve_controlled, serve_on};
+pub use command_line::{Advice, Args, Serve, advise, arguments, serve_controlled, serve_on};
 use commands::fault_of_words;
 pub use commands::{Fault, Verdict, check, replay};
 use std::io::BufWriter;
@@ -47,7 +48,29 @@ fn run<
     for word in given {
         words.push(word).map_err(|_| Fault::Memory)?;
     }
-    match arguments(rt.alloc(), words.as_slice())? {
+    match arguments(rt.alloc(), words.as_slice()) {
+        Ok(args) => run_as(rt, &args),
+        Err(Fault::Arguments) => match advise(words.as_slice()) {
+            Some(advice) => {
+                let _ = rt.eprintln(advice.line());
+                Ok(ExitCode::from(2))
+            }
+            None => Err(Fault::Arguments),
+        },
+        Err(fault) => Err(fault),
+    }
+}
+
+/// Does what was asked for.
+fn run_as<
+    R: Runtime
+        + AllocGlobal
+        + Net<Listener = TcpListener, Stream = TcpStream>
+        + Threads
+        + Wait
+        + Sync,
+>(rt: &R, args: &Args<'_>) -> Result<ExitCode, Fault> {
+    match args {
         Args::Replay => {
             replay_all(rt)?;
             Ok(ExitCode::SUCCESS)
@@ -57,7 +80,7 @@ fn run<
             Ok(status_of(verdict))
         }
         Args::Serve(serve) => {
-            serve_all(rt, &serve)?;
+            serve_all(rt, serve)?;
             Ok(ExitCode::SUCCESS)
         }
     }
