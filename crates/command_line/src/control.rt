@@ -200,13 +200,5 @@ where
     let engine = engine_of::<L>(alloc, opening, serve);
     let workers = serve.workers;
     let connections = connections_of(serve);
-    ended(pool_directed(
-        rt,
-        alloc,
-        engine,
-        lines,
-        listener,
-        workers,
-        connections,
-    ))
+    ended(pool_directed(rt, alloc, engine, lines, listener, workers, connections))
 }
