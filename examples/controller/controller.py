@@ -1,7 +1,7 @@
 """A small controller over etcd's JSON gateway: whoever puts a job under /jobs/ finds it done under /done/.
 
 It holds a lock by a lease, lists the jobs that are there, and then watches for others from the very next revision, so that none is
-missed and none comes twice. Each job is done in one transaction, which asks that the lock is still its own: a controller that lost
+missed and none comes twice; where a compaction goes past what it was told of, it lists them again. Each job is done in one transaction, which asks that the lock is still its own: a controller that lost
 its lease does nothing more, and another one that waits takes over.
 """
 import base64
@@ -28,6 +28,10 @@ def end_of(prefix):
 
 class Refused(Exception):
     """The store answered with another status than 200."""
+
+
+class Compacted(Exception):
+    """A watch was to tell of a revision below the last compaction: what stands has to be listed again."""
 
 
 class Store:
@@ -74,7 +78,8 @@ class Store:
 
 
 class Watch:
-    """The events of a range from a revision on, one after the other: (kind, key, value, revision)."""
+    """The events of a range from a revision on, one after the other: (kind, key, value, revision). Ends by Compacted where they are
+    gone."""
 
     def __init__(self, address, key, end, start):
         asked = {'key': coded(key), 'start_revision': str(start)}
@@ -89,7 +94,10 @@ class Watch:
     def __iter__(self):
         try:
             while line := self.stream.readline():
-                for event in json.loads(line)['result'].get('events', []):
+                told = json.loads(line)['result']
+                if told.get('canceled'):
+                    raise Compacted(told.get('compact_revision'))
+                for event in told.get('events', []):
                     kv = event['kv']
                     yield event.get('type', 'PUT'), text_of(kv['key']), text_of(kv.get('value', '')), int(kv['mod_revision'])
         finally:
@@ -159,13 +167,22 @@ class Controller:
         return self.watch
 
     def lead(self):
+        while self.is_passed_over():
+            pass
+
+    def is_passed_over(self):
+        """Does the jobs that stand and those that come. Whether a compaction went past what it was told of."""
         revision, jobs = self.store.list(JOBS)
         for key, value, at in jobs:
             if not self.do(key, value, at):
-                return
-        for kind, key, value, at in self.watching(JOBS, end_of(JOBS), revision + 1):
-            if kind == 'PUT' and not self.do(key, value, at):
-                return
+                return False
+        try:
+            for kind, key, value, at in self.watching(JOBS, end_of(JOBS), revision + 1):
+                if kind == 'PUT' and not self.do(key, value, at):
+                    return False
+        except Compacted:
+            return True
+        return False
 
     def do(self, key, value, at):
         """Does a job as it stood at a revision. False where the lock is no longer ours."""

@@ -11,7 +11,7 @@ import threading
 import time
 import unittest
 
-from controller import Controller, Store
+from controller import JOBS, LOCK, Compacted, Controller, Store
 
 TOP = os.path.dirname(os.path.dirname(os.path.dirname(os.path.abspath(__file__))))
 PROGRAM = os.environ.get('ETCD_ONE', os.path.join(TOP, 'etcd_one'))
@@ -97,6 +97,96 @@ class TestController(unittest.TestCase):
         self.assertEqual(jobs, [])
         told = self.store.ask('kv/range', key='L2RvbmUv', range_end='L2RvbmUw')
         self.assertEqual({kv['version'] for kv in told['kvs']}, {'1'})
+
+
+class Interrupted(Controller):
+    """A controller to which something happens between its first list of the jobs and its watch of them."""
+
+    meanwhile = None
+
+    def watching(self, key, end, start):
+        if key == JOBS and self.meanwhile:
+            happens, self.meanwhile = self.meanwhile, None
+            happens()
+        return super().watching(key, end, start)
+
+
+class TestByHand(unittest.TestCase):
+    """The test says when time passes, when a lease ends and when history is trimmed (`serve --control`), so no case waits for any of
+    these: it is over as soon as what it asks for is there."""
+
+    def setUp(self):
+        words = [PROGRAM, 'serve', '--listen', '127.0.0.1:0', '--workers', '16', '--control']
+        self.server = subprocess.Popen(words, stdin=subprocess.PIPE, stdout=subprocess.PIPE, stderr=subprocess.PIPE, text=True, bufsize=1)
+        self.address = re.fullmatch(r'listening on (\S+)\n', self.server.stderr.readline()).group(1)
+        self.store = Store(self.address)
+        self.controllers = []
+
+    def tearDown(self):
+        for controller in self.controllers:
+            controller.stop(politely=False)
+        self.store.close()
+        said, _ = self.server.communicate(timeout=10)       # the end of its standard input is its end
+        self.assertRegex(said, r'closed at revision \d+\n')
+        self.assertEqual(self.server.returncode, 0)
+
+    def order(self, line):
+        """The server's reply to a line."""
+        print(line, file=self.server.stdin, flush=True)
+        return self.server.stdout.readline().rstrip('\n')
+
+    def start(self, controller):
+        threading.Thread(target=controller.run, daemon=True).start()
+        self.controllers.append(controller)
+        return controller
+
+    def sees(self, key, value):
+        """Comes back once a key holds a value, or held it."""
+        while True:
+            revision, found = self.store.list(key)
+            if (key, value) in [(one, held) for one, held, _ in found]:
+                return
+            try:
+                for _, _, held, _ in self.store.watch(key, None, revision + 1):
+                    if held == value:
+                        return
+            except Compacted:
+                pass            # it is listed again
+
+    def test_a_lease_that_ends(self):
+        first = self.start(Controller(self.address, 'first', str.upper, seconds=10))
+        self.sees(LOCK, 'first')
+        first.stop(politely=False)
+        self.assertEqual(self.order('AT 9999'), 'at 9999')
+        self.assertEqual(self.order('EXPIRE'), 'nothing')
+        self.start(Controller(self.address, 'second', str.upper, seconds=10))
+        self.assertEqual(self.order('AT 10000'), 'at 10000')
+        self.assertEqual(self.order('EXPIRE'), 'expired 1 revision 3')
+        self.sees(LOCK, 'second')
+        self.assertEqual(self.order('EXPIRE'), 'nothing')
+        self.store.put(JOBS + 'a', 'one')
+        self.sees('/done/a', 'ONE by second')
+
+    def test_a_watcher_that_a_compaction_cancels(self):
+        trimmed = []
+
+        def meanwhile():
+            self.store.put(JOBS + 'b', 'two')
+            self.store.put(JOBS + 'c', 'three')
+            revision, _ = self.store.list(JOBS)
+            self.store.ask('kv/compaction', revision=str(revision))
+            while not trimmed or not trimmed[-1].startswith('done '):
+                trimmed.append(self.order('TRIM'))
+
+        self.store.put(JOBS + 'a', 'one')
+        controller = Interrupted(self.address, 'first', str.upper)
+        controller.meanwhile = meanwhile
+        self.start(controller)
+        # Its watch is asked for a revision below the compaction, and what it missed is done all the same.
+        self.sees('/done/c', 'THREE by first')
+        self.assertEqual([key for key, _, _ in self.store.list('/done/')[1]], ['/done/a', '/done/b', '/done/c'])
+        self.assertEqual(self.store.list(JOBS)[1], [])
+        self.assertEqual(trimmed, ['removed 2.0', 'kept 3.0', 'kept 4.0', 'removed 4.1', 'kept 5.0', 'kept 6.0', 'done 4'])
 
 
 if __name__ == '__main__':

@@ -71,16 +71,22 @@ fn trimmed<L: EngineName, R: Wait>(rt: &R, engine: &Engine<L>) -> Result<WireOut
 
 /// Runs a server by the lines of a reader, which are answered to a writer.
 #[derive(Drop)]
-struct ByLines<'x, R, In, Out> {
+struct ByLines<'x, 'r, 'w, R, In, Out> {
     rt: &'x R,
     alloc: Global,
-    r: &'x mut In,
-    w: &'x mut Out,
+    r: &'r mut In,
+    w: &'w mut Out,
     /// How the lines ended.
     told: Result<(), Fault>,
 }
 
-impl<'x, L: EngineName, R: Wait, In: BufRead, Out: Write> Directing<L> for ByLines<'x, R, In, Out> {
+impl<'x, 'r, 'w, L, R, In, Out> Directing<L> for ByLines<'x, 'r, 'w, R, In, Out>
+where
+    L: EngineName,
+    R: Wait,
+    In: BufRead,
+    Out: Write,
+{
     fn direct(&mut self, engine: &Engine<L>, client: &mut Client<L>) {
         let orders = Orders {
             rt: self.rt,
@@ -182,7 +188,7 @@ fn controlled_revision<L: EngineName + Send + Sync, R, In: BufRead, W: Write>(
     opening: Opening,
     listener: &TcpListener,
     serve: &Serve<'_>,
-    lines: &mut ByLines<'_, R, In, W>,
+    lines: &mut ByLines<'_, '_, '_, R, In, W>,
 ) -> Result<u64, Fault>
 where
     R: Wait + Threads + time::Clock + Net + Sync,
@@ -194,13 +200,5 @@ where
     let engine = engine_of::<L>(alloc, opening, serve);
     let workers = serve.workers;
     let connections = connections_of(serve);
-    ended(pool_directed(
-        rt,
-        alloc,
-        engine,
-        lines,
-        listener,
-        workers,
-        connections,
-    ))
+    ended(pool_directed(rt, alloc, engine, lines, listener, workers, connections))
 }

@@ -157,7 +157,11 @@ fn closed_revision<L: EngineName + Send + Sync, R: Wait + Threads + time::Clock 
 }
 
 /// An engine that answers by the ids of a server.
-pub(crate) fn engine_of<L: EngineName>(alloc: Global, opening: Opening, serve: &Serve<'_>) -> Engine<L>
+pub(crate) fn engine_of<L: EngineName>(
+    alloc: Global,
+    opening: Opening,
+    serve: &Serve<'_>,
+) -> Engine<L>
     requires name { opening.name ≡ L.Ledger.name }
     requires parts { opening.parts ≡ L.Ledger.parts }
     requires book { opening.book ≡ L.book }

@@ -1,6 +1,6 @@
 -- Lines that are read and answered one at a time.
 use Rattle.std.proofs.Common.{◌≡◌, ℕ, zero, suc, ◌+◌, ◌<◌, ◌≤◌, ◌==◌, nat_lt, arith, List, [], ◌∷◌, ◌++◌, length, take, drop, map, get_or, Bool, true, false, length-append}
-use Rattle.std.proofs.Common.{Option, None, Some, Result, Ok, Err, OnErr, MatchBool, not, refl, sym, ◌∙◌, ap, subst, append_assoc}
+use Rattle.std.proofs.Common.{Option, None, Some, Result, Ok, Err, OnErr, MatchBool, refl, sym, ◌∙◌, ap, subst, append_assoc}
 use Rattle.std.specs.Prelude.{IfSome, unwrap_or}
 use Rattle.std.specs.List.{position_or_len, before_first, after_first}
 use Rattle.std.specs.Io.BufRead.{take_through, drop_through, DropsThrough}
@@ -39,10 +39,10 @@ pub on_err : {T E P : Type 0} (r : Result T E) → P → OnErr r P
 on_err (Ok x) p = tt
 on_err (Err e) p = p
 
--- where the test's negation fails, it holds
-pub when : (P Q : Type 0) (b : Bool) → not b ≡ false → MatchBool b P Q → P
+-- where the test holds
+pub when : (P Q : Type 0) (b : Bool) → b ≡ true → MatchBool b P Q → P
 when P Q true e h = h
-when P Q false e h = let bad : true ≡ false = e in cc
+when P Q false e h = let bad : false ≡ true = e in cc
 
 -- ---- what is answered
 

@@ -14,8 +14,7 @@ ghost use Rattle.engine_lock.specs.Orders.{Makes};
 use super::State;
 use crate::opening::EngineName;
 use crate::steps::trimmed;
-use json_gateway::certifying;
-use json_gateway::{Certified, Refusal, Trimmed};
+use json_gateway::{Certified, Refusal, Trimmed, certifying};
 use request_core::store::Core;
 use snapshot_feed::Feed;
 use std::alloc::{AllocError, Global};
@@ -81,11 +80,7 @@ fn certified(core: &Core, feed: &Feed) -> Result<Certified, AllocError>
 
 /// Tells readers of a trimming step, and makes it on a core. The revision stays. `Memory` comes
 /// where the feed finds none, and then nothing has changed.
-fn trimmed_and_checked(
-    alloc: Global,
-    core: &mut Core,
-    feed: &mut Feed,
-) -> Result<Trimmed, Refusal>
+fn trimmed_and_checked(alloc: Global, core: &mut Core, feed: &mut Feed) -> Result<Trimmed, Refusal>
     requires { Fits core.old (appended feed.old) }
     ensures makes { IfOk result (λ t. (ids : IdsOf)
         → Makes ids events.WireEvent.trim (said (trimmed_view t))) }
