@@ -20,7 +20,7 @@ fn nested(alloc: Global, times: u8) -> Txn {
 }
 
 /// A transaction with so many compares of an empty key.
-fn compares(alloc: Global, count: u8) -> Txn {
+fn compares(alloc: Global, count: u16) -> Txn {
     let mut txn = empty(alloc);
     for _ in 0..count {
         add_compare(&mut txn.compare, b"", Operand::OfVersion(0));
@@ -39,7 +39,7 @@ fn failing(alloc: Global, value: &'static [u8]) -> Txn {
 #[derive(Clone, Copy)]
 enum Walked {
     Nested(u8),
-    Compares(u8),
+    Compares(u16),
     Failing(&'static [u8]),
 }
 
