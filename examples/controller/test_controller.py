@@ -118,7 +118,9 @@ class TestByHand(unittest.TestCase):
     def setUp(self):
         words = [PROGRAM, 'serve', '--listen', '127.0.0.1:0', '--workers', '16', '--control']
         self.server = subprocess.Popen(words, stdin=subprocess.PIPE, stdout=subprocess.PIPE, stderr=subprocess.PIPE, text=True, bufsize=1)
-        self.address = re.fullmatch(r'listening on (\S+)\n', self.server.stderr.readline()).group(1)
+        # On first use lines of the proof come before.
+        lines = iter(self.server.stderr.readline, '')
+        self.address = next(line.split()[-1] for line in lines if line.startswith('listening on '))
         self.store = Store(self.address)
         self.controllers = []
 
