@@ -19,3 +19,8 @@ pub of_core : (made : Result _ _) (r : Result ℕ Fault) → IfOk made (λ core.
     → MatchResult made (λ core. r ≡ Ok core.store.revision) (λ front. r ≡ Err (fault.Server front)) → IfOk r IsOfCore
 of_core (Ok core) r h e = subst (λ x. IfOk x IsOfCore) (sym e) (core, h, refl)
 of_core (Err front) r h e = subst (λ x. IfOk x IsOfCore) (sym e) tt
+
+-- what was written from some state of the writer on
+pub from_between : {W T E : Type 0} (r : Result T E) (P : W → Type 0) (between : W) → OnOk r (P between) → OnOk r ((b : W) × P b)
+from_between (Ok x) P between h = (between, h)
+from_between (Err e) P between h = tt

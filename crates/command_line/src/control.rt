@@ -1,12 +1,14 @@
 //! `serve --control`: the store over HTTP, whose time, expiry and trimming somebody else decides.
 ghost use Rattle.std.specs.Prelude.{◌≡◌, false, true, Err, IfOk, OnOk, ◌⊎◌};
+ghost use Rattle.std.specs.Io.KnownBytes.{Appends};
 ghost use Rattle.kv_model.specs.Follows as follows;
 ghost use Rattle.kv_model.specs.Wire as events;
 ghost use Rattle.json_gateway.specs.Runs.{outcome_view};
 ghost use Rattle.commands.specs.Controlling.{made_view};
 ghost use Rattle.engine_lock.specs.Orders.{Makes};
-ghost use Rattle.command_line.specs.Controls.{EndsClosed, IsMade};
-ghost use Rattle.command_line.specs.Serving.{IsOfCore, asks_to_serve};
+ghost use Rattle.engine_lock.specs.Fits.{IsStanding};
+ghost use Rattle.command_line.specs.Controls.{IsMade};
+ghost use Rattle.command_line.specs.Serving.{IsOfCore, asks_to_serve, closing_line};
 
 use crate::serving::{clients_of, connections_of, ended, engine_of, write_closing};
 use crate::words::{Args, Serve};
@@ -117,7 +119,8 @@ pub fn serve_controlled<R, In: BufRead, W: Write>(
 ) -> Result<(), Fault>
 where
     R: Wait + Threads + time::Clock + Net + Sync,
-    ensures ok { OnOk result (EndsClosed (W.contents w.new)) }
+    ensures ok { OnOk result ((between : W) × ((core : _) × IsStanding core × Appends
+        (W.contents between) (W.contents w.new) (closing_line core.store.revision))) }
     ensures unasked { asks_to_serve args.now ≡ false → (result ≡ Err Fault.Arguments) × (w.new ≡ w.old) }
 {
     let Args::Serve(serve) = args else {
@@ -132,7 +135,8 @@ where
 /// Writes the last line of a server that has ended at a revision of a core.
 fn close<W: Write>(w: &mut W, revision: u64) -> Result<(), Fault>
     requires { IsOfCore revision }
-    ensures { OnOk result (EndsClosed (W.contents w.new)) }
+    ensures { OnOk result ((core : _) × IsStanding core
+        × Appends (W.contents w.old) (W.contents w.new) (closing_line core.store.revision)) }
 {
     match write_closing(w, revision) {
         Ok(()) => Ok(()),
