@@ -324,7 +324,7 @@ opposite_branches cs s f = first-of (any_collide (touches s ++ touches f) []) (c
     (any_collide-none (touches s ++ touches f))
 
 -- each of them is clear of those behind it
-abbrev AreApart : List Touch → Type 0
+abbrev pub AreApart : List Touch → Type 0
 AreApart [] = ⊤
 AreApart (t ∷ ts) = IsClear t ts × AreApart ts
 

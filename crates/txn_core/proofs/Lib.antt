@@ -1,5 +1,7 @@
+pub mod Alone
 pub mod Apart
 pub mod Elements
+pub mod Buried
 pub mod Clashing
 pub mod Counting
 pub mod Making
@@ -9,5 +11,6 @@ pub mod PutCounts
 pub mod Running
 pub mod StaticFaults
 pub mod Stepping
+pub mod Sweeping
 pub mod Walking
 pub mod Answering

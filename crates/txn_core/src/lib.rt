@@ -38,6 +38,8 @@ mod planning;
 mod put;
 mod reply;
 pub mod step;
+mod stretch;
+mod swept;
 mod touched;
 
 pub use checking::check;
