@@ -89,7 +89,7 @@ count_of-append p (x ∷ xs) ys = omega (arith, count_of-append p xs ys)
 
 -- ---- what collides
 
-keys_put-append : (ts us : List Touch) → keys_put (ts ++ us) ≡ keys_put ts ++ keys_put us
+pub keys_put-append : (ts us : List Touch) → keys_put (ts ++ us) ≡ keys_put ts ++ keys_put us
 keys_put-append [] us = refl
 keys_put-append (Touch.one k ∷ ts) us = ap (λ ks. k ∷ ks) (keys_put-append ts us)
 keys_put-append (Touch.each r ∷ ts) us = keys_put-append ts us

@@ -10,6 +10,7 @@ pub mod Present
 pub mod PutCounts
 pub mod Running
 pub mod StaticFaults
+pub mod Staying
 pub mod Stepping
 pub mod Sweeping
 pub mod Walking

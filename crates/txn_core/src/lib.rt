@@ -32,6 +32,7 @@ mod clash;
 mod compare;
 mod delete;
 mod deleted;
+mod emptied;
 mod fault;
 mod keys;
 mod planning;
