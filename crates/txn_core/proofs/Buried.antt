@@ -1,7 +1,7 @@
 -- What a transaction has deleted stays so, and ranges that it has emptied give no more graves.
-use Rattle.std.proofs.Common.{◌≡◌, ℕ, List, [], ◌∷◌, ◌++◌, length, filter, filter_map, Bool, true, false, not, ◌&&◌, ◌||◌, cond, Option, None}
+use Rattle.std.proofs.Common.{◌≡◌, ℕ, List, [], ◌∷◌, ◌++◌, length, filter_map, Bool, true, false, not, ◌&&◌, ◌||◌, cond, Option, None}
 use Rattle.std.proofs.Common.{Some, is_some, refl, sym, ◌∙◌, ap, Bor}
-use Rattle.std.specs.List.{AllByRecursion, cons_option, list_any}
+use Rattle.std.specs.List.{AllByRecursion, cons_option}
 use Rattle.std.proofs.Math.Bool.{or-true}
 use Rattle.std.proofs.lemmas.List.Folds.{list_any-append}
 use Rattle.kv_model.specs.declared.version.Rev.{Rev}

@@ -1,5 +1,5 @@
 -- What holds nothing, and is not put again, holds nothing later.
-use Rattle.std.proofs.Common.{◌≡◌, ◌⊎◌, inl, inr, ℕ, zero, suc, ◌+◌, ◌<◌, ◌≤◌, ◌-◌, List, [], ◌∷◌, ◌++◌, map, filter, Bool, true, false, not}
+use Rattle.std.proofs.Common.{◌≡◌, ◌⊎◌, inl, inr, ℕ, zero, suc, ◌+◌, ◌<◌, ◌≤◌, List, [], ◌∷◌, ◌++◌, map, filter, Bool, true, false, not}
 use Rattle.std.proofs.Common.{◌&&◌, ◌||◌, cond, Vec, Global, Option, None, Some, option_and_then, is_some, refl, sym, ◌∙◌, ap, subst, arith, length, nat_eq, nat_le, Bor}
 use Rattle.std.specs.Prelude.{MatchOption, ⊤}
 use Rattle.std.specs.Option.{option_or}
@@ -19,14 +19,14 @@ use Rattle.kv_model.specs.Keys.{same_key, in_range}
 use Rattle.kv_model.specs.Lists.{last_that}
 use Rattle.kv_model.specs.History.{KeyValue, key_value, shown, is_tombstone, rev_le, value_at}
 use Rattle.kv_model.specs.Ranges.{keys_of, live}
-use Rattle.kv_model.specs.Txns.{Touch, collides, place_before}
+use Rattle.kv_model.specs.Txns.{Touch, place_before}
 use Rattle.range_view.specs.Stored.{Viewed}
 use Rattle.store_laws.proofs.HistoryLaws.{same_key-eq}
 use Rattle.store_laws.proofs.KeyLaws.{has_key}
 use Rattle.store_laws.proofs.PlaceLaws.{each-map, rev_le-before}
 use Rattle.txn_core.specs.Emptied.{put_keys, put_from, PutsNone, AreEmptied}
 use Rattle.txn_core.specs.declared.emptied.Emptied.{Emptied}
-use Rattle.txn_core.specs.Swept.{covers, of_keys, PassesNone, AreBut}
+use Rattle.txn_core.specs.Swept.{covers, of_keys, AreBut}
 use Rattle.txn_core.specs.declared.touched.Touched.{Touched}
 use Rattle.txn_core.specs.Touching.{bit, keys_put, count_touched}
 use Rattle.txn_core.specs.Views.{touch_view, keys_view, AreSorted}

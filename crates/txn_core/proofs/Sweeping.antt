@@ -1,5 +1,5 @@
 -- A walk past what is covered leaves out nothing else.
-use Rattle.std.proofs.Common.{◌≡◌, ℕ, zero, suc, List, [], ◌∷◌, ◌++◌, take, drop, filter, filter_map, Bool, true, false, ◌&&◌, ◌||◌, cond}
+use Rattle.std.proofs.Common.{◌≡◌, ℕ, zero, suc, List, [], ◌∷◌, ◌++◌, take, drop, filter_map, Bool, true, false, ◌&&◌, ◌||◌, cond}
 use Rattle.std.proofs.Common.{Option, None, Some, refl, sym, ◌∙◌, ap, append_assoc, Bor}
 use Rattle.std.specs.List.{AllByRecursion, cons_option, list_any}
 use Rattle.std.specs.declared.cmp.Ordering.{Ordering}
@@ -17,7 +17,7 @@ use Rattle.kv_model.specs.Keys.{key_cmp, key_lt, key_le, in_range}
 use Rattle.kv_model.specs.History.{KeyValue, value_at}
 use Rattle.kv_model.specs.Ranges.{keys, keys_of, live, value_within}
 use Rattle.store_laws.proofs.BatchLaws.{filter-none}
-use Rattle.store_laws.proofs.DeleteLaws.{value_at-key, live-ascends}
+use Rattle.store_laws.proofs.DeleteLaws.{value_at-key}
 use Rattle.store_laws.proofs.KeyLaws.{IsAscending, AllAbove}
 use Rattle.store_laws.proofs.PlaceLaws.{each-map}
 use Rattle.txn_core.specs.declared.stretch.Stretch.{Stretch}

@@ -1,5 +1,5 @@
 -- Ranges of which no key is live any more, as the answers of a transaction are read.
-use Rattle.std.specs.Prelude.{◌≡◌, ℕ, ◌≤◌, List, [], ◌∷◌, filter, Bool, true, if◌then◌else◌, None, MatchOption, ⊤, nat_le}
+use Rattle.std.specs.Prelude.{◌≡◌, ℕ, ◌≤◌, List, [], ◌∷◌, filter, true, if◌then◌else◌, None, MatchOption, ⊤, nat_le}
 use Rattle.std.specs.List.{AllByRecursion}
 use Rattle.kv_model.specs.declared.version.Version.{Version}
 use Rattle.kv_model.specs.declared.version.KeyRange.{KeyRange}

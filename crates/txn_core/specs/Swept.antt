@@ -1,5 +1,5 @@
 -- Stretches of keys, and lists of key-values that leave out some that are covered.
-use Rattle.std.specs.Prelude.{◌≡◌, ℕ, List, [], ◌++◌, filter, Bool, true, false, ◌&&◌, Option, None, Some, is_some, ⊤}
+use Rattle.std.specs.Prelude.{◌≡◌, ℕ, List, ◌++◌, filter, Bool, true, false, ◌&&◌, Option, None, Some, is_some, ⊤}
 use Rattle.std.specs.List.{AllByRecursion, list_any}
 use Rattle.std.specs.Borrow.{Bor}
 use Rattle.kv_model.specs.declared.version.Version.{Version}

@@ -1,9 +1,8 @@
 -- Where nothing is touched but what each puts itself, nothing clashes.
-use Rattle.std.proofs.Common.{◌≡◌, ◌++◌, map, ap, sym, ◌∙◌, false}
-use Rattle.std.specs.List.{list_any}
+use Rattle.std.proofs.Common.{◌≡◌, ◌++◌, map, ap, sym, ◌∙◌}
 use Rattle.kv_model.specs.Commands.{txn_view}
 use Rattle.kv_model.specs.Txns.{Touch, touches}
-use Rattle.txn_core.specs.Touching.{keys_put, count_touched, touches_others}
+use Rattle.txn_core.specs.Touching.{keys_put, count_touched}
 use Rattle.txn_core.specs.Views.{touch_view, keys_view}
 use Rattle.txn_core.proofs.Alone.{no-clash}
 use Rattle.txn_core.proofs.clash.meets_nothing.Goals as goal

@@ -1,6 +1,5 @@
 -- Where the range has none of the keys that are put, nothing of it is put.
 use Rattle.std.proofs.Common.{sym, ◌∙◌, ap}
-use Rattle.kv_model.specs.Keys.{in_range}
 use Rattle.kv_model.specs.Txns.{Touch}
 use Rattle.txn_core.specs.Touching.{count_touched}
 use Rattle.txn_core.specs.Views.{keys_view}

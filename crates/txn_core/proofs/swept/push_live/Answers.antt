@@ -1,5 +1,5 @@
 -- What a stretch holds is that part of a range's live keys that lies in it.
-use Rattle.std.proofs.Common.{sym, ◌∙◌, ap, map, ◌++◌}
+use Rattle.std.proofs.Common.{◌∙◌, ap, map, ◌++◌}
 use Rattle.std.proofs.lemmas.List.{map-append}
 use Rattle.range_view.specs.Replies.{kv_view}
 use Rattle.txn_core.proofs.Sweeping.{live-within}

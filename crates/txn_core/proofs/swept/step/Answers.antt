@@ -1,5 +1,5 @@
 -- A step goes past what is covered, or takes what lies in a gap.
-use Rattle.std.proofs.Common.{◌≡◌, ◌++◌, List, ℕ, true, ◌&&◌, sym, ◌∙◌, subst, map}
+use Rattle.std.proofs.Common.{◌≡◌, ◌++◌, List, ◌&&◌, sym, ◌∙◌, subst, map}
 use Rattle.kv_model.specs.History.{KeyValue}
 use Rattle.kv_model.specs.Keys.{key_le, key_lt}
 use Rattle.kv_model.specs.Ranges.{live}
