@@ -89,7 +89,7 @@ count_of-append p (x ∷ xs) ys = omega (arith, count_of-append p xs ys)
 
 -- ---- what collides
 
-keys_put-append : (ts us : List Touch) → keys_put (ts ++ us) ≡ keys_put ts ++ keys_put us
+pub keys_put-append : (ts us : List Touch) → keys_put (ts ++ us) ≡ keys_put ts ++ keys_put us
 keys_put-append [] us = refl
 keys_put-append (Touch.one k ∷ ts) us = ap (λ ks. k ∷ ks) (keys_put-append ts us)
 keys_put-append (Touch.each r ∷ ts) us = keys_put-append ts us
@@ -324,7 +324,7 @@ opposite_branches cs s f = first-of (any_collide (touches s ++ touches f) []) (c
     (any_collide-none (touches s ++ touches f))
 
 -- each of them is clear of those behind it
-abbrev AreApart : List Touch → Type 0
+abbrev pub AreApart : List Touch → Type 0
 AreApart [] = ⊤
 AreApart (t ∷ ts) = IsClear t ts × AreApart ts
 

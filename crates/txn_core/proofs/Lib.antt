@@ -1,5 +1,7 @@
+pub mod Alone
 pub mod Apart
 pub mod Elements
+pub mod Buried
 pub mod Clashing
 pub mod Counting
 pub mod Making
@@ -8,6 +10,8 @@ pub mod Present
 pub mod PutCounts
 pub mod Running
 pub mod StaticFaults
+pub mod Staying
 pub mod Stepping
+pub mod Sweeping
 pub mod Walking
 pub mod Answering

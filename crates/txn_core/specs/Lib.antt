@@ -1,6 +1,8 @@
+pub mod Emptied
 pub mod Graves
 pub mod KeyWrites
 pub mod Planning
 pub mod Steps
+pub mod Swept
 pub mod Touching
 pub mod Views

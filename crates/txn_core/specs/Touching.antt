@@ -38,6 +38,15 @@ touches_more all own t = not (nat_eq (count_touched t all) (count_touched t own)
 abbrev pub meets_more : List (List ℕ) → List Touch → Bool
 meets_more all ts = list_any (touches_more all (keys_put ts)) ts
 
+-- how many keys an operation puts
+abbrev pub own_of : Touch → ℕ
+own_of (Touch.one k) = 1
+own_of (Touch.each r) = 0
+
+-- it collides with another number of the keys than it puts
+abbrev pub touches_others : List (List ℕ) → Touch → Bool
+touches_others all t = not (nat_eq (count_touched t all) (own_of t))
+
 -- what all operations touch, of what each does
 abbrev pub all_of : List (List Touch) → List Touch
 all_of [] = []

@@ -4,7 +4,7 @@ ghost use Rattle.kv_model.specs.declared.refusal.Refusal.TheVariants.{Memory};
 ghost use Rattle.kv_model.specs.Commands.{txn_view};
 ghost use Rattle.kv_model.specs.Txns as txns;
 
-use crate::clash::clashes;
+use crate::clash::any_clash;
 use crate::fault::walk_fault;
 use kv_model::call::Txn;
 use kv_model::refusal::Refusal;
@@ -18,9 +18,9 @@ use std::alloc::Global;
 /// that can run together put one key, or one of them puts a key in the range of the other's delete.
 /// `Memory` comes where there is no fault, and the lists of keys for that found none.
 ///
-/// The walk is linear. The search sorts the keys that are put in each row of operations once, and
-/// those that each of the row's operations puts, so it takes n log n comparisons of keys in the
-/// number of operations for each of the at most eight levels.
+/// The walk is linear. The search sorts the keys that are put, so it takes n log n comparisons of
+/// keys in the number of operations; where a key that is put is touched twice, in opposite branches
+/// maybe, it takes as many again for each of the at most eight levels.
 #[tactic(auto, using(crate::proofs::StaticFaults::faultless, crate::proofs::StaticFaults::refused_by_fault, crate::proofs::StaticFaults::refused_by_clash, crate::proofs::StaticFaults::refused_by_memory))]
 pub fn check(alloc: Global, txn: &Txn) -> Result<(), Refusal>
     ensures allowed { OnOk result (txns.static_fault (txn_view txn.now) ≡ None) }
@@ -30,7 +30,7 @@ pub fn check(alloc: Global, txn: &Txn) -> Result<(), Refusal>
     if let Some(fault) = walk_fault(txn) {
         return Err(fault);
     }
-    match clashes(alloc, txn) {
+    match any_clash(alloc, txn) {
         Ok(true) => Err(Refusal::DuplicateKey),
         Ok(false) => Ok(()),
         Err(_) => Err(Refusal::Memory),

@@ -1,5 +1,5 @@
 //! Operations of a transaction that may not run together.
-ghost use Rattle.std.specs.Prelude.{◌≡◌, map, IfOk};
+ghost use Rattle.std.specs.Prelude.{◌≡◌, true, false, map, IfOk};
 ghost use Rattle.std.specs.List.{list_any};
 ghost use Rattle.kv_model.specs.Commands.{txn_view, op_view, ops_view};
 ghost use Rattle.kv_model.specs.Txns.{Touch};
@@ -9,7 +9,7 @@ ghost use Rattle.txn_core.specs.Touching.{OppositeBranchesDoNotClash, PutsAreAlo
 ghost use Rattle.txn_core.specs.Views.{touch_view, keys_view, AreSorted};
 
 use crate::keys::{count, sorted_keys};
-use crate::touched::{Touched, push_operation, push_row};
+use crate::touched::{Touched, push_operation, push_row, push_txn};
 use bytes::Bytes;
 use kv_model::call::{Operation, Txn};
 use std::alloc::{AllocError, Global};
@@ -17,12 +17,58 @@ use std::alloc::{AllocError, Global};
 /// Whether two operations that can run together change a key in common, at least one of them by a
 /// put. Two can run together unless they lie in opposite branches of one transaction.
 ///
+/// Where no key that is put is touched by any other operation of the transaction, nothing clashes:
+/// that takes n log n comparisons of keys in the number of operations, at whatever levels they
+/// stand. Else each level is looked into. The memory is linear, and the error is want of it.
+pub(crate) fn any_clash(alloc: Global, txn: &Txn) -> Result<bool, AllocError>
+    ensures { IfOk result (λ b. b ≡ txns.clashes (txn_view txn.now)) }
+{
+    if meets_nothing(alloc, txn)? {
+        return Ok(false);
+    }
+    clashes(alloc, txn)
+}
+
+/// Whether no operation, in whichever branch, touches a key that another one puts.
+fn meets_nothing(alloc: Global, txn: &Txn) -> Result<bool, AllocError>
+    ensures { IfOk result (λ b. b ≡ true → txns.clashes (txn_view txn.now) ≡ false) }
+{
+    let mut touched = Vec::new(alloc);
+    push_txn(&mut touched, txn)?;
+    let keys = sorted_keys(alloc, &touched)?;
+    if meets_others(&touched, &keys) {
+        return Ok(false);
+    }
+    Ok(true)
+}
+
+/// Whether some of what is touched touches another number of the keys than it puts.
+fn meets_others(touched: &[Touched<'_>], keys: &[&Bytes]) -> bool
+    requires { AreSorted keys.now }
+    ensures { result ≡ list_any (λ t.
+        touching.touches_others (keys_view keys.now) (touch_view t)) touched.now }
+{
+    touched.iter().any(|t| count(*t, keys) != own_count(*t))
+}
+
+/// How many keys an operation puts.
+fn own_count(touched: Touched<'_>) -> usize
+    ensures { result ≡ touching.own_of (touch_view touched.entry) }
+{
+    match touched {
+        Touched::Put(_) => 1,
+        Touched::Deleted(_) => 0,
+    }
+}
+
+/// The same, looked for at each level.
+///
 /// For each row of operations the keys that are put in it are sorted, and so are those that each of
 /// its operations puts. Two of the operations collide where one touches more of the row's keys than
 /// of its own, which halving counts. So the time is n log n in the number of operations for each
 /// level of transactions, and the memory linear. The error is want of it.
 #[cycle(clash)]
-pub(crate) fn clashes(alloc: Global, txn: &Txn) -> Result<bool, AllocError>
+fn clashes(alloc: Global, txn: &Txn) -> Result<bool, AllocError>
     ensures { IfOk result (λ b. b ≡ txns.clashes (txn_view txn.now)) }
 {
     if row_clashes(alloc, &txn.success)? {

@@ -62,7 +62,7 @@ pub(crate) fn count(touched: Touched<'_>, keys: &[&Bytes]) -> usize
 }
 
 /// How many of the keys lie in the range.
-fn count_within(keys: &[&Bytes], range: &KeyRange) -> usize
+pub(crate) fn count_within(keys: &[&Bytes], range: &KeyRange) -> usize
     requires { AreSorted keys.now }
     ensures { result ≡ count_of (in_range range.now) (keys_view keys.now) }
 {

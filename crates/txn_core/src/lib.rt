@@ -32,12 +32,15 @@ mod clash;
 mod compare;
 mod delete;
 mod deleted;
+mod emptied;
 mod fault;
 mod keys;
 mod planning;
 mod put;
 mod reply;
 pub mod step;
+mod stretch;
+mod swept;
 mod touched;
 
 pub use checking::check;

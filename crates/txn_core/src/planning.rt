@@ -12,13 +12,16 @@ ghost use Rattle.txn_core.specs.KeyWrites as writes;
 ghost use Rattle.txn_core.specs.Planning.{present};
 ghost use Rattle.txn_core.specs.Planning as planning;
 ghost use Rattle.txn_core.specs.Steps.{step_view, steps_view};
+ghost use Rattle.txn_core.specs.Swept.{AreGone};
 
 use crate::changes::Changes;
 use crate::compare::all_hold;
 use crate::put::{held_refusal, number_after, version_put};
 use crate::step::{Plan, Step};
+use crate::swept;
 use kv_model::call::{DeleteRequest, Operation, PutRequest, RangeQuery, Txn};
 use kv_model::refusal::Refusal;
+use kv_model::version::KeyRange;
 use lease_book::LeaseBook;
 use range_view::View;
 use range_view::revision::revision_refusal;
@@ -46,10 +49,11 @@ struct Branch<'t> {
 /// A revision or a count of puts that 64 bits do not hold is given as the greatest number that they
 /// hold. No store comes to either, whose revisions end at 2^63 - 1.
 ///
-/// Each compare and each delete walks the keys of its range, up to the first compare of a
-/// transaction that does not hold; each key that is put or deleted takes time logarithmic in the
-/// keys that are kept or deleted so far. A put shares the request's key and value; the key of a
-/// tombstone and a value that is kept are copied.
+/// Each compare walks the keys of its range, up to the first compare of a transaction that does not
+/// hold, and each delete those of its range that lie in no range that was deleted before it; each
+/// key that is put or deleted takes time logarithmic in the keys that are kept or deleted so far. A
+/// put shares the request's key and value; the key of a tombstone and a value that is kept are
+/// copied.
 pub fn plan<'t>(
     alloc: Global,
     view: &View<'_>,
@@ -99,7 +103,8 @@ fn plan_at<'t>(
         (planning.path_in view.now (txn_view txn.now)))) }
 {
     let mut changes = Changes::new(alloc);
-    match run_txn(alloc, view, leases, &mut changes, txn) {
+    let mut emptied = Vec::new(alloc);
+    match run_txn(alloc, view, leases, &mut changes, &mut emptied, txn) {
         Ok(branch) => Ok(Plan {
             succeeded: branch.succeeded,
             steps: branch.steps,
@@ -116,9 +121,12 @@ fn run_txn<'a, 't>(
     view: &View<'a>,
     leases: &LeaseBook,
     changes: &mut Changes<'a>,
+    emptied: &mut Vec<&'t KeyRange>,
     txn: &'t Txn,
 ) -> Result<Branch<'t>, Refusal>
-    requires { planning.IsPresent view.now }
+    requires present { planning.IsPresent view.now }
+    requires emptied { AreGone view.now changes.old emptied.old.items }
+    ensures emptied { OnOk result (AreGone view.now changes.new emptied.new.items) }
     ensures path { IfOk result (λ b. Path.txn b.succeeded (steps_view b.steps.items) Path.end
         ≡ planning.path_in view.now (txn_view txn.now)) }
     ensures made { IfOk result (λ b. changes.new
@@ -134,9 +142,9 @@ fn run_txn<'a, 't>(
         return Err(Refusal::Memory);
     };
     let ran = if succeeded {
-        run_row(alloc, view, leases, changes, &txn.success)
+        run_row(alloc, view, leases, changes, emptied, &txn.success)
     } else {
-        run_row(alloc, view, leases, changes, &txn.failure)
+        run_row(alloc, view, leases, changes, emptied, &txn.failure)
     };
     match ran {
         Ok(steps) => Ok(Branch { succeeded, steps }),
@@ -151,9 +159,12 @@ fn run_row<'a, 't>(
     view: &View<'a>,
     leases: &LeaseBook,
     changes: &mut Changes<'a>,
+    emptied: &mut Vec<&'t KeyRange>,
     row: &'t Vec<Operation>,
 ) -> Result<Vec<Step<'t>>, Refusal>
-    requires { planning.IsPresent view.now }
+    requires present { planning.IsPresent view.now }
+    requires emptied { AreGone view.now changes.old emptied.old.items }
+    ensures emptied { OnOk result (AreGone view.now changes.new emptied.new.items) }
     ensures path { IfOk result (λ s. steps_view s.items
         ≡ planning.path_in view.now (ops_view row.now.items)) }
     ensures made { IfOk result (λ s. changes.new
@@ -167,7 +178,7 @@ fn run_row<'a, 't>(
 {
     let mut steps = Vec::new(alloc);
     for operation in row {
-        let step = match run_operation(alloc, view, leases, changes, operation) {
+        let step = match run_operation(alloc, view, leases, changes, emptied, operation) {
             Ok(step) => step,
             Err(refusal) => return Err(refusal),
         };
@@ -186,9 +197,12 @@ fn run_operation<'a, 't>(
     view: &View<'a>,
     leases: &LeaseBook,
     changes: &mut Changes<'a>,
+    emptied: &mut Vec<&'t KeyRange>,
     operation: &'t Operation,
 ) -> Result<Step<'t>, Refusal>
-    requires { planning.IsPresent view.now }
+    requires present { planning.IsPresent view.now }
+    requires emptied { AreGone view.now changes.old emptied.old.items }
+    ensures emptied { OnOk result (AreGone view.now changes.new emptied.new.items) }
     ensures path { IfOk result (λ s. (rest : Ops)
         → planning.path_in view.now (then (op_view operation.now) rest)
         ≡ step_view s (planning.path_in view.now rest)) }
@@ -212,11 +226,11 @@ fn run_operation<'a, 't>(
             Ok(()) => Ok(Step::Put(request)),
             Err(refusal) => Err(refusal),
         },
-        Operation::Delete(request) => match run_delete(alloc, view, changes, request) {
+        Operation::Delete(request) => match run_delete(alloc, view, changes, emptied, request) {
             Ok(()) => Ok(Step::Delete(request)),
             Err(_) => Err(Refusal::Memory),
         },
-        Operation::Inner(txn) => match run_txn(alloc, view, leases, changes, txn) {
+        Operation::Inner(txn) => match run_txn(alloc, view, leases, changes, emptied, txn) {
             Ok(Branch { succeeded, steps }) => Ok(Step::Inner { succeeded, steps }),
             Err(refusal) => Err(refusal),
         },
@@ -271,16 +285,22 @@ fn run_put<'a>(
 }
 
 /// A delete makes a tombstone of each live key of its range that the transaction has not deleted
-/// already.
-fn run_delete<'a>(
+/// already. Those of ranges that it has emptied are not looked for.
+fn run_delete<'a, 't>(
     alloc: Global,
     view: &View<'a>,
     changes: &mut Changes<'a>,
-    request: &DeleteRequest,
+    emptied: &mut Vec<&'t KeyRange>,
+    request: &'t DeleteRequest,
 ) -> Result<(), AllocError>
-    ensures { OnOk result (changes.new ≡ planning.with_graves (number_after view.now.revision) changes.old
+    requires { AreGone view.now changes.old emptied.old.items }
+    ensures made { OnOk result (changes.new
+        ≡ planning.with_graves (number_after view.now.revision) changes.old
         (ranges.keys_of (ranges.live view.now.versions view.now.place request.now.range))) }
+    ensures emptied { OnOk result (AreGone view.now changes.new emptied.new.items) }
 {
-    let live = view.live(alloc, &request.range)?;
-    changes.delete(number_after(view.revision()), &live)
+    let live = swept::live_beside(alloc, view, emptied, &request.range)?;
+    changes.delete(number_after(view.revision()), &live)?;
+    swept::add(emptied, &request.range)?;
+    Ok(())
 }

@@ -1,12 +1,14 @@
 //! What the operations of a transaction are answered (the etcd documentation's TxnResponse).
-ghost use Rattle.std.specs.Prelude.{◌≡◌, ◌+◌, ◌<◌, ◌^◌, IfOk, map, length, option_map, None};
+ghost use Rattle.std.specs.Prelude.{◌≡◌, ◌+◌, ◌<◌, ◌^◌, IfOk, OnOk, map, length, option_map, None};
 ghost use Rattle.kv_model.specs.History.{value_at};
 ghost use Rattle.store_laws.specs.Plans.{ReadsKept};
 ghost use Rattle.kv_model.specs.Ranges as ranges;
 ghost use Rattle.kv_model.specs.Txns as txns;
 ghost use Rattle.range_view.specs.Replies.{kv_view, reply_view, op_reply_view, replies_view};
+ghost use Rattle.txn_core.specs.Emptied.{AreEmptied};
 ghost use Rattle.txn_core.specs.Steps.{step_view, steps_view};
 
+use crate::emptied::{Emptied, live_left, none_emptied, note, settle};
 use crate::step::Step;
 use kv_model::call::{DeleteRequest, PutRequest, RangeQuery};
 use kv_model::version::Rev;
@@ -22,8 +24,9 @@ use std::alloc::{AllocError, Global};
 /// `AllocError` comes where a list of answers, or of what one of them shows, found no memory.
 ///
 /// A Range costs what `View::range` does, a put what `View::get` does where the key's value before
-/// is asked for and nothing where it is not, and a delete what `View::live` does. Keys and values
-/// are lent, and none is copied.
+/// is asked for and nothing where it is not, and a delete what `View::live` does, but for the keys
+/// of ranges that were deleted before it and are put by no operation: those are walked twice in all.
+/// Keys and values are lent, and none is copied.
 pub fn replies<'a>(
     alloc: Global,
     tables: &'a Tables,
@@ -38,24 +41,29 @@ pub fn replies<'a>(
         ≡ txns.replies_of tables.now.versions before 0
         (steps_view steps.now)) }
 {
-    let (replies, _) = row_replies(alloc, tables, before, 0, steps)?;
+    let mut emptied = none_emptied(alloc);
+    let (replies, _) = row_replies(alloc, tables, before, 0, steps, &mut emptied)?;
     Ok(replies)
 }
 
 /// The answers to operations in a row, and the number of the next change. The first one stands
 /// behind so many changes.
 #[cycle(reply)]
-fn row_replies<'a>(
+fn row_replies<'a, 't>(
     alloc: Global,
     tables: &'a Tables,
     before: u64,
     sub: u64,
-    steps: &[Step<'_>],
+    steps: &'t [Step<'_>],
+    emptied: &mut Emptied<'a, 't>,
 ) -> Result<(Vec<OpReply<'a>>, u64), AllocError>
     requires room { before + 1 < 2 ^ 64 }
     requires reads { ReadsKept tables.now.compacted before (steps_view steps.now) }
     requires changes { sub + txns.changes_of tables.now.versions (before + 1) sub
         (steps_view steps.now) < 2 ^ 64 }
+    requires emptied { AreEmptied tables.now.versions (before + 1) sub emptied.old }
+    ensures emptied { IfOk result (λ r.
+        AreEmptied tables.now.versions (before + 1) r.1 emptied.new) }
     ensures replies { IfOk result (λ r. replies_view r.0.items
         ≡ txns.replies_of tables.now.versions before sub
         (steps_view steps.now)) }
@@ -65,7 +73,7 @@ fn row_replies<'a>(
     let mut replies = Vec::new(alloc);
     let mut next = sub;
     for step in steps {
-        let (reply, after) = step_reply(alloc, tables, before, next, step)?;
+        let (reply, after) = step_reply(alloc, tables, before, next, step, emptied)?;
         replies.push(reply)?;
         next = after;
     }
@@ -74,17 +82,21 @@ fn row_replies<'a>(
 
 /// The answer to an operation that stands behind so many changes, and the number of the next one.
 #[cycle(reply)]
-fn step_reply<'a>(
+fn step_reply<'a, 't>(
     alloc: Global,
     tables: &'a Tables,
     before: u64,
     sub: u64,
-    step: &Step<'_>,
+    step: &'t Step<'_>,
+    emptied: &mut Emptied<'a, 't>,
 ) -> Result<(OpReply<'a>, u64), AllocError>
     requires room { before + 1 < 2 ^ 64 }
     requires reads { ReadsKept tables.now.compacted before (step_view step.now txns.Path.end) }
     requires changes { sub + txns.changes_of tables.now.versions (before + 1) sub
         (step_view step.now txns.Path.end) < 2 ^ 64 }
+    requires emptied { AreEmptied tables.now.versions (before + 1) sub emptied.old }
+    ensures emptied { IfOk result (λ r.
+        AreEmptied tables.now.versions (before + 1) r.1 emptied.new) }
     ensures replies { IfOk result (λ r. (rest : txns.Path)
         → op_reply_view r.0
         (txns.replies_of tables.now.versions before r.1 rest)
@@ -101,11 +113,11 @@ fn step_reply<'a>(
         )),
         Step::Put(put) => Ok((OpReply::Put(previous(tables, before, sub, put)), sub + 1)),
         Step::Delete(delete) => {
-            let (deleted, previous) = deleted(alloc, tables, before, sub, delete)?;
+            let (deleted, previous) = deleted(alloc, tables, before, sub, delete, emptied)?;
             Ok((OpReply::Delete { deleted, previous }, sub + deleted))
         }
         Step::Inner { succeeded, steps } => {
-            let (replies, next) = row_replies(alloc, tables, before, sub, steps)?;
+            let (replies, next) = row_replies(alloc, tables, before, sub, steps, emptied)?;
             let succeeded = *succeeded;
             Ok((OpReply::Inner { succeeded, replies }, next))
         }
@@ -150,14 +162,17 @@ fn previous<'a>(tables: &'a Tables, before: u64, sub: u64, put: &PutRequest) -> 
 
 /// How many keys a delete that stands behind so many changes took, and what they held where that is
 /// asked for.
-fn deleted<'a>(
+fn deleted<'a, 't>(
     alloc: Global,
     tables: &'a Tables,
     before: u64,
     sub: u64,
-    delete: &DeleteRequest,
+    delete: &'t DeleteRequest,
+    emptied: &mut Emptied<'a, 't>,
 ) -> Result<(u64, Vec<KvRef<'a>>), AllocError>
-    requires { before + 1 < 2 ^ 64 }
+    requires room { before + 1 < 2 ^ 64 }
+    requires emptied { AreEmptied tables.now.versions (before + 1) sub emptied.old }
+    ensures emptied { OnOk result (AreEmptied tables.now.versions (before + 1) sub emptied.new) }
     ensures count { IfOk result (λ r. r.0
         ≡ length (ranges.live tables.now.versions
         (txns.place_before (before + 1) sub) delete.now.range)) }
@@ -165,8 +180,10 @@ fn deleted<'a>(
         ≡ txns.if_asked delete.now.prev_kv
         (ranges.live tables.now.versions (txns.place_before (before + 1) sub) delete.now.range)) }
 {
+    settle_before(alloc, tables, before, sub, delete, emptied)?;
     let view = tables.view_before(before, place_before(before, sub));
-    let kvs = view.live(alloc, &delete.range)?;
+    let kvs = live_left(alloc, &view, emptied, &delete.range)?;
+    note(emptied, &delete.range);
     let count = kvs.len() as u64;
     if !delete.prev_kv {
         return Ok((count, Vec::new(alloc)));
@@ -174,8 +191,27 @@ fn deleted<'a>(
     Ok((count, kvs))
 }
 
+/// Sees whether the range that was deleted last stays empty, where this delete has several keys.
+fn settle_before<'a, 't>(
+    alloc: Global,
+    tables: &'a Tables,
+    before: u64,
+    sub: u64,
+    delete: &'t DeleteRequest,
+    emptied: &mut Emptied<'a, 't>,
+) -> Result<(), AllocError>
+    requires room { before + 1 < 2 ^ 64 }
+    requires emptied { AreEmptied tables.now.versions (before + 1) sub emptied.old }
+    ensures { OnOk result (AreEmptied tables.now.versions (before + 1) sub emptied.new) }
+{
+    if delete.range.end.is_empty() {
+        return Ok(());
+    }
+    settle(alloc, tables, before, sub, emptied)
+}
+
 /// The place before the change of a number, in the revision after one.
-fn place_before(before: u64, sub: u64) -> Rev
+pub(crate) fn place_before(before: u64, sub: u64) -> Rev
     requires { before + 1 < 2 ^ 64 }
     ensures { result ≡ txns.place_before (before + 1) sub }
 {

@@ -18,7 +18,7 @@ pub(crate) enum Touched<'a> {
 
 /// Adds what a transaction may change, in either branch, in the order of the document.
 #[cycle(touch)]
-fn push_txn<'a>(out: &mut Vec<Touched<'a>>, txn: &'a Txn) -> Result<(), AllocError>
+pub(crate) fn push_txn<'a>(out: &mut Vec<Touched<'a>>, txn: &'a Txn) -> Result<(), AllocError>
     ensures { OnOk result
         (map touch_view out.new.items
         ≡ map touch_view out.old.items ++ touches (txn_view txn.now)) }

@@ -15,6 +15,7 @@ use Rattle.txn_core.specs.Steps.{in_row, step_view, steps_view}
 use Rattle.txn_core.proofs.Running.{refused-first, none-first, path-range, path-put, path-delete, path-inner, refused-inner, branch_of, ran}
 use Rattle.txn_core.proofs.Running.{not_run, row-split, row-end, in_row-more}
 use Rattle.txn_core.proofs.Elements.{At}
+use Rattle.txn_core.proofs.Buried.{gone-still}
 use Rattle.txn_core.proofs.Stepping.{step_view-Range, step_view-Put, step_view-Delete, step_view-Inner}
 use Rattle.txn_core.proofs.planning.+run.Goals as goal
 use Rattle.txn_core.proofs.planning.+run.Goals.{run_txn-then-succeeded, run_txn-else-succeeded}
@@ -71,6 +72,10 @@ run_operation-returns-in-Ok-run_put-clause-fine t c = λ rest.
     ap (refusal_in v ls) (step_view-Put _ rest) ∙ none-first (held_refusal (is_granted ls) p (value_at v.versions v.place p.key))
     (refusal_in v ls rest) c.in-Ok-run_put.ensures.fine
 
+pub run_operation-returns-in-Ok-run_put-clause-emptied : goal.run_operation-returns-in-Ok-run_put-clause-emptied
+run_operation-returns-in-Ok-run_put-clause-emptied t c = gone-still c.args.view.now c.args.changes.now _ _ c.args.emptied.now.items
+    c.in-Ok-run_put.ensures.made c.requires.emptied
+
 pub run_operation-returns-in-Err-run_put-clause-refused : goal.run_operation-returns-in-Err-run_put-clause-refused
 unfolding refusal_of
 run_operation-returns-in-Err-run_put-clause-refused t c = λ rest.
@@ -94,7 +99,7 @@ pub run_operation-returns-in-Ok-run_delete-clause-made : goal.run_operation-retu
 unfolding made
 run_operation-returns-in-Ok-run_delete-clause-made t c = λ rest.
     let v = c.args.view.now in
-    ap (versions_made_in v c.args.changes.now) (step_view-Delete _ rest) ∙ ap (λ ws. versions_made_in v ws rest) (sym c.in-Ok-run_delete.ensures)
+    ap (versions_made_in v c.args.changes.now) (step_view-Delete _ rest) ∙ ap (λ ws. versions_made_in v ws rest) (sym c.in-Ok-run_delete.ensures.made)
 
 pub run_operation-returns-in-Ok-run_delete-clause-fine : goal.run_operation-returns-in-Ok-run_delete-clause-fine
 unfolding refusal_of
@@ -182,6 +187,7 @@ run_row-loop-operation-preserved t c =
           ∙ ap (in_row (map step_view l.steps.items)) (sym stepped) ∙ l.invariant.0,
       sym (c.in-Ok.ensures.made (path_in v rest)) ∙ ap (versions_made_in v l.changes) (sym stepped) ∙ l.invariant.1,
       sym (c.in-Ok.ensures.fine (path_in v rest)) ∙ ap (refusal_in v ls) (sym stepped) ∙ l.invariant.2,
+      c.in-Ok.ensures.emptied,
     )
 
 pub run_row-returns-clause-path : goal.run_row-returns-clause-path

@@ -1,11 +1,12 @@
 -- Each operation is answered as its path is, and so is a row of them.
-use Rattle.std.proofs.Common.{◌≡◌, ◌+◌, ◌<◌, ◌^◌, sym, ◌∙◌, ap, subst, map, drop, arith, rules}
+use Rattle.std.proofs.Common.{◌≡◌, ◌+◌, ◌<◌, ◌≤◌, ◌^◌, sym, ◌∙◌, ap, subst, map, drop, arith, rules}
 use Rattle.txn_core.specs.declared.step.Step.{the_lemmas}
 use Rattle.kv_model.specs.Txns.{Path, replies_of, changes_of}
 use Rattle.store_laws.specs.Plans.{ReadsKept}
 use Rattle.range_view.specs.Replies.{in_row, op_reply_view}
 use Rattle.txn_core.specs.Steps.{step_view, steps_view}
 use Rattle.txn_core.proofs.Elements.{At}
+use Rattle.txn_core.proofs.Staying.{emptied-later}
 use Rattle.txn_core.proofs.Answering.{row-at, row-end, row-reads, row-changes, row-room, row-pushed}
 use Rattle.txn_core.proofs.Answering.{path-range, path-put, path-delete, path-inner}
 use Rattle.txn_core.proofs.Answering.{range-changes, put-changes, delete-changes, inner-changes}
@@ -25,7 +26,7 @@ row_replies-step_reply-requires t c =
         c.requires.room,
         (
           (row-reads c.args.tables.now.compacted c.args.before ss here l.invariant.reads).0,
-          row-room c.args.tables.now.versions (c.args.before + 1) l.next ss here _ room,
+          (row-room c.args.tables.now.versions (c.args.before + 1) l.next ss here _ room, l.invariant.emptied),
         ),
       ),
     )
@@ -46,6 +47,7 @@ row_replies-loop-step-preserved t c =
           ∙ row-pushed l.replies.items reply.reply (told v n reply.after rest)
           ∙ ap (in_row (map op_reply_view l.replies.items)) (reply.ensures.replies rest ∙ ap (told v n l.next) (sym (row-at ss here)))
           ∙ l.invariant.replies;
+      emptied = reply.ensures.emptied;
     }
 
 pub row_replies-returns-clause-replies : goal.row_replies-returns-clause-replies
@@ -109,6 +111,11 @@ step_reply-returns-in-Put-clause-next t c =
     put-changes vs main c.args.sub c.in-Put.put.now
     ∙ ap (λ q. c.args.sub + changes_of vs main c.args.sub q) (sym (path-put c.args.step.now c.in-Put.put c.in-Put.is Path.end))
 
+pub step_reply-returns-in-Put-clause-emptied : goal.step_reply-returns-in-Put-clause-emptied
+step_reply-returns-in-Put-clause-emptied t c =
+    let more : c.args.sub ≤ c.args.sub + 1 = omega arith in
+    emptied-later c.args.tables.now.versions (c.args.before + 1) c.args.sub (c.args.sub + 1) c.args.emptied.now more c.requires.emptied
+
 -- ---- a delete
 
 pub step_reply-overflow_add-result-in-Delete : goal.step_reply-overflow_add-result-in-Delete
@@ -138,6 +145,12 @@ step_reply-returns-in_ok-deleted-in-Delete-clause-next t c =
     ap (λ k. c.args.sub + k) c.in_ok-deleted-in-Delete.ensures.count ∙ delete-changes vs main c.args.sub c.in-Delete.delete.now
     ∙ ap (λ q. c.args.sub + changes_of vs main c.args.sub q) (sym path)
 
+pub step_reply-returns-in_ok-deleted-in-Delete-clause-emptied : goal.step_reply-returns-in_ok-deleted-in-Delete-clause-emptied
+step_reply-returns-in_ok-deleted-in-Delete-clause-emptied t c =
+    let more : c.args.sub ≤ c.args.sub + c.in_ok-deleted-in-Delete.deleted = omega arith in
+    emptied-later c.args.tables.now.versions (c.args.before + 1) c.args.sub (c.args.sub + c.in_ok-deleted-in-Delete.deleted) _ more
+    c.in_ok-deleted-in-Delete.ensures.emptied
+
 -- ---- a transaction within
 
 pub step_reply-row_replies-requires : goal.step_reply-row_replies-requires
@@ -154,7 +167,7 @@ step_reply-row_replies-requires t c =
         c.requires.room,
         (
           (subst (ReadsKept c.args.tables.now.compacted c.args.before) path c.requires.reads).0,
-          omega (arith, same, c.requires.changes),
+          (omega (arith, same, c.requires.changes), c.requires.emptied),
         ),
       ),
     )
