@@ -2,9 +2,9 @@
 //! formats 1 and 2.
 //!
 //! The one contract: [`write`] gives the text of what it is handed, and [`read`] gives what a text
-//! is of, or the number of the first line at which no text goes on. `specs/Texts.antt` says what
-//! the text is, line by line. On its lines stand, with fields parted by one space and each line
-//! ended by a line feed:
+//! is of, or the number of the first line at which no text goes on. `commands` calls both, for the
+//! script's line `CERTIFY` and for `check`. `specs/Texts.antt` says what the text is, line by line.
+//! On its lines stand, with fields parted by one space and each line ended by a line feed:
 //!
 //! ```text
 //! dump 2
@@ -23,7 +23,8 @@
 //!
 //! Format 1 has `dump 1` and `needs 1` in the place of `dump 2` and `needs 2`, and no line `prev`.
 //!
-//! Its tests stand in the crate `certificate_tests`.
+//! Only tested is that calls which may find no memory succeed where there is ample: in the crate
+//! `certificate_tests`.
 #![tactic(auto)]
 
 mod fields;

@@ -15,6 +15,8 @@
 //! begins_with       of two fronts of one book the shorter begins the longer
 //! ```
 //!
+//! `snapshot_feed` keeps one, and its readers hold fronts.
+//!
 //! The tests stand in the crate `table_tests`, in `src/feeds.rt`.
 #![tactic(auto)]
 

@@ -31,7 +31,7 @@ pub enum Bad {
 }
 
 impl Bad {
-    /// The refusal's number, by which logs and tests name it. Takes no memory.
+    /// The refusal's number, by which tests name it. Takes no memory.
     pub fn number(self) -> u8
         ensures { result ≡ number_of self }
     {

@@ -19,8 +19,8 @@
 //! name is spelled in snake or in camel case, and one that no message has is ignored. With
 //! `"limit":"two"` and `"key":"?"` the refusal is `BadBase64(Key)`, since `key` is read first.
 //!
-//! The tests stand in the crate `gateway_tests`, in `src/values.rt` and `src/faults.rt`, and in
-//! `tests/rows.d/refusals.rows`.
+//! Only tested is that calls which may find no memory succeed where there is ample: in the crate
+//! `gateway_tests`, in `src/values.rt` and `src/faults.rt`, and in `tests/rows.d/refusals.rows`.
 #![tactic(auto)]
 
 ghost use Rattle.std.specs.Prelude.{◌≡◌, ◌<◌, length, None, Err, IsSome};

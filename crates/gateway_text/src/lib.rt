@@ -16,7 +16,8 @@
 //! Within, a body is a list of JSON tokens ([`json_text`]): each `write_..` function appends those
 //! of one value, and the text of the tokens is the body.
 //!
-//! The tests stand in the crate `gateway_tests`, in `src/texts.rt`.
+//! Only tested is that calls which may find no memory succeed where there is ample: in the crate
+//! `gateway_tests`, in `src/texts.rt`.
 #![tactic(auto)]
 
 mod answers;

@@ -16,7 +16,8 @@
 //! next_request    Err(End)          where the input ends behind them
 //! ```
 //!
-//! The tests stand in the crate `http_tests`, in `src/inputs.rt`.
+//! Only tested is that calls which may find no memory succeed where there is ample: in the crate
+//! `http_tests`, in `src/inputs.rt`.
 #![tactic(auto)]
 
 mod buffer;

@@ -44,7 +44,7 @@ pub enum Front {
 }
 
 impl Front {
-    /// The number, by which logs and tests name it. Takes no memory.
+    /// The number, by which tests name it. Takes no memory.
     pub fn number(self) -> u8
         ensures { result ≡ number_of self }
     {

@@ -3,9 +3,20 @@
 //! The one contract is that of [`write_reply`] and [`write_chunk`]: what goes out is the text that
 //! the specification lays out, whole, or exactly the counted beginning of it where a write fails.
 //! [`Counted`] passes a reader's or writer's calls on and counts them, and [`Front`] says why a
-//! connection ends before its requests do.
+//! connection ends before its requests do. `http_loop` writes each reply by them. For example, of a
+//! refusal behind which the connection is closed:
 //!
-//! The tests stand in the crate `http_tests`, in `src/replies.rt` and `src/counts.rt`.
+//! ```text
+//! HTTP/1.1 400 Bad Request
+//! Content-Type: application/json
+//! Content-Length: 62
+//! Connection: close
+//!
+//! {"code":3,"error":"http: bad head","message":"http: bad head"}
+//! ```
+//!
+//! Only tested is that calls which may find no memory succeed where there is ample: in the crate
+//! `http_tests`, in `src/replies.rt` and `src/counts.rt`.
 #![tactic(auto)]
 
 mod counted;

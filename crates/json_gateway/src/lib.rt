@@ -32,7 +32,8 @@
 //! watch go on by `Core::advance`: a delivery that finds no memory is not made. [`Message`] is what
 //! it was told.
 //!
-//! The tests stand in the crate `gateway_tests`, in `src/gateway.rt` and `src/messages.rt`.
+//! Only tested is that calls which may find no memory succeed where there is ample: in the crate
+//! `gateway_tests`, in `src/gateway.rt` and `src/messages.rt`.
 #![tactic(auto)]
 
 pub mod certifying;

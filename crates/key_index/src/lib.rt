@@ -27,7 +27,8 @@
 //!
 //! A key without revisions is not in the index.
 //!
-//! The tests stand in the crate `table_tests`, in `src/index.rt`.
+//! Only tested is that calls which may find no memory succeed where there is ample: in the crate
+//! `table_tests`, in `src/index.rt`.
 #![tactic(auto)]
 
 mod changes;

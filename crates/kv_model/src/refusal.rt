@@ -45,7 +45,7 @@ pub enum Refusal {
 }
 
 impl Refusal {
-    /// The refusal's number, by which logs and tests name it. Takes no memory.
+    /// The refusal's number, by which tests name it. Takes no memory.
     pub fn number(self) -> u8
         ensures { result ≡ number_of self }
     {

@@ -19,7 +19,8 @@
 //! time_left 7            9 of 10 s
 //! ```
 //!
-//! The tests stand in the crate `table_tests`, in `src/leases.rt`.
+//! Only tested is that calls which may find no memory succeed where there is ample: in the crate
+//! `table_tests`, in `src/leases.rt`.
 #![tactic(auto)]
 
 pub mod book;

@@ -7,7 +7,8 @@
 //! and where it stands, [`LeaseKeys::settle`] takes out what it replaced. Each is exact in every
 //! state, and together they keep the index just what it is to be (`AreJust` of `specs`): it has the
 //! pair of a lease and a key exactly where the key's last put names that lease and the key is live.
-//! Then [`LeaseKeys::live`] answers the live keys whose last put names a lease.
+//! Then [`LeaseKeys::live`] answers the live keys whose last put names a lease. `request_core`
+//! keeps one beside its tables, and asks it at a revoke, an expiry and a time to live.
 //!
 //! For example:
 //!
@@ -19,7 +20,8 @@
 //! delete b, settled             8: a               a lease without keys has no entry
 //! ```
 //!
-//! The tests stand in the crate `table_tests`, in `src/keys_of_leases.rt`.
+//! Only tested is that calls which may find no memory succeed where there is ample, in the crate
+//! `table_tests`, in `src/keys_of_leases.rt`, and that memory is given back (`tests/lease_keys`).
 #![tactic(auto)]
 
 mod index;

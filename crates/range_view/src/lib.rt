@@ -22,7 +22,8 @@
 //! compact(4), view().range a at 3   refused: Compacted(4)
 //! ```
 //!
-//! The tests stand in the crate `store_tests`, in `src/views.rt`.
+//! Only tested is that calls which may find no memory succeed where there is ample: in the crate
+//! `store_tests`, in `src/views.rt`.
 #![tactic(auto)]
 
 mod filter;

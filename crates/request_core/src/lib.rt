@@ -27,8 +27,9 @@
 //! at revision 9
 //! ```
 //!
-//! The tests stand in the crate `store_tests`, in `src/cores.rt`; that of the last revisions, which
-//! needs a core made near them, in `src/store/spent.rt`.
+//! Only tested is that calls which may find no memory succeed where there is ample: in the crate
+//! `store_tests`, in `src/cores.rt`; that of the last revisions, which needs a core made near them,
+//! in `src/store/spent.rt`.
 #![tactic(auto)]
 
 pub mod answer;

@@ -101,7 +101,8 @@ impl Core {
     }
 
     /// How many changing calls came, wrapping: accepted commands that changed something, moments,
-    /// and steps of expiry that revoked a lease. No other call counts. Takes no memory.
+    /// steps of expiry that revoked a lease, and trimming steps that took a version out. No other
+    /// call counts. Takes no memory.
     pub fn stamp(&self) -> u64
         ensures { result ≡ self.now.stamp }
     {

@@ -21,7 +21,8 @@
 //! publish                       a reader that is inside shows 2 until it enters again, then 3
 //! ```
 //!
-//! The tests stand in the crate `table_tests`, in `src/feeds.rt`.
+//! Only tested is that calls which may find no memory succeed where there is ample: in the crate
+//! `table_tests`, in `src/feeds.rt`.
 #![tactic(auto)]
 
 pub mod entry;

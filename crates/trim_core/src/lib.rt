@@ -1,7 +1,7 @@
 //! Trimming: what a compaction left over is taken out, one version at a time.
 //!
 //! The one contract is [`Trimmer::step`]: over a table of versions and the index of their keys it
-//! is the model's step (`trimmed` of `kv_model`), in every state, and the index is then again that
+//! is the rule's step (`trimmed` of `store_laws`), in every state, and the index is then again that
 //! of the table. `range_view` takes such a step between two requests (`Tables::trim_step`). The
 //! laws in [`laws`] say what the steps before it make of one: they have no part in its contract.
 //!

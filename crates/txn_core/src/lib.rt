@@ -22,8 +22,9 @@
 //!
 //! A second put of a on success, or a delete of a range with a in it, would be `DuplicateKey`.
 //!
-//! The tests stand in the crate `store_tests`, in `src/checks.rt` and `src/plans.rt`; those of
-//! answers are rows of `tests/rows.d`.
+//! Only tested is that calls which may find no memory succeed where there is ample: in the crate
+//! `store_tests`, in `src/checks.rt` and `src/plans.rt`; those of answers are rows of
+//! `tests/rows.d`.
 #![tactic(auto)]
 
 mod changes;

@@ -21,7 +21,8 @@
 //! remove 2.0, 3.1, 5.0                [6.0]
 //! ```
 //!
-//! The tests stand in the crate `table_tests`, in `src/table.rt` and `src/pages.rt`.
+//! Only tested is that calls which may find no memory succeed where there is ample: in the crate
+//! `table_tests`, in `src/table.rt` and `src/pages.rt`.
 #![tactic(auto)]
 
 mod galloping;

@@ -19,7 +19,8 @@
 //! cancel 1              2: 4, 3: none              no later watch gets the number 1
 //! ```
 //!
-//! The tests stand in the crate `store_tests`, in `src/watches.rt`.
+//! Only tested is that calls which may find no memory succeed where there is ample: in the crate
+//! `store_tests`, in `src/watches.rt`.
 #![tactic(auto)]
 
 mod bounds;

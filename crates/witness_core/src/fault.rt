@@ -33,7 +33,7 @@ pub enum NeedFault {
 }
 
 impl NeedFault {
-    /// The fault's number, by which logs and tests name it. Takes no memory.
+    /// The fault's number, by which tests name it. Takes no memory.
     pub fn number(self) -> u8
         ensures { result ≡ number_of self }
     {

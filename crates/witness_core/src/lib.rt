@@ -23,7 +23,8 @@
 //! 4 have the needs of Ranges at 4, the oldest that may be asked, and version 2 that of a watch of
 //! `a` at 4, which tells it as the value before version 4. After one at 5 version 2 is gone.
 //!
-//! The tests stand in the crate `certificate_tests`.
+//! Only tested is that calls which may find no memory succeed where there is ample: in the crate
+//! `certificate_tests`.
 #![tactic(auto)]
 
 pub mod certificate;
