@@ -1,5 +1,5 @@
 -- What a client reads beside the engine, as a response.
-use Rattle.std.proofs.Common.{◌≡◌, ◌⊎◌, inl, inr, true, false, ℕ, List, Option, None, Some, Bool, Result, Ok, Err, sym, ◌∙◌, ap, subst}
+use Rattle.std.proofs.Common.{◌≡◌, ◌⊎◌, inl, inr, true, false, ℕ, List, Option, None, Some, Result, Ok, Err, sym, ◌∙◌, ap}
 use Rattle.std.specs.Prelude.{IfSome, IfNone}
 use Rattle.kv_model.specs.declared.ids.Ids.{Ids}
 use Rattle.kv_model.specs.declared.call.Command.{Command}
@@ -20,7 +20,7 @@ use Rattle.json_gateway.specs.declared.outcome.Settled.{Settled}
 use Rattle.json_gateway.specs.declared.outcome.Settled.TheVariants as settled
 use Rattle.json_gateway.specs.Endings.{Refuses}
 use Rattle.engine_lock.specs.Locked.{Caller, left}
-use Rattle.http_front.specs.Engines.{Begins, CatchesUp, IsAnswer, Looks, LooksUp, Reads, SettlesAs, Starts, Stays}
+use Rattle.http_front.specs.Engines.{IsAnswer, Looks, LooksUp, SettlesAs, Starts, Stays}
 use Rattle.http_front.specs.Engines.{answer_over, response_over}
 
 -- the reader's answer is the model's, or memory was wanting
@@ -48,30 +48,12 @@ pub reads_client : (c d e : Caller) → d ≡ record c { reader = d.reader } →
 reads_client c d e h b l = l ∙ ap left h ∙ (λ i. record c { reader = record c.reader { book = b i; known = d.reader.known; inside = false } })
 
 -- a Range that was read
-pub looks_up : (ids : Ids) (c from d : Caller) (q : RangeQuery) (r : Option Outcome) → Begins q.serializable c from
-    → IfSome r (λ o. Reads ids from q o d) → IfSome r (λ o. LooksUp ids c q o d)
-looks_up ids c from d q None b h = tt
-looks_up ids c from d q (Some o) b h = record { from = from; begins = b; reads = h }
-
 pub looks_as : (ids : Ids) (c d : Caller) (q : RangeQuery) (command : Command) (r : Option Outcome) → command ≡ commands.Range q
     → IfSome r (λ o. LooksUp ids c q o d) → IfSome r (λ o. Looks ids c command o d)
 looks_as ids c d q command None is h = tt
 looks_as ids c d q command (Some o) is h = record { query = q; is = is; looks = h }
 
--- what a client has caught up with it knows of behind the reading, too
-caught_left : (c d e : Caller) → CatchesUp c d → e ≡ left d → CatchesUp c e
-caught_left c d e h l = subst (CatchesUp c) (sym (l ∙ ap left h.same ∙ sym h.same)) h
-
--- a client that began a reading and had no entry
-pub stays : (s : Bool) (c from d : Caller) (r : Option Outcome) → Begins s c from → IfNone r (d ≡ left from) → IfNone r (Stays c d)
-stays s c from d (Some o) b h = tt
-stays true c from d None b h = inl (ap left h ∙ ap left b)
-stays false c from d None b h = inr (caught_left c from d b h)
-
--- or that could not begin one
-pub unbegun : (s : Bool) (c d : Caller) → d ≡ left c → Stays c d
-unbegun s c d h = inl (ap left h)
-
+-- so a Range that has to be submitted
 pub starts_as : (command : Command) (q : RangeQuery) (c d : Caller) (r : Option Outcome) → command ≡ commands.Range q
     → IfNone r (Stays c d) → IfNone r (Starts command c d)
 starts_as command q c d (Some o) is h = tt
