@@ -224,9 +224,6 @@ begins vs p r w c h = λ f none. ap (of_keys f) (sym (live-within vs p r r (key_
         by true false = refl
         by false b = refl
 
-pub all-of-it : (c : List ℕ → Bool) (ys : List KeyValue) → AreBut c ys ys
-all-of-it c ys = λ f none. refl
-
 lt-trans : (a b c : List ℕ) → key_lt a b ≡ true → key_lt b c ≡ true → key_lt a c ≡ true
 lt-trans a b c h g = by (key_cmp a b) refl h (key_cmp b c) refl g
   where
