@@ -1,5 +1,5 @@
 -- The first option whose number is out of its range, by a word and those behind it.
-use Rattle.std.proofs.Common.{◌≡◌, ◌∙◌, sym, ap, ℕ, List, [], ◌∷◌, Option, None, Some}
+use Rattle.std.proofs.Common.{◌≡◌, ◌∙◌, sym, ap, ℕ, List, ◌∷◌, Option, None, Some}
 use Rattle.command_line.specs.Advice.{first_outside, or_else, outside}
 use Rattle.command_line.specs.declared.advice.Advice.{Advice}
 

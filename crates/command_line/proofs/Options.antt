@@ -38,6 +38,7 @@ given_by_rows f rows s e g = record {
   cluster = subst (λ t. IsNumber t 1 s.cluster) (read (codes "cluster-id")) g.cluster;
   member = subst (λ t. IsNumber t 1 s.member) (read (codes "member-id")) g.member;
   control = g.control ∙ ap is_set (first_value-rows f (codes "control") ∙ ap (first_of (codes "control")) e);
+  recording = sym (first_value-rows f (codes "record") ∙ ap (first_of (codes "record")) e) ∙ g.recording;
 }
   where
     read : (name : Text) → one_text f name ≡ one_of name rows
@@ -52,6 +53,7 @@ found_by_rows f rows s e g = record {
   cluster = subst (λ t. IsNumber t 1 s.cluster) (read (codes "cluster-id")) g.cluster;
   member = subst (λ t. IsNumber t 1 s.member) (read (codes "member-id")) g.member;
   control = g.control ∙ ap is_set (sym (first_value-rows f (codes "control") ∙ ap (first_of (codes "control")) e));
+  recording = first_value-rows f (codes "record") ∙ ap (first_of (codes "record")) e ∙ g.recording;
 }
   where
     read : (name : Text) → one_of name rows ≡ one_text f name

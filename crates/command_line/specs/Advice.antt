@@ -1,5 +1,5 @@
 -- What somebody is told whose words ask for nothing.
-use Rattle.std.specs.Prelude.{ℕ, ◌∷◌, ◌==◌, ◌||◌, ◌&&◌, Bool, false, true, not, if◌then◌else◌, List, [], Option, None, Some, codes}
+use Rattle.std.specs.Prelude.{ℕ, ◌∷◌, ◌==◌, ◌||◌, ◌&&◌, Bool, true, not, if◌then◌else◌, List, [], Option, None, Some, codes}
 use Rattle.std.specs.Prelude.{nat_eq, nat_lt, slice_index}
 use Rattle.std.specs.Cmp.Lexicographic.{pointwise}
 use Rattle.std.specs.List.{list_any}
@@ -64,7 +64,7 @@ advice_of (name ∷ words) = of_rest words
 
 -- the line that tells it
 abbrev pub line_of : Advice → List ℕ
-line_of told.Help = codes "etcd_one 0.1.0; usage: etcd_one replay < script, etcd_one check < certificate, or etcd_one serve --listen ADDR [--workers 2..32, else 8] [--connections 0..9223372036854775807, else 0, which is no end] [--cluster-id 1..9223372036854775807, else 1] [--member-id 1..9223372036854775807, else 1] [--control, by lines on standard input]"
+line_of told.Help = codes "etcd_one 0.1.0; usage: etcd_one replay < script, etcd_one check < certificate, or etcd_one serve --listen ADDR [--workers 2..32, else 8] [--connections 0..9223372036854775807, else 0, which is no end] [--cluster-id 1..9223372036854775807, else 1] [--member-id 1..9223372036854775807, else 1] [--control, by lines on standard input] [--record FILE, its events as a script]"
 line_of told.Version = codes "etcd_one 0.1.0"
 line_of told.Workers = codes "etcd_one: --workers takes a number from 2 to 32"
 line_of told.Connections = codes "etcd_one: --connections takes a number from 0 to 9223372036854775807"

@@ -1,6 +1,6 @@
 -- The words of a command line.
 use Rattle.std.specs.Prelude.{◌≡◌, ℕ, ◌<◌, ◌≤◌, ◌^◌, List, [], ◌∷◌, drop, Bool, true, false, nat_eq, codes}
-use Rattle.std.specs.Prelude.{Option, None, Some, MatchOption}
+use Rattle.std.specs.Prelude.{Option, None, Some, MatchOption, option_map}
 use Rattle.std.specs.Cmp.Lexicographic.{pointwise}
 use Rattle.std.specs.List.{list_any}
 use Rattle.std.specs.Str.Parse.{IsNumeral, digits_value, without_leading_plus}
@@ -68,9 +68,9 @@ address_rule = record (option_rule (codes "listen")) { required = true }
 
 -- what clap reads: the options of a server
 unfoldable pub serving : App
-serving = with_rule (with_rule (with_rule (with_rule (with_rule (with_rule (new_app (codes "serve")) address_rule)
+serving = with_rule (with_rule (with_rule (with_rule (with_rule (with_rule (with_rule (new_app (codes "serve")) address_rule)
     (number_rule (codes "workers"))) (number_rule (codes "connections"))) (number_rule (codes "cluster-id")))
-    (number_rule (codes "member-id"))) (switch_rule (codes "control"))
+    (number_rule (codes "member-id"))) (switch_rule (codes "control"))) (option_rule (codes "record"))
 
 -- what clap finds for them in the words of a command line
 abbrev pub options_in : List (List ℕ) → List Row
@@ -86,8 +86,8 @@ abbrev pub is_set : Option (List ℕ) → Bool
 is_set None = false
 is_set (Some text) = pointwise nat_eq text (codes "true")
 
--- each option of a server is what stands for its name, or what it is otherwise; an address as it is written, and a
--- number as it is read
+-- each option of a server is what stands for its name, or what it is otherwise; an address and a path as they are
+-- written, and a number as it is read
 pub record IsGiven (written read : List ℕ → Option (List ℕ)) (s : Serve) : Type 0 where
   pub listen : written (codes "listen") ≡ Some s.listen.now
   pub workers : IsNumber (read (codes "workers")) 8 s.workers
@@ -95,6 +95,7 @@ pub record IsGiven (written read : List ℕ → Option (List ℕ)) (s : Serve) :
   pub cluster : IsNumber (read (codes "cluster-id")) 1 s.cluster
   pub member : IsNumber (read (codes "member-id")) 1 s.member
   pub control : s.control ≡ is_set (written (codes "control"))
+  pub recording : written (codes "record") ≡ option_map (λ path. path.now) s.recording
 
 -- by what clap found
 abbrev pub IsFound : Found → Serve → Type 0

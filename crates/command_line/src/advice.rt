@@ -31,7 +31,7 @@ impl Advice {
     {
         match self {
             Advice::Help => {
-                "etcd_one 0.1.0; usage: etcd_one replay < script, etcd_one check < certificate, or etcd_one serve --listen ADDR [--workers 2..32, else 8] [--connections 0..9223372036854775807, else 0, which is no end] [--cluster-id 1..9223372036854775807, else 1] [--member-id 1..9223372036854775807, else 1] [--control, by lines on standard input]"
+                "etcd_one 0.1.0; usage: etcd_one replay < script, etcd_one check < certificate, or etcd_one serve --listen ADDR [--workers 2..32, else 8] [--connections 0..9223372036854775807, else 0, which is no end] [--cluster-id 1..9223372036854775807, else 1] [--member-id 1..9223372036854775807, else 1] [--control, by lines on standard input] [--record FILE, its events as a script]"
             }
             Advice::Version => "etcd_one 0.1.0",
             Advice::Workers => "etcd_one: --workers takes a number from 2 to 32",

@@ -2,7 +2,7 @@
 ghost use Rattle.std.specs.Prelude.{◌≡◌, false, true, Err, IfOk, OnOk, ◌⊎◌};
 ghost use Rattle.std.specs.Io.KnownBytes.{Appends};
 ghost use Rattle.kv_model.specs.Follows as follows;
-ghost use Rattle.kv_model.specs.Wire as events;
+ghost use Rattle.kv_model.specs.Wire as wire;
 ghost use Rattle.json_gateway.specs.Runs.{outcome_view};
 ghost use Rattle.commands.specs.Controlling.{made_view};
 ghost use Rattle.engine_lock.specs.Orders.{Makes};
@@ -14,7 +14,7 @@ use crate::serving::{clients_of, connections_of, ended, engine_of, write_closing
 use crate::words::{Args, Serve};
 use commands::{Controlling, Fault, Order, control};
 use engine_lock::{Client, Engine, EngineName, Opening};
-use http_front::{Directing, pool_directed};
+use http_front::{Directing, Gate, Limits, Recorded, pool_directed};
 use json_gateway::WireOutcome;
 use json_gateway::wire::why_unexpired;
 use std::alloc::{AllocError, Global};
@@ -27,33 +27,33 @@ use std::time;
 
 /// Does what lines ask of an engine, for one of its clients.
 #[derive(Drop)]
-struct Orders<'e, L: EngineName, R> {
-    rt: &'e R,
-    engine: &'e Engine<L>,
+struct Orders<'e, L: EngineName, G, R> {
+    events: Recorded<'e, L, G, R>,
 }
 
-impl<'e, L: EngineName, R: Wait> Controlling<Client<L>> for Orders<'e, L, R> {
-    ghost Makes = { λ by. IsMade by.engine.now };
+impl<'e, L: EngineName, G: Gate, R: Wait> Controlling<Client<L>> for Orders<'e, L, G, R> {
+    ghost Makes = { λ by. IsMade by.events.engine.now };
 
     fn make(&self, state: &mut Client<L>, order: Order) -> Result<WireOutcome, AllocError> {
         match order {
-            Order::Moment(now) => Ok(WireOutcome::Clock(self.engine.moment(self.rt, now))),
-            Order::Expire => Ok(expired(self.rt, self.engine, state)),
-            Order::Trim => trimmed(self.rt, self.engine),
-            Order::Certify => Ok(WireOutcome::Certified(self.engine.certificate(self.rt))),
+            Order::Moment(now) => Ok(WireOutcome::Clock(self.events.moment(now))),
+            Order::Expire => Ok(expired(&self.events, state)),
+            Order::Trim => trimmed(&self.events),
+            Order::Certify => Ok(WireOutcome::Certified(
+                self.events.engine.certificate(self.events.rt),
+            )),
         }
     }
 }
 
 /// Makes a step of expiry, at the engine's clock.
-fn expired<L: EngineName, R: Wait>(
-    rt: &R,
-    engine: &Engine<L>,
+fn expired<L: EngineName, G: Gate, R: Wait>(
+    events: &Recorded<'_, L, G, R>,
     client: &mut Client<L>,
 ) -> WireOutcome
-    ensures { Makes engine.now events.WireEvent.expire (outcome_view result) }
+    ensures { Makes events.now.engine.now wire.WireEvent.expire (outcome_view result) }
 {
-    match engine.expire_once(rt, client, 0) {
+    match events.expire(client, 0) {
         Ok(expiry) => WireOutcome::Expiry(Ok(expiry)),
         Err(refusal) => WireOutcome::Expiry(Err(why_unexpired(refusal))),
     }
@@ -61,11 +61,13 @@ fn expired<L: EngineName, R: Wait>(
 
 /// Makes a trimming step. `AllocError` comes where readers could not be told of it for want of
 /// memory, and then it was not made.
-fn trimmed<L: EngineName, R: Wait>(rt: &R, engine: &Engine<L>) -> Result<WireOutcome, AllocError>
-    ensures { Makes engine.now events.WireEvent.trim (made_view result)
+fn trimmed<L: EngineName, G: Gate, R: Wait>(
+    events: &Recorded<'_, L, G, R>,
+) -> Result<WireOutcome, AllocError>
+    ensures { Makes events.now.engine.now wire.WireEvent.trim (made_view result)
         ⊎ (made_view result ≡ follows.Outcome.memory) }
 {
-    match engine.trim_checked(rt) {
+    match events.trim_checked() {
         Ok(trimmed) => Ok(WireOutcome::Trimmed(trimmed)),
         Err(_) => Err(AllocError),
     }
@@ -73,32 +75,36 @@ fn trimmed<L: EngineName, R: Wait>(rt: &R, engine: &Engine<L>) -> Result<WireOut
 
 /// Runs a server by the lines of a reader, which are answered to a writer.
 #[derive(Drop)]
-struct ByLines<'x, 'r, 'w, R, In, Out> {
+struct ByLines<'x, 'r, 'w, G, R, In, Out> {
     rt: &'x R,
     alloc: Global,
+    gate: &'x G,
     r: &'r mut In,
     w: &'w mut Out,
     /// How the lines ended.
     told: Result<(), Fault>,
 }
 
-impl<'x, 'r, 'w, L, R, In, Out> Directing<L> for ByLines<'x, 'r, 'w, R, In, Out>
+impl<'x, 'r, 'w, L, G, R, In, Out> Directing<L> for ByLines<'x, 'r, 'w, G, R, In, Out>
 where
     L: EngineName,
+    G: Gate,
     R: Wait,
     In: BufRead,
     Out: Write,
 {
     fn direct(&mut self, engine: &Engine<L>, client: &mut Client<L>) {
-        let orders = Orders {
+        let events = Recorded {
             rt: self.rt,
             engine,
+            gate: self.gate,
         };
+        let orders = Orders { events };
         self.told = control(self.alloc, &orders, client, self.r, self.w);
     }
 }
 
-/// Serves the connections that come in at a listener, as [`serve_on`](crate::serve_on) does, but for
+/// Serves the connections that come in at a listener, as [`serve_by`](crate::serve_by) does, but for
 /// time, expiry and trimming, which lines of a reader decide: each of them is answered, as soon as it
 /// was read, by [`control`]. The moment of each request is what `AT` handed in last, and 0 before the
 /// first. At the reader's end the server ends: no further connection is let in, each worker ends after
@@ -109,11 +115,12 @@ where
 /// memory is wanting for the engine, with `Fault::Server` as `http_front::pool_directed` fails, and as
 /// [`control`] does, when the server has ended; and with `Fault::Write` where the last line could
 /// not be written; then a front of it was.
-pub fn serve_controlled<R, In: BufRead, W: Write>(
+pub fn serve_controlled<G: Gate + Sync, R, In: BufRead, W: Write>(
     rt: &R,
     alloc: Global,
     listener: &TcpListener,
     args: &Args<'_>,
+    gate: &G,
     r: &mut In,
     w: &mut W,
 ) -> Result<(), Fault>
@@ -126,7 +133,17 @@ where
     let Args::Serve(serve) = args else {
         return Err(Fault::Arguments);
     };
-    match run_controlled(rt, alloc, listener, serve, r, w) {
+    let mut lines = ByLines {
+        rt,
+        alloc,
+        gate,
+        r,
+        w,
+        told: Ok(()),
+    };
+    let ended = run_controlled(rt, alloc, listener, serve, &mut lines);
+    let ByLines { told, .. } = lines;
+    match both(ended, told) {
         Ok(revision) => close(w, revision),
         Err(fault) => Err(fault),
     }
@@ -145,33 +162,23 @@ fn close<W: Write>(w: &mut W, revision: u64) -> Result<(), Fault>
 }
 
 /// Runs a server, and gives the revision of its core when it has ended.
-fn run_controlled<R, In: BufRead, W: Write>(
+fn run_controlled<G: Gate + Sync, R, In: BufRead, W: Write>(
     rt: &R,
     alloc: Global,
     listener: &TcpListener,
     serve: &Serve<'_>,
-    r: &mut In,
-    w: &mut W,
+    lines: &mut ByLines<'_, '_, '_, G, R, In, W>,
 ) -> Result<u64, Fault>
 where
     R: Wait + Threads + time::Clock + Net + Sync,
     ensures { IfOk result IsOfCore }
 {
-    let mut lines = ByLines {
-        rt,
-        alloc,
-        r,
-        w,
-        told: Ok(()),
-    };
-    let ended = match Opening::for_clients(alloc, rt, clients_of(serve)) {
-        Ok(opening) => controlled_revision::<Brand, R, In, W>(
-            rt, alloc, opening, listener, serve, &mut lines,
+    match Opening::for_clients(alloc, rt, clients_of(serve)) {
+        Ok(opening) => controlled_revision::<Brand, G, R, In, W>(
+            rt, alloc, opening, listener, serve, lines,
         ),
         Err(_) => Err(Fault::Memory),
-    };
-    let ByLines { told, .. } = lines;
-    both(ended, told)
+    }
 }
 
 /// The revision that a server ended at, where its lines ended in order, too.
@@ -186,13 +193,13 @@ fn both(ended: Result<u64, Fault>, told: Result<(), Fault>) -> Result<u64, Fault
     }
 }
 
-fn controlled_revision<L: EngineName + Send + Sync, R, In: BufRead, W: Write>(
+fn controlled_revision<L: EngineName + Send + Sync, G: Gate + Sync, R, In: BufRead, W: Write>(
     rt: &R,
     alloc: Global,
     opening: Opening,
     listener: &TcpListener,
     serve: &Serve<'_>,
-    lines: &mut ByLines<'_, '_, '_, R, In, W>,
+    lines: &mut ByLines<'_, '_, '_, G, R, In, W>,
 ) -> Result<u64, Fault>
 where
     R: Wait + Threads + time::Clock + Net + Sync,
@@ -202,7 +209,10 @@ where
     ensures { IfOk result IsOfCore }
 {
     let engine = engine_of::<L>(alloc, opening, serve);
-    let workers = serve.workers;
-    let connections = connections_of(serve);
-    ended(pool_directed(rt, alloc, engine, lines, listener, workers, connections))
+    let limits = Limits {
+        workers: serve.workers,
+        connections: connections_of(serve),
+    };
+    let gate = lines.gate;
+    ended(pool_directed(rt, alloc, engine, gate, lines, listener, limits))
 }

@@ -27,10 +27,13 @@
 mod advice;
 mod control;
 mod filters;
+mod recorder;
 mod serving;
 mod words;
 
 pub use advice::{Advice, advise};
 pub use control::serve_controlled;
-pub use serving::serve_on;
+pub use http_front::{Gate, OpenGate};
+pub use recorder::{Recording, Tells};
+pub use serving::{serve_by, serve_on};
 pub use words::{Args, Serve, arguments};

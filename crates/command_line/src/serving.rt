@@ -12,7 +12,7 @@ ghost use Rattle.engine_lock.specs.Fits.{IsStanding};
 use crate::words::{Args, Serve};
 use commands::{Fault, Front, write_number};
 use engine_lock::{Engine, EngineName, Opening};
-use http_front::{Clock, MOST_CONNECTIONS, OpenGate, pool};
+use http_front::{Clock, Gate, MOST_CONNECTIONS, OpenGate, pool};
 use json_gateway::{Core, Ids};
 use std::alloc::Global;
 use std::io::Write;
@@ -72,10 +72,34 @@ pub fn serve_on<R: Wait + Threads + time::Clock + Sync, W: Write>(
         → is_write fault ≡ false → IsOfRun fault) }
     ensures unasked { asks_to_serve args.now ≡ false → result ≡ Err Fault.Arguments }
 {
+    serve_by(rt, alloc, listener, args, &OpenGate, w)
+}
+
+/// The same, by a gate: where that has a record, the events of the server are written down.
+pub fn serve_by<G, R, W: Write>(
+    rt: &R,
+    alloc: Global,
+    listener: &TcpListener,
+    args: &Args<'_>,
+    gate: &G,
+    w: &mut W,
+) -> Result<(), Fault>
+where
+    G: Gate + Sync,
+    R: Wait + Threads + time::Clock + Sync,
+    ensures ok { OnOk result ((core : _) × IsStanding core
+        × Appends (W.contents w.old) (W.contents w.new) (closing_line core.store.revision)) }
+    ensures unwritten { IfErr result (λ fault. is_write fault ≡ false → w.new ≡ w.old) }
+    ensures cut { IfErr result (λ fault. is_write fault ≡ true → (core : _) × IsStanding core
+        × AppendsFront (W.contents w.old) (W.contents w.new) (closing_line core.store.revision)) }
+    ensures fault { IfErr result (λ fault. asks_to_serve args.now ≡ true
+        → is_write fault ≡ false → IsOfRun fault) }
+    ensures unasked { asks_to_serve args.now ≡ false → result ≡ Err Fault.Arguments }
+{
     let Args::Serve(serve) = args else {
         return Err(Fault::Arguments);
     };
-    tell_end(w, run_server(rt, alloc, listener, serve))
+    tell_end(w, run_server(rt, alloc, listener, serve, gate))
 }
 
 /// Writes the last line of a server that has ended at a revision, or gives why it did not end so.
@@ -115,18 +139,19 @@ fn write_line<W: Write>(w: &mut W, revision: u64) -> io::Result<()>
 }
 
 /// Runs a server, and gives the revision of its core when it has ended.
-fn run_server<R: Wait + Threads + time::Clock + Sync>(
+fn run_server<G: Gate + Sync, R: Wait + Threads + time::Clock + Sync>(
     rt: &R,
     alloc: Global,
     listener: &TcpListener,
     serve: &Serve<'_>,
+    gate: &G,
 ) -> Result<u64, Fault>
     ensures revision { IfOk result IsOfCore }
     ensures fault { IfErr result (λ fault. is_write fault ≡ false) }
     ensures kind { IfErr result IsOfRun }
 {
     match Opening::for_clients(alloc, rt, clients_of(serve)) {
-        Ok(opening) => closed_revision::<Brand, R>(rt, alloc, opening, listener, serve),
+        Ok(opening) => closed_revision::<Brand, G, R>(rt, alloc, opening, listener, serve, gate),
         Err(_) => Err(Fault::Memory),
     }
 }
@@ -138,13 +163,16 @@ pub(crate) fn clients_of(serve: &Serve<'_>) -> u64
     serve.workers.saturating_add(1)
 }
 
-fn closed_revision<L: EngineName + Send + Sync, R: Wait + Threads + time::Clock + Sync>(
+fn closed_revision<L: EngineName + Send + Sync, G: Gate + Sync, R>(
     rt: &R,
     alloc: Global,
     opening: Opening,
     listener: &TcpListener,
     serve: &Serve<'_>,
+    gate: &G,
 ) -> Result<u64, Fault>
+where
+    R: Wait + Threads + time::Clock + Sync,
     requires name { opening.name ≡ L.Ledger.name }
     requires parts { opening.parts ≡ L.Ledger.parts }
     requires book { opening.book ≡ L.book }
@@ -153,7 +181,7 @@ fn closed_revision<L: EngineName + Send + Sync, R: Wait + Threads + time::Clock 
     ensures kind { IfErr result IsOfRun }
 {
     let engine = engine_of::<L>(alloc, opening, serve);
-    run_pool(rt, alloc, engine, listener, serve)
+    run_pool(rt, alloc, engine, listener, serve, gate)
 }
 
 /// An engine that answers by the ids of a server.
@@ -193,13 +221,16 @@ pub(crate) fn connections_of(serve: &Serve<'_>) -> u64
 }
 
 /// Runs a server over an engine that answers by its ids.
-fn run_pool<L: EngineName + Send + Sync, R: Wait + Threads + time::Clock + Sync>(
+fn run_pool<L: EngineName + Send + Sync, G: Gate + Sync, R>(
     rt: &R,
     alloc: Global,
     engine: Engine<L>,
     listener: &TcpListener,
     serve: &Serve<'_>,
+    gate: &G,
 ) -> Result<u64, Fault>
+where
+    R: Wait + Threads + time::Clock + Sync,
     requires cluster { engine.cluster ≡ serve.now.cluster }
     requires member { engine.member ≡ serve.now.member }
     ensures revision { IfOk result IsOfCore }
@@ -216,7 +247,7 @@ fn run_pool<L: EngineName + Send + Sync, R: Wait + Threads + time::Clock + Sync>
         rt,
         alloc,
         engine,
-        &OpenGate,
+        gate,
         &clock,
         listener,
         workers,

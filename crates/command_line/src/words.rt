@@ -6,7 +6,7 @@ ghost use Rattle.std.specs.List.{list_any};
 ghost use Rattle.clap.specs.Words.{app_of, found_of, kind_of, one_text, rule_of};
 ghost use Rattle.command_line.specs.Arguments.{Asks, AsksToServe, IsCommand, IsFound, IsInRange};
 ghost use Rattle.command_line.specs.Arguments.{IsNoCommand, IsNumber, asks_serve, is_end_of_options};
-ghost use Rattle.command_line.specs.Arguments.{is_set, number_rule, serving, switch_rule};
+ghost use Rattle.command_line.specs.Arguments.{address_rule, is_set, number_rule, option_rule, serving, switch_rule};
 ghost use Rattle.commands.specs.Faults.{is_of_words};
 
 use crate::filters::{Filter, filter_of};
@@ -40,6 +40,8 @@ pub struct Serve<'a> {
     pub member: u64,
     /// Whether it is controlled by lines on standard input, and ends at their end.
     pub control: bool,
+    /// The path of the file into which its events are put, as a script; none, where there is none.
+    pub recording: Option<&'a str>,
 }
 
 /// The greatest number of an argument.
@@ -49,7 +51,7 @@ const MOST: u64 = 9_223_372_036_854_775_807;
 /// `check`, with nothing after them, and `serve` with its options, each once, in any order:
 /// `--listen` and an address, which is required; `--workers` and 2 to 32, which is 8 otherwise;
 /// `--connections` and 0 to 2^63 - 1, which is 0 otherwise; `--cluster-id` and `--member-id` and 1
-/// to 2^63 - 1, which are 1 otherwise; and `--control` alone.
+/// to 2^63 - 1, which are 1 otherwise; `--control` alone; and `--record` and the path of a file.
 ///
 /// Fails with `Fault::Arguments` for any other words; where the command is not `serve`, whether or
 /// not there is memory. Fails with `Fault::Memory` where memory is wanting to read them; nothing
@@ -125,14 +127,30 @@ fn is_end_of_options(word: &str) -> bool
 fn serve_command<'a>(alloc: Global) -> Result<Command<'a>, AllocError>
     ensures { IfOk result (λ command. app_of command ≡ serving) }
 {
-    let listen = Arg::new(alloc, "listen").long("listen").required(true);
     Command::new(alloc, "serve")
-        .arg(listen)?
+        .arg(address(alloc))?
         .arg(number(alloc, "workers"))?
         .arg(number(alloc, "connections"))?
         .arg(number(alloc, "cluster-id"))?
         .arg(number(alloc, "member-id"))?
-        .arg(switch(alloc, "control"))
+        .arg(switch(alloc, "control"))?
+        .arg(text(alloc, "record"))
+}
+
+/// The option that has to be given: where to listen.
+fn address<'a>(alloc: Global) -> Arg<'a>
+    ensures rule { rule_of result ≡ address_rule }
+    ensures local { result.global ≡ false }
+{
+    Arg::new(alloc, "listen").long("listen").required(true)
+}
+
+/// An option that has a text.
+fn text<'a>(alloc: Global, name: &'a str) -> Arg<'a>
+    ensures rule { rule_of result ≡ option_rule name.entry.now }
+    ensures local { result.global ≡ false }
+{
+    Arg::new(alloc, name).long(name)
 }
 
 /// An option that has a number.
@@ -183,6 +201,7 @@ fn asked<'a>(matches: &ArgMatches<'a>) -> Result<Serve<'a>, Fault>
         cluster,
         member,
         control: is_set(matches.get_str("control")),
+        recording: matches.get_str("record"),
     })
 }
 

@@ -11,7 +11,7 @@ use thiserror::Error;
 #[derive(Debug, Drop, Error)]
 pub enum Fault {
     /// The words after the program's name are no command.
-    #[error("etcd_one: bad arguments; usage: etcd_one replay < script, etcd_one check < certificate, or etcd_one serve --listen ADDR [--workers 2..32] [--connections N] [--cluster-id N] [--member-id N]")]
+    #[error("etcd_one: bad arguments; usage: etcd_one replay < script, etcd_one check < certificate, or etcd_one serve --listen ADDR [--workers 2..32] [--connections N] [--cluster-id N] [--member-id N] [--control] [--record FILE]")]
     Arguments,
     /// The input, a script or a certificate, could not be read to its end.
     #[error("etcd_one: the input could not be read: {0}")]
@@ -25,6 +25,9 @@ pub enum Fault {
     /// A growth outside a request found no memory.
     #[error("etcd_one: out of memory")]
     Memory,
+    /// The file of a recording could not be made, or no further line of it be written.
+    #[error("etcd_one: the recording could not be written: {0}")]
+    Record(io::Error),
     /// The server could not listen at its address.
     #[error("etcd_one: the address is refused: {0}")]
     Address(io::Error),

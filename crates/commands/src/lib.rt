@@ -46,5 +46,5 @@ pub use controlling::{Controlling, Order, control};
 pub use fault::{Fault, fault_of_words};
 pub use http_reply::Front;
 pub use judging::{Verdict, check};
-pub use pieces::write_number;
+pub use pieces::{write_bytes, write_number};
 pub use replaying::replay;

@@ -3,7 +3,7 @@ ghost use Rattle.std.specs.Prelude.{◌≡◌};
 
 use crate::lock_replies::ONES;
 use engine_lock::{Client, CloseFault, Engine, EngineName, MOST_CLIENTS, Opening};
-use json_gateway::{Expiry, Message, Refusal, Trim, read};
+use json_gateway::{Expiry, Message, Refusal, Trim, Trimmed, read};
 use std::alloc::Global;
 use std::marker::Brand;
 use std::sync::Wait;
@@ -182,6 +182,75 @@ fn each_call_for_a_client(rt: HostRuntime) {
     assert_eq!(rt;
         run_each_call(&rt, rt.alloc(), true),
         Some(said_of_each_call())
+    );
+}
+
+/// What the orders of whoever runs an engine come to: two moments and the clock, a client that
+/// catches up with another's put, a checked trimming step, and what is kept, with its claims.
+#[derive(Debug, Drop, PartialEq, Eq)]
+struct Ordered {
+    clocks: (u64, u64),
+    is_caught_up: bool,
+    done: Option<(u64, bool)>,
+    kept: Option<(u64, u64, usize, usize)>,
+}
+
+fn order_each<L: EngineName, R: Wait>(
+    rt: &R,
+    engine: &Engine<L>,
+    reader: &mut Client<L>,
+) -> Ordered {
+    Ordered {
+        clocks: (engine.moment(rt, 5000), engine.moment(rt, 4000)),
+        is_caught_up: engine.catch_up(rt, reader, 6000),
+        done: done_of(engine.trim_checked(rt)),
+        kept: kept_of(rt, engine),
+    }
+}
+
+/// How many versions a step says are kept, and whether they are checked, where it is done.
+fn done_of(step: Result<Trimmed, Refusal>) -> Option<(u64, bool)> {
+    match step {
+        Ok(Trimmed::Done { count, certificate }) => Some((count, certificate.is_some())),
+        _ => None,
+    }
+}
+
+/// Of what is kept: the compaction, the revision, how many versions and how many needs.
+fn kept_of<L: EngineName, R: Wait>(rt: &R, engine: &Engine<L>) -> Option<(u64, u64, usize, usize)> {
+    let shown = engine.certificate(rt).ok()?;
+    let dump = &shown.dump;
+    let needs = shown.certificate.claims.len();
+    Some((dump.floor, dump.revision, dump.versions.len(), needs))
+}
+
+fn each_order<L: EngineName, R: Wait>(rt: &R, alloc: Global, opening: Opening) -> Option<Ordered>
+    requires name { opening.name ≡ L.Ledger.name }
+    requires parts { opening.parts ≡ L.Ledger.parts }
+    requires book { opening.book ≡ L.book }
+{
+    let engine = Engine::<L>::new(alloc, opening, ONES);
+    let mut writer = engine.client(rt).ok()?;
+    let mut reader = engine.client(rt).ok()?;
+    begin(rt, alloc, &engine, &mut writer);
+    Some(order_each(rt, &engine, &mut reader))
+}
+
+fn run_each_order<R: Wait>(rt: &R, alloc: Global) -> Option<Ordered> {
+    let opening = Opening::new(alloc, rt).ok()?;
+    each_order::<Brand, R>(rt, alloc, opening)
+}
+
+#[test]
+fn each_order_of_an_engine(rt: HostRuntime) {
+    assert_eq!(rt;
+        run_each_order(&rt, rt.alloc()),
+        Some(Ordered {
+            clocks: (5000, 5000),
+            is_caught_up: true,
+            done: Some((2, true)),
+            kept: Some((0, 3, 2, 2)),
+        })
     );
 }
 

@@ -10,10 +10,12 @@
 //! and nothing more on standard output. `--help` and `--version` are bad arguments too, whose line
 //! is what was asked for.
 //!
-//! `etcd_one serve` answers HTTP/1.1 instead, at the address that it is given.
+//! `etcd_one serve` answers HTTP/1.1 instead, at the address that it is given; with `--control` time
+//! and trimming go by lines on standard input, and with `--record` the events of the server are put
+//! into a file, as a script that `replay` answers as the server did.
 //!
 //! What each command does over any reader and writer is told, and proved, in the crates below:
-//! [`arguments`] and [`serve_on`], the words of the command line and the server that they ask for,
+//! [`arguments`] and [`serve_by`], the words of the command line and the server that they ask for,
 //! in `command_line`, [`replay`] and [`check`] in `commands`. Here stand the program's words, its
 //! standard input and output, and its exit status.
 //!
@@ -21,13 +23,17 @@
 //! itself for its exit status and what it writes to standard error.
 #![tactic(auto)]
 
-pub use command_line::{Advice, Args, Serve, advise, arguments, serve_controlled, serve_on};
+pub use command_line::{
+    Advice, Args, Gate, OpenGate, Recording, Serve, Tells, advise, arguments, serve_by,
+    serve_controlled,
+};
 use commands::fault_of_words;
 pub use commands::{Fault, Verdict, check, replay};
+use std::fs::File;
 use std::io::BufWriter;
 use std::net::{Net, TcpListener, TcpStream};
 use std::process::ExitCode;
-use std::rt::Runtime;
+use std::rt::{Files, Runtime};
 use std::sync::Wait;
 use std::thread::Threads;
 use std::{env, io};
@@ -37,6 +43,7 @@ const BUFFER: usize = 65_536;
 
 fn run<
     R: Runtime
+        + Files<File = File>
         + AllocGlobal
         + Net<Listener = TcpListener, Stream = TcpStream>
         + Threads
@@ -64,6 +71,7 @@ fn run<
 /// Does what was asked for.
 fn run_as<
     R: Runtime
+        + Files<File = File>
         + AllocGlobal
         + Net<Listener = TcpListener, Stream = TcpStream>
         + Threads
@@ -111,9 +119,11 @@ fn replay_all<R: Runtime + AllocGlobal>(rt: &R) -> Result<(), Fault> {
     ended
 }
 
-/// Listens, says on standard error where, and serves.
+/// Listens, and serves; where that is asked for, with the server's events put into a file, which is
+/// made anew.
 fn serve_all<
     R: Runtime
+        + Files<File = File>
         + AllocGlobal
         + Net<Listener = TcpListener, Stream = TcpStream>
         + Threads
@@ -121,6 +131,26 @@ fn serve_all<
         + Sync,
 >(rt: &R, serve: &Serve<'_>) -> Result<(), Fault> {
     let listener = TcpListener::bind(rt, serve.listen).map_err(Fault::Address)?;
+    match serve.recording {
+        Some(path) => {
+            let file = File::create(rt, path).map_err(Fault::Record)?;
+            let gate = Recording::new(rt, rt.alloc(), file, Telling { rt });
+            serve_by_gate(rt, serve, &listener, &gate)
+        }
+        None => serve_by_gate(rt, serve, &listener, &OpenGate),
+    }
+}
+
+/// Says on standard error where a server listens, and runs it.
+fn serve_by_gate<
+    G: Gate + Sync,
+    R: Runtime
+        + AllocGlobal
+        + Net<Listener = TcpListener, Stream = TcpStream>
+        + Threads
+        + Wait
+        + Sync,
+>(rt: &R, serve: &Serve<'_>, listener: &TcpListener, gate: &G) -> Result<(), Fault> {
     if let Ok(address) = listener.local_addr() {
         let _ = eprintln!(rt; "listening on {address}");
     }
@@ -128,9 +158,29 @@ fn serve_all<
     let mut writer = io::writer(rt);
     if serve.control {
         let mut reader = rt.reader();
-        return serve_controlled(rt, rt.alloc(), &listener, &args, &mut reader, &mut writer);
+        return serve_controlled(
+            rt,
+            rt.alloc(),
+            listener,
+            &args,
+            gate,
+            &mut reader,
+            &mut writer,
+        );
     }
-    serve_on(rt, rt.alloc(), &listener, &args, &mut writer)
+    serve_by(rt, rt.alloc(), listener, &args, gate, &mut writer)
+}
+
+/// Tells on standard error where a recording ends before its server does.
+#[derive(Drop)]
+struct Telling<'x, R> {
+    rt: &'x R,
+}
+
+impl<'x, R: Eprint> Tells for Telling<'x, R> {
+    fn tell(&self, fault: &Fault) {
+        let _ = self.rt.eprintln(fault);
+    }
 }
 
 fn main(rt: HostRuntime) -> ExitCode {

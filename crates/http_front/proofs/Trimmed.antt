@@ -1,15 +1,12 @@
 -- What a client is given by the trimming that an answer waits for, and that it may have read beside the engine before.
 use Rattle.std.proofs.Common.{◌≡◌, ℕ, ◌+◌, Bool, true, false, not, refl, sym, subst}
-use Rattle.kv_model.specs.declared.call.Command.{Command}
-use Rattle.kv_model.specs.declared.ids.Ids.{Ids}
-use Rattle.kv_model.specs.Commands.{call_of}
 use Rattle.trim_core.specs.declared.trimmer.Trim.{Trim}
 use Rattle.json_gateway.specs.declared.outcome.Outcome.{Outcome}
-use Rattle.engine_lock.specs.Locked.{Caller, Submits, TrimsFor, left, plus, rise, with_done}
+use Rattle.engine_lock.specs.Locked.{Caller, TrimsFor, left, plus}
 use Rattle.engine_lock.specs.declared.past.Given.TheVariants as given
 use Rattle.http_front.specs.Ends.{IsDone}
 use Rattle.engine_lock.specs.declared.engine.Submitted.{Submitted}
-use Rattle.http_front.specs.Engines.{AreTrimmed, Awaits, Does, lost_answer}
+use Rattle.http_front.specs.Engines.{AreTrimmed, Awaits, lost_answer}
 
 -- the last step, which says that trimming is done
 pub done_last : (n : ℕ) (c c' : Caller) (t k : Trim) → TrimsFor c.made t → t ≡ k → IsDone k → c' ≡ plus (left c) (given.Trimmed t)

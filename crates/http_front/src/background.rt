@@ -3,11 +3,13 @@ ghost use Rattle.std.specs.Prelude.{◌≤◌, IfOk, IfSome};
 ghost use Rattle.engine_lock.specs.Locked.{Trims};
 ghost use Rattle.http_front.specs.Ends.{IsDone};
 
-use crate::gate::Clock;
-use engine_lock::{Client, Engine, EngineName};
+use crate::gate::{Clock, Gate};
+use crate::recorded::Recorded;
+use crate::shared::Shared;
+use engine_lock::{Client, EngineName};
 use json_gateway::{Expiry, Refusal, Trim};
 use std::sync::Wait;
-use std::sync::atomic::{AtomicBool, Ordering};
+use std::sync::atomic::Ordering;
 use std::time::Duration;
 use std::{thread, time};
 
@@ -19,16 +21,16 @@ const EXPIRY_REST: u64 = 100;
 
 /// Makes trimming steps until the server has ended, and rests where one says that it is done, or is
 /// refused for memory.
-pub(crate) fn keep_trimming<L: EngineName, R: Wait + time::Clock>(
+pub(crate) fn keep_trimming<L: EngineName, G: Gate, C, R: Wait + time::Clock>(
     rt: &R,
-    engine: &Engine<L>,
-    ended: &AtomicBool,
+    shared: &Shared<'_, L, G, C>,
 ) {
+    let events = shared.events(rt);
     for _ in rt.forever() {
-        if ended.load(Ordering::SeqCst) {
+        if shared.ended.load(Ordering::SeqCst) {
             break;
         }
-        if make_trim_step(rt, engine).is_some() {
+        if make_trim_step(&events).is_some() {
             thread::sleep(rt, Duration::from_millis(TRIM_REST));
         }
     }
@@ -36,13 +38,12 @@ pub(crate) fn keep_trimming<L: EngineName, R: Wait + time::Clock>(
 
 /// Makes a trimming step, and tells of it where no other is to follow at once: it says that
 /// trimming is done, or it was refused.
-fn make_trim_step<L: EngineName, R: Wait>(
-    rt: &R,
-    engine: &Engine<L>,
+fn make_trim_step<L: EngineName, G: Gate, R: Wait>(
+    events: &Recorded<'_, L, G, R>,
 ) -> Option<Result<Trim, Refusal>>
     ensures { IfSome result (λ step. IfOk step (λ trim. Trims trim × IsDone trim)) }
 {
-    match engine.trim_once(rt) {
+    match events.trim() {
         Ok(trim) => match trim {
             Trim::Done(_) => Some(Ok(trim)),
             _ => None,
@@ -53,19 +54,18 @@ fn make_trim_step<L: EngineName, R: Wait>(
 
 /// Makes steps of expiry until the server has ended, and rests where one finds no lease that is
 /// due, or is refused. Hands the client back, with the changes that it made.
-pub(crate) fn keep_expiring<L: EngineName, C: Clock, R: Wait + time::Clock>(
+pub(crate) fn keep_expiring<L: EngineName, G: Gate, C: Clock, R: Wait + time::Clock>(
     rt: &R,
-    engine: &Engine<L>,
-    clock: &C,
-    ended: &AtomicBool,
+    shared: &Shared<'_, L, G, C>,
     client: Client<L>,
 ) -> Client<L> {
+    let events = shared.events(rt);
     let mut client = client;
     for _ in rt.forever() {
-        if ended.load(Ordering::SeqCst) {
+        if shared.ended.load(Ordering::SeqCst) {
             break;
         }
-        if !make_expiry_step(rt, engine, clock, &mut client) {
+        if !make_expiry_step(&events, shared.clock, &mut client) {
             thread::sleep(rt, Duration::from_millis(EXPIRY_REST));
         }
     }
@@ -73,14 +73,13 @@ pub(crate) fn keep_expiring<L: EngineName, C: Clock, R: Wait + time::Clock>(
 }
 
 /// Makes a step of expiry, and tells whether a lease has ended by it.
-fn make_expiry_step<L: EngineName, C: Clock, R: Wait>(
-    rt: &R,
-    engine: &Engine<L>,
+fn make_expiry_step<L: EngineName, G: Gate, C: Clock, R: Wait>(
+    events: &Recorded<'_, L, G, R>,
     clock: &C,
     client: &mut Client<L>,
 ) -> bool
     ensures { client.old.made ≤ client.new.made }
 {
-    let step = engine.expire_once(rt, client, clock.now());
+    let step = events.expire(client, clock.now());
     matches!(step, Ok(Expiry::Expired { .. }))
 }

@@ -5,10 +5,12 @@ ghost use Rattle.kv_model.specs.declared.refusal.Refusal.{Refusal as RefusalOf};
 ghost use Rattle.kv_model.specs.declared.call.Command.TheVariants as commands;
 ghost use Rattle.kv_model.specs.Ranges as ranges;
 ghost use Rattle.engine_lock.specs.Locked.{left};
-ghost use Rattle.http_front.specs.Engines.{Begins, IsAnswer, Looks, LooksUp, Reads, SettlesAs};
+ghost use Rattle.http_front.specs.Engines.{Begins, CatchesUp, IsAnswer, Looks, LooksUp, Reads, SettlesAs};
 ghost use Rattle.http_front.specs.Engines.{Starts, Stays, response_over};
 
-use engine_lock::{Client, Engine, EngineName};
+use crate::gate::Gate;
+use crate::recorded::Recorded;
+use engine_lock::{Client, EngineName};
 use json_gateway::{Ids, Outcome, Refusal, Reply, Settled, declined, range_text};
 use kv_model::call::{Command, RangeQuery};
 use range_view::RangeReply;
@@ -20,23 +22,24 @@ use std::sync::Wait;
 /// reading is left as soon as the answer's text is made.
 ///
 /// A serializable Range begins with what the client has read and was told of. Any other is answered
-/// once the client was told of all that the engine has done at the moment `now`.
+/// once the client was told of all that the engine has done at the moment `now`; where events are
+/// written down it is submitted, so that its line stands where it was answered.
 ///
 /// The cost is that of [`Engine::catch_up`] for a Range that is not serializable, that of
 /// `View::range`, and linear in the text. A serializable one waits for nobody.
-pub(crate) fn looked<L: EngineName, R: Wait>(
-    rt: &R,
+pub(crate) fn looked<L: EngineName, G: Gate, R: Wait>(
+    events: &Recorded<'_, L, G, R>,
     alloc: Global,
-    engine: &Engine<L>,
     client: &mut Client<L>,
     now: u64,
     command: &Command,
 ) -> Option<Outcome>
-    ensures looks { IfSome result (λ o. Looks engine.now client.old command.now o client.new) }
+    ensures looks { IfSome result
+        (λ o. Looks events.now.engine.now client.old command.now o client.new) }
     ensures none { IfNone result (Starts command.now client.old client.new) }
 {
     match range_of(command) {
-        Some(query) => looked_up(rt, alloc, engine, client, now, query),
+        Some(query) => looked_up(events, alloc, client, now, query),
         None => None,
     }
 }
@@ -52,28 +55,27 @@ fn range_of(command: &Command) -> Option<&RangeQuery>
 }
 
 /// Answers a Range beside the engine; `None` where it has to be submitted.
-fn looked_up<L: EngineName, R: Wait>(
-    rt: &R,
+fn looked_up<L: EngineName, G: Gate, R: Wait>(
+    events: &Recorded<'_, L, G, R>,
     alloc: Global,
-    engine: &Engine<L>,
     client: &mut Client<L>,
     now: u64,
     query: &RangeQuery,
 ) -> Option<Outcome>
-    ensures looks { IfSome result (λ o. LooksUp engine.now client.old query.now o client.new) }
+    ensures looks { IfSome result
+        (λ o. LooksUp events.now.engine.now client.old query.now o client.new) }
     ensures none { IfNone result (Stays client.old client.new) }
 {
-    if !may_begin(rt, engine, client, now, query) {
+    if !may_begin(events, client, now, query) {
         return None;
     }
-    read_beside(alloc, client, query, engine.ids())
+    read_beside(alloc, client, query, events.engine.ids())
 }
 
 /// Whether a Range may be answered by what is published from now on, once the client was told of
 /// all that the engine has done where the Range asks for that.
-fn may_begin<L: EngineName, R: Wait>(
-    rt: &R,
-    engine: &Engine<L>,
+fn may_begin<L: EngineName, G: Gate, R: Wait>(
+    events: &Recorded<'_, L, G, R>,
     client: &mut Client<L>,
     now: u64,
     query: &RangeQuery,
@@ -81,7 +83,23 @@ fn may_begin<L: EngineName, R: Wait>(
     ensures { MatchBool result (Begins query.now.serializable client.old client.new)
         (client.new ≡ left client.old) }
 {
-    query.serializable || engine.catch_up(rt, client, now)
+    query.serializable || is_caught_up(events, client, now)
+}
+
+/// Whether the client was told of all that the engine has done. It is not where events are written
+/// down: the Range is to be one of them.
+fn is_caught_up<L: EngineName, G: Gate, R: Wait>(
+    events: &Recorded<'_, L, G, R>,
+    client: &mut Client<L>,
+    now: u64,
+) -> bool
+    ensures { MatchBool result (CatchesUp client.old client.new) (client.new ≡ left client.old) }
+{
+    if events.is_recorded() {
+        client.leave();
+        return false;
+    }
+    events.engine.catch_up(events.rt, client, now)
 }
 
 /// Answers a Range from what is published; `None` where the client has no entry to it.

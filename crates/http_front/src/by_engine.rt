@@ -6,7 +6,8 @@ ghost use Rattle.http_front.specs.Engines.{AreTrimmed, Awaits, Does, Looks, Subm
 
 use crate::beside::looked;
 use crate::gate::{Clock, Gate};
-use engine_lock::{Client, Engine, EngineName, Submitted};
+use crate::recorded::Recorded;
+use engine_lock::{Client, EngineName, Submitted};
 use http_input::Request;
 use http_loop::{Answering, Told, command_path};
 use json_gateway::{Bad, Message, Outcome, Settled, Trim, dismissed, read};
@@ -25,9 +26,7 @@ const MOST_REFUSALS: u64 = 1000;
 /// What answers a connection: an engine, which others change too, for one of its clients.
 #[derive(Drop)]
 pub(crate) struct ByEngine<'e, L: EngineName, G, C, R> {
-    pub(crate) rt: &'e R,
-    pub(crate) engine: &'e Engine<L>,
-    pub(crate) gate: &'e G,
+    pub(crate) events: Recorded<'e, L, G, R>,
     pub(crate) clock: &'e C,
     /// The number of the connection.
     pub(crate) call: u64,
@@ -40,23 +39,23 @@ where
     C: Clock,
     R: Wait + time::Clock,
 {
-    ghost Answers = { λ by. engines.Answers by.engine.now };
+    ghost Answers = { λ by. engines.Answers by.events.engine.now };
 
-    ghost Tells = { λ by. engines.Tells by.engine.now };
+    ghost Tells = { λ by. engines.Tells by.events.engine.now };
 
     ghost Finishes = { λ by. engines.Finishes };
 
     fn awaits(&self) {
-        self.gate.awaits(self.call);
+        self.events.gate.awaits(self.call);
     }
 
     /// Does the command that a request asks for, once the gate lets it, at the clock's moment.
     fn answer(&self, alloc: Global, state: &mut Client<L>, request: &Request<'_>) -> Outcome {
-        self.gate.before(self.call);
+        self.events.gate.before(self.call);
         match read(alloc, command_path(request), request.body) {
             Ok(command) => {
                 let now = self.clock.now();
-                done(self.rt, alloc, self.engine, state, now, &command)
+                done(&self.events, alloc, state, now, &command, request)
             }
             Err(bad) => refused(alloc, bad),
         }
@@ -65,14 +64,14 @@ where
     /// The next message of a watch. It rests where there is none, or where no memory was found for
     /// it, and then the stream ends where the client has left.
     fn tell(&self, _alloc: Global, state: &mut Client<L>, number: u64) -> Told {
-        for _ in self.rt.forever() {
-            match self.engine.deliver_for(self.rt, state, number) {
+        for _ in self.events.rt.forever() {
+            match self.events.deliver(state, number) {
                 Ok(Message::Text(text)) => return Told::Text(text),
                 Ok(Message::NoWatch) => return Told::End,
                 Ok(Message::Nothing) | Err(_) => {}
             }
-            thread::sleep(self.rt, Duration::from_millis(WATCH_REST));
-            if self.gate.has_left(self.call) {
+            thread::sleep(self.events.rt, Duration::from_millis(WATCH_REST));
+            if self.events.gate.has_left(self.call) {
                 return Told::End;
             }
         }
@@ -81,9 +80,9 @@ where
 
     fn finish(&self, state: &mut Client<L>, watch: Option<u64>) {
         if let Some(number) = watch {
-            let _ = self.engine.drop_watch_for(self.rt, state, number);
+            let _ = self.events.drop_watch(state, number);
         }
-        self.gate.after(self.call);
+        self.events.gate.after(self.call);
     }
 }
 
@@ -101,42 +100,42 @@ fn refused(alloc: Global, bad: Bad) -> Outcome
     }
 }
 
-/// Does a command: reads a Range beside the engine where it can be, and else submits it.
-fn done<L: EngineName, R: Wait>(
-    rt: &R,
+/// Does the command that a request asks for: reads a Range beside the engine where it can be, and
+/// else submits it.
+fn done<L: EngineName, G: Gate, R: Wait>(
+    events: &Recorded<'_, L, G, R>,
     alloc: Global,
-    engine: &Engine<L>,
     client: &mut Client<L>,
     now: u64,
     command: &Command,
+    request: &Request<'_>,
 ) -> Outcome
-    ensures { Submits engine.now client.old command.now result client.new
-        ⊎ Looks engine.now client.old command.now result client.new }
+    ensures { Submits events.now.engine.now client.old command.now result client.new
+        ⊎ Looks events.now.engine.now client.old command.now result client.new }
 {
-    if let Some(outcome) = looked(rt, alloc, engine, client, now, command) {
+    if let Some(outcome) = looked(events, alloc, client, now, command) {
         return outcome;
     }
-    performed(rt, engine, client, now, command)
+    performed(events, client, now, command, request)
 }
 
 /// Submits a command, and does the trimming that its answer waits for.
-fn performed<L: EngineName, R: Wait>(
-    rt: &R,
-    engine: &Engine<L>,
+fn performed<L: EngineName, G: Gate, R: Wait>(
+    events: &Recorded<'_, L, G, R>,
     client: &mut Client<L>,
     now: u64,
     command: &Command,
+    request: &Request<'_>,
 ) -> Outcome
-    ensures { Does engine.now client.old command.now result client.new }
+    ensures { Does events.now.engine.now client.old command.now result client.new }
 {
-    let submitted = engine.submit(rt, client, now, command);
-    awaited(rt, engine, client, submitted)
+    let submitted = events.submit(client, now, command, request);
+    awaited(events, client, submitted)
 }
 
 /// The outcome of a command, once the trimming is done that its answer waits for.
-fn awaited<L: EngineName, R: Wait>(
-    rt: &R,
-    engine: &Engine<L>,
+fn awaited<L: EngineName, G: Gate, R: Wait>(
+    events: &Recorded<'_, L, G, R>,
     client: &mut Client<L>,
     submitted: Submitted,
 ) -> Outcome
@@ -145,7 +144,7 @@ fn awaited<L: EngineName, R: Wait>(
     if !submitted.outcome.waits {
         return submitted.outcome;
     }
-    if trim_all(rt, engine, client) {
+    if trim_all(events, client) {
         return submitted.outcome;
     }
     lost(submitted)
@@ -165,12 +164,15 @@ fn lost(submitted: Submitted) -> Outcome
 
 /// Makes trimming steps until one says that trimming is done, and says that it is. One that is
 /// refused for memory is tried again; after 1,000 refusals in a row it is given up.
-fn trim_all<L: EngineName, R: Wait>(rt: &R, engine: &Engine<L>, client: &mut Client<L>) -> bool
+fn trim_all<L: EngineName, G: Gate, R: Wait>(
+    events: &Recorded<'_, L, G, R>,
+    client: &mut Client<L>,
+) -> bool
     ensures { AreTrimmed 0 result client.old client.new }
 {
     let mut refusals = 0;
-    for _ in rt.forever() {
-        match engine.trim_once_for(rt, client) {
+    for _ in events.rt.forever() {
+        match events.trim_for(client) {
             Ok(Trim::Done(_)) => return true,
             Ok(_) => refusals = 0,
             Err(_) => {

@@ -11,6 +11,7 @@ ghost use Rattle.http_front.specs.Engines.{Answers, Finishes, Tells};
 
 use crate::by_engine::ByEngine;
 use crate::gate::{Clock, Gate};
+use crate::recorded::Recorded;
 use engine_lock::{Client, Engine, EngineName};
 use http_loop::serve_all;
 use http_reply::{Counted, Front};
@@ -20,8 +21,8 @@ use std::sync::Wait;
 use std::time;
 
 /// Answers the requests of a connection one after the other, each by one `submit` to the engine, or,
-/// a serializable Range, by a reading beside it, and gives the number of its replies. It ends at the
-/// input's end before a request, after a request with `Connection: close`, and after a watch.
+/// a Range, by a reading beside it, and gives the number of its replies. It ends at the input's end
+/// before a request, after a request with `Connection: close`, and after a watch.
 ///
 /// What it writes is, in order, the texts of exactly the outcomes that the engine gave this client,
 /// or of what the client read beside it, one for each request of the bytes that were read: none is
@@ -34,7 +35,8 @@ use std::time;
 ///
 /// `call` is the number of the connection, which the gate is told of before the first byte of each
 /// request, before the request is handed to the engine, and after its reply. The clock is read for
-/// each request. A watch rests for 20 ms where it is told nothing, and ends where the gate says
+/// each request. Each event is written down where the gate has a record; then only a serializable
+/// Range is read beside the engine. A watch rests for 20 ms where it is told nothing, and ends where the gate says
 /// then that its client has left.
 ///
 /// Fails and costs as [`serve_all`] does, which it is over an engine.
@@ -67,10 +69,9 @@ where
     ensures writer { failures_of w.new ≡ failures_after result (failures_of w.old) }
     ensures fault { IfErr result IsOfConnection }
 {
+    let events = Recorded { rt, engine, gate };
     let by = ByEngine {
-        rt,
-        engine,
-        gate,
+        events,
         clock,
         call,
     };

@@ -3,7 +3,7 @@ ghost use Rattle.std.specs.Prelude.{IfOk, IfErr};
 ghost use Rattle.engine_lock.specs.Fits.{IsStanding};
 ghost use Rattle.http_front.specs.Ends.{IsOfServer};
 
-use crate::gate::{Clock, OpenGate};
+use crate::gate::{Clock, Gate};
 use crate::shared::Shared;
 use crate::threads::{Served, clients_of, closed, join_all, start_all, with_client};
 use engine_lock::{Client, Engine, EngineName};
@@ -30,6 +30,15 @@ pub trait Directing<L: EngineName> {
     fn direct(&mut self, engine: &Engine<L>, client: &mut Client<L>);
 }
 
+/// How much a server serves.
+#[derive(Clone, Copy, Debug, PartialEq, Eq)]
+pub struct Limits {
+    /// How many connections at once.
+    pub workers: u64,
+    /// How many in all, at most 2^63 - 1.
+    pub connections: u64,
+}
+
 /// A clock that stands at its beginning. A moment that is handed in by it leaves the engine's clock,
 /// so that this stands where the engine was last told a moment by somebody else.
 #[derive(Clone, Copy, Debug, Drop)]
@@ -52,19 +61,23 @@ impl Clock for Standing {
 /// the engine is closed. The director may return after `connections` have come and gone, too: no
 /// further one is let in, and the server still ends when it returns.
 ///
+/// What the gate asks for is as by `pool`; it is for the director to have its events written down
+/// where the gate has a record ([`Recorded`](crate::Recorded)).
+///
 /// Fails as [`pool`](crate::pool) does; where a list or a thread is wanting at the start, the
 /// director is not called.
-pub fn pool_directed<L, D, R>(
+pub fn pool_directed<L, G, D, R>(
     rt: &R,
     alloc: Global,
     engine: Engine<L>,
+    gate: &G,
     director: &mut D,
     listener: &TcpListener,
-    workers: u64,
-    connections: u64,
+    limits: Limits,
 ) -> Result<Core, Front>
 where
     L: EngineName + Send + Sync,
+    G: Gate + Sync,
     D: Directing<L>,
     R: Wait + Threads + time::Clock + Net + Sync,
     ensures stands { IfOk result (λ core. IsStanding core) }
@@ -73,27 +86,28 @@ where
     let Ok(client) = engine.client(rt) else {
         return Err(Front::Unclosed);
     };
-    let clients = match clients_of(rt, alloc, &engine, workers) {
+    let clients = match clients_of(rt, alloc, &engine, limits.workers) {
         Ok(clients) => clients,
         Err(front) => return Err(front),
     };
-    let shared = Shared::new(&engine, &OpenGate, &Standing, listener, connections);
+    let shared = Shared::new(&engine, gate, &Standing, listener, limits.connections);
     let Served { clients, trouble } = run_directed(rt, alloc, &shared, clients, client, director);
     drop(shared);
     closed(rt, engine, clients, trouble)
 }
 
 /// Starts the workers, lets the director run, and joins them.
-fn run_directed<L, D, R>(
+fn run_directed<L, G, D, R>(
     rt: &R,
     alloc: Global,
-    shared: &Shared<'_, L, OpenGate, Standing>,
+    shared: &Shared<'_, L, G, Standing>,
     clients: Vec<Client<L>>,
     client: Client<L>,
     director: &mut D,
 ) -> Served<L>
 where
     L: EngineName + Send + Sync,
+    G: Gate + Sync,
     D: Directing<L>,
     R: Wait + Threads + time::Clock + Net + Sync,
 {
@@ -103,17 +117,18 @@ where
 }
 
 /// Serves until the director has returned, and hands all clients back.
-fn serve_directed<'s, E, L, D, R>(
+fn serve_directed<'s, E, L, G, D, R>(
     scope: &Scope<'s, E>,
     rt: &'s R,
     alloc: Global,
-    shared: &'s Shared<'s, L, OpenGate, Standing>,
+    shared: &'s Shared<'s, L, G, Standing>,
     clients: Vec<Client<L>>,
     client: Client<L>,
     director: &mut D,
 ) -> Served<L>
 where
     L: EngineName + Send + Sync + 's,
+    G: Gate + Sync + 's,
     D: Directing<L>,
     R: Wait + Threads + time::Clock + Net + Sync + 's,
 {

@@ -1,5 +1,7 @@
 //! What a server asks of whoever runs it: when a request may go on, what time it is, and whether a
-//! client has left.
+//! client has left; and where its events are written down.
+
+use recording::Record;
 
 /// Is told of each request of a server. A test holds requests back by it.
 pub trait Gate {
@@ -17,6 +19,16 @@ pub trait Gate {
     fn has_left(&self, _call: u64) -> bool {
         false
     }
+
+    /// Where the events are written down that the server makes; `None` where they are not. It is the
+    /// same record at each call.
+    fn record(&self) -> Option<&Record> {
+        None
+    }
+
+    /// Comes behind each event that may have been written down, when the record is held no more, and
+    /// before the event's reply: the lines may be taken.
+    fn recorded(&self) {}
 }
 
 /// Holds no request back.

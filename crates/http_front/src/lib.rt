@@ -19,6 +19,9 @@
 //! [`pool_directed`] serves without the two threads beside the connections, until somebody ends it
 //! ([`Directing`]).
 //!
+//! Where the gate has a [`Record`], each event of the engine is written down there, as the line of a
+//! script, in the order in which the events are made ([`Recorded`]).
+//!
 //! Each thread is started in a small function of its own (`threads.rt`): what a thread asks of its
 //! closure, that it may cross, is proved where little else is known.
 //!
@@ -33,16 +36,19 @@ mod directed;
 mod door;
 pub mod gate;
 mod peer;
+mod recorded;
 mod shared;
 mod threads;
 mod workers;
 
 pub use connection::work;
-pub use directed::{Directing, pool_directed};
+pub use directed::{Directing, Limits, pool_directed};
 pub use door::MOST_CONNECTIONS;
 pub use gate::{Clock, Gate, OpenGate};
 pub use http_head::Head;
 pub use http_input::{Input, Request, next_request};
 pub use http_loop::serve_alone;
 pub use http_reply::{Counted, Front, ReplyBuffer, write_chunk, write_reply};
+pub use recorded::Recorded;
+pub use recording::Record;
 pub use threads::pool;

@@ -4,6 +4,7 @@ ghost use Rattle.std.specs.Io.{ReadsAtMost};
 
 use crate::door::Door;
 use crate::gate::Gate;
+use recording::Record;
 use std::io;
 use std::io::{ErrorKind, Read, Write};
 use std::net::{TcpListener, TcpStream};
@@ -158,6 +159,14 @@ impl<'p, 's, G: Gate> Gate for PeerGate<'p, 's, G> {
 
     fn has_left(&self, call: u64) -> bool {
         self.peer.is_ending() || self.peer.has_left() || self.gate.has_left(call)
+    }
+
+    fn record(&self) -> Option<&Record> {
+        self.gate.record()
+    }
+
+    fn recorded(&self) {
+        self.gate.recorded();
     }
 }
 

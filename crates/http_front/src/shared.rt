@@ -1,6 +1,8 @@
 //! What the threads of a server share.
+ghost use Rattle.std.specs.Prelude.{◌≡◌};
 
 use crate::door::Door;
+use crate::recorded::Recorded;
 use engine_lock::{Engine, EngineName};
 use std::net::TcpListener;
 use std::sync::Mutex;
@@ -37,6 +39,17 @@ impl<'s, L: EngineName, G, C> Shared<'s, L, G, C> {
             listener,
             door: Mutex::new(Door::new(connections)),
             ended: AtomicBool::new(false),
+        }
+    }
+
+    /// What makes the events of the engine.
+    pub(crate) fn events<'e, R>(&'e self, rt: &'e R) -> Recorded<'e, L, G, R>
+        ensures { result.engine.now ≡ self.now.engine.now }
+    {
+        Recorded {
+            rt,
+            engine: self.engine,
+            gate: self.gate,
         }
     }
 }

@@ -258,13 +258,11 @@ fn start_trimming<'s, E, L, G, C, R>(
 ) -> Option<JoinHandle<()>>
 where
     L: EngineName + Send + Sync + 's,
-    G: Sync + 's,
+    G: Gate + Sync + 's,
     C: Sync + 's,
     R: Wait + time::Clock + Sync + 's,
 {
-    let engine = shared.engine;
-    let ended = &shared.ended;
-    match scope.spawn(move || keep_trimming(rt, engine, ended)) {
+    match scope.spawn(move || keep_trimming(rt, shared)) {
         Ok(handle) => Some(handle),
         Err(_) => None,
     }
@@ -279,14 +277,11 @@ fn start_expiring<'s, E, L, G, C, R>(
 ) -> Option<JoinHandle<Client<L>>>
 where
     L: EngineName + Send + Sync + 's,
-    G: Sync + 's,
+    G: Gate + Sync + 's,
     C: Clock + Sync + 's,
     R: Wait + time::Clock + Sync + 's,
 {
-    let engine = shared.engine;
-    let clock = shared.clock;
-    let ended = &shared.ended;
-    match scope.spawn(move || keep_expiring(rt, engine, clock, ended, client)) {
+    match scope.spawn(move || keep_expiring(rt, shared, client)) {
         Ok(handle) => Some(handle),
         Err(_) => None,
     }

@@ -1,13 +1,15 @@
 //! A server that lines control: whoever has them makes requests, too, between one line and the next.
-use command_line::{Args, Serve, serve_controlled};
+use command_line::{Args, Gate, OpenGate, Serve, serve_controlled};
 use std::io::{BufReader, Read, Write};
 use std::net::{Net, SocketAddr, TcpListener, TcpStream};
+use std::sync::Wait;
 use std::test::Fail;
+use std::thread::Threads;
 use std::{io, time};
 
 /// What whoever controls a server does next.
 #[derive(Clone, Copy)]
-enum Step {
+pub(crate) enum Step {
     /// A line for the server. It comes once the one before it was answered.
     Line(&'static [u8]),
     /// A request on a connection that is kept open, and what is told at first.
@@ -17,7 +19,7 @@ enum Step {
 /// A lease of ten seconds with a key, which ends when the clock is told so; and a compaction at the
 /// deletion of its key. At the end five connections are open: four between two requests, and one of a
 /// watch that is told nothing.
-const STEPS: [Step; 16] = [
+pub(crate) const STEPS: [Step; 16] = [
     Step::Line(b"AT 1000\n"),
     Step::Asks(
         b"POST /v3/lease/grant HTTP/1.1\r\nHost: t\r\nContent-Length: 21\r\n\r\n\
@@ -66,7 +68,7 @@ const STEPS: [Step; 16] = [
 const MOST_STEPS: usize = 100;
 
 /// What is told, and at the end of the lines the revision.
-const REPLIES: &[u8] = b"at 1000\nat 10999\nnothing\nat 11000\nexpired 7 revision 3\n\
+pub(crate) const REPLIES: &[u8] = b"at 1000\nat 10999\nnothing\nat 11000\nexpired 7 revision 3\n\
     kept 2.0\nkept 3.0\ndone 2\nbad line\nbad line\n\
     dump 2\nfloor 3\nrevision 3\nput 2 0 :Zm9v 2 1 7 :YmFy\ngone 3 0 :Zm9v\nend\n\
     needs 2\nprev 2 0 3\nwatch 3 0 3\nend\n\
@@ -121,16 +123,36 @@ impl<'x, R: Net<Listener = TcpListener, Stream = TcpStream>> Read for Hand<'x, R
     }
 }
 
-/// Time, expiry and trimming are the test's; with its last line the server ends, also while
-/// connections are open, and closes them.
-#[test]
-fn lines_control_a_server(rt: HostRuntime) -> Result<(), Fail> {
+/// What a server that was controlled by hand came to.
+#[derive(Drop)]
+pub(crate) struct Ran {
+    /// Whether it ended without a fault.
+    pub(crate) is_ended: bool,
+    /// What it wrote.
+    pub(crate) said: Vec<u8>,
+    /// Whether each request was told what it must be.
+    pub(crate) is_told_so: bool,
+    /// The connections that were open at its end.
+    open: Vec<TcpStream>,
+}
+
+/// Runs a server by hand, with a gate of its own.
+pub(crate) fn run<G, R>(rt: &R, steps: &[Step], gate: &G) -> Result<Ran, Fail>
+where
+    G: Gate + Sync,
+    R: Net<Listener = TcpListener, Stream = TcpStream>
+        + Wait
+        + Threads
+        + time::Clock
+        + AllocGlobal
+        + Sync,
+{
     let alloc = rt.alloc();
-    let listener = TcpListener::bind(&rt, "127.0.0.1:0")?;
+    let listener = TcpListener::bind(rt, "127.0.0.1:0")?;
     let mut hand = Hand {
-        rt: &rt,
+        rt,
         address: listener.local_addr()?,
-        steps: &STEPS,
+        steps,
         open: Vec::new(alloc),
         is_told_so: true,
     };
@@ -141,18 +163,37 @@ fn lines_control_a_server(rt: HostRuntime) -> Result<(), Fail> {
         cluster: 1,
         member: 1,
         control: true,
+        recording: None,
     });
     let mut said = Vec::new(alloc);
     let mut reader = BufReader::new(alloc, &mut hand)?;
-    let ended = serve_controlled(&rt, alloc, &listener, &args, &mut reader, &mut said);
+    let ended = serve_controlled(rt, alloc, &listener, &args, gate, &mut reader, &mut said);
     drop(reader);
-    assert!(rt; ended.is_ok());
-    assert!(rt; said.as_slice() == REPLIES);
-    assert!(rt; hand.is_told_so);
-    assert_eq!(rt; hand.open.len(), 5);
-    for stream in &hand.open {
+    let Hand {
+        open,
+        is_told_so,
+        ..
+    } = hand;
+    Ok(Ran {
+        is_ended: ended.is_ok(),
+        said,
+        is_told_so,
+        open,
+    })
+}
+
+/// Time, expiry and trimming are the test's; with its last line the server ends, also while
+/// connections are open, and closes them.
+#[test]
+fn lines_control_a_server(rt: HostRuntime) -> Result<(), Fail> {
+    let ran = run(&rt, &STEPS, &OpenGate)?;
+    assert!(rt; ran.is_ended);
+    assert!(rt; ran.said.as_slice() == REPLIES);
+    assert!(rt; ran.is_told_so);
+    assert_eq!(rt; ran.open.len(), 5);
+    for stream in &ran.open {
         let mut peer = stream;
-        let mut rest = Vec::new(alloc);
+        let mut rest = Vec::new(rt.alloc());
         peer.read_to_end(&mut rest)?;
         assert!(rt; rest.is_empty() || rest.as_slice().ends_with(b"0\r\n\r\n"));
     }

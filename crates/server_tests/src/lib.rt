@@ -17,6 +17,8 @@ mod held;
 #[cfg(test)]
 mod long_rows;
 #[cfg(test)]
+mod recorded;
+#[cfg(test)]
 mod rows;
 #[cfg(test)]
 mod scripts;

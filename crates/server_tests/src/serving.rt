@@ -52,6 +52,7 @@ where
         cluster,
         member,
         control: false,
+        recording: None,
     });
     let ended = serve_on(rt, alloc, &listener, &args, said);
     let is_answered = io::read_to_string(alloc, peer)?.as_str() == reply;

@@ -1,0 +1,93 @@
+//! `serve --record`: the events of a server, put into a file as the lines of a script.
+
+use commands::{Fault, write_bytes};
+use http_front::{Gate, Record};
+use std::alloc::Global;
+use std::io;
+use std::io::{ErrorKind, Write};
+use std::sync::{Mutex, Wait};
+
+/// Is told where a recording ends before its server does.
+pub trait Tells {
+    /// No further line is written, for this reason.
+    fn tell(&self, fault: &Fault);
+}
+
+/// What writes the lines.
+#[derive(Drop)]
+struct Writing<W> {
+    out: W,
+    /// The lines that are written next.
+    text: Vec<u8>,
+    is_open: bool,
+}
+
+/// A gate that holds no request back, and has the events of its server written down: each line is
+/// in the writer before the reply to the request whose event it is.
+///
+/// Where a write fails, or no memory was found for a line, no further one is written, whoever is to
+/// know is told why, and the server goes on. What is written then are the lines up to there, and of
+/// a write that failed a beginning.
+#[derive(Drop)]
+pub struct Recording<'x, R, W, T> {
+    rt: &'x R,
+    record: Record,
+    writing: Mutex<Writing<W>>,
+    tells: T,
+}
+
+impl<'x, R: Wait, W: Write, T: Tells> Recording<'x, R, W, T> {
+    /// Nothing is written yet. Takes no memory.
+    pub fn new(rt: &'x R, alloc: Global, out: W, tells: T) -> Self {
+        Recording {
+            rt,
+            record: Record::new(alloc),
+            writing: Mutex::new(Writing {
+                out,
+                text: Vec::new(alloc),
+                is_open: true,
+            }),
+            tells,
+        }
+    }
+
+    /// Writes the lines that were not written yet.
+    fn write_on(&self) {
+        let mut writing = self.writing.lock(self.rt);
+        if !writing.is_open {
+            return;
+        }
+        let is_all = self.record.take(self.rt, &mut writing.text);
+        if let Err(error) = writing.write(is_all) {
+            writing.is_open = false;
+            drop(writing);
+            self.tells.tell(&Fault::Record(error));
+        }
+    }
+}
+
+impl<W: Write> Writing<W> {
+    /// Writes the lines that are next. Fails where a write fails, and where they are not all.
+    fn write(&mut self, is_all: bool) -> io::Result<()> {
+        write_bytes(&mut self.out, self.text.as_slice())?;
+        if is_all {
+            Ok(())
+        } else {
+            Err(io::Error::from(ErrorKind::OutOfMemory))
+        }
+    }
+}
+
+impl<'x, R: Wait, W: Write, T: Tells> Gate for Recording<'x, R, W, T> {
+    fn before(&self, _call: u64) {}
+
+    fn after(&self, _call: u64) {}
+
+    fn record(&self) -> Option<&Record> {
+        Some(&self.record)
+    }
+
+    fn recorded(&self) {
+        self.write_on();
+    }
+}
