@@ -2,6 +2,7 @@
 
 use commands::{Fault, write_bytes};
 use http_front::{Gate, Record};
+use recording::locked;
 use std::alloc::Global;
 use std::io;
 use std::io::{ErrorKind, Write};
@@ -53,7 +54,7 @@ impl<'x, R: Wait, W: Write, T: Tells> Recording<'x, R, W, T> {
 
     /// Writes the lines that were not written yet.
     fn write_on(&self) {
-        let mut writing = self.writing.lock(self.rt);
+        let mut writing = locked(self.rt, &self.writing);
         if !writing.is_open {
             return;
         }

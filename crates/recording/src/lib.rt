@@ -26,4 +26,4 @@ mod lines;
 mod record;
 
 pub use lines::Lines;
-pub use record::Record;
+pub use record::{Record, locked};

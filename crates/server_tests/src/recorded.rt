@@ -3,11 +3,13 @@
 use crate::controlled::{REPLIES, STEPS, run};
 use command_line::{Recording, Tells};
 use commands::{Fault, replay};
-use std::io;
 use std::io::{ErrorKind, Write};
+use std::net::{Net, TcpListener, TcpStream};
 use std::sync::atomic::{AtomicU64, Ordering};
 use std::sync::{Mutex, Wait};
 use std::test::Fail;
+use std::thread::Threads;
+use std::{io, time};
 
 /// The events of the server that `controlled` runs. An `AT` stands before an event alone, an
 /// `EXPIRE` where a lease has ended, and the watch that the server's end closes is closed.
@@ -65,27 +67,56 @@ impl<'s> Tells for Count<'s> {
     }
 }
 
+/// What `controlled` does with its server, of one that writes its events down.
+fn recorded<W, T, R>(rt: &R, out: W, tells: T) -> Result<bool, Fail>
+where
+    W: Write + Send,
+    T: Tells + Sync,
+    R: Net<Listener = TcpListener, Stream = TcpStream>
+        + Wait
+        + Threads
+        + time::Clock
+        + AllocGlobal
+        + Sync,
+{
+    let gate = Recording::new(rt, rt.alloc(), out, tells);
+    let ran = run(rt, &STEPS, &gate)?;
+    Ok(ran.is_ended && ran.is_told_so && ran.said.as_slice() == REPLIES)
+}
+
+/// Whether the server does what it does unrecorded, what is written where so many writes succeed,
+/// and how often it is told that the recording has ended.
+fn run_recorded<R>(rt: &R, left: u64) -> Result<(bool, Vec<u8>, u64), Fail>
+where
+    R: Net<Listener = TcpListener, Stream = TcpStream>
+        + Wait
+        + Threads
+        + time::Clock
+        + AllocGlobal
+        + Sync,
+{
+    let (text, told) = (Mutex::new(Vec::new(rt.alloc())), AtomicU64::new(0));
+    let sheet = Sheet {
+        rt,
+        text: &text,
+        left,
+    };
+    let is_same = recorded(rt, sheet, Count { told: &told })?;
+    let count = told.load(Ordering::SeqCst);
+    Ok((is_same, text.into_inner(), count))
+}
+
 /// Each event of a server is a line, in order, and a script of them is answered as the server's
 /// clients were.
 #[test]
 fn its_events_are_a_script(rt: HostRuntime) -> Result<(), Fail> {
-    let alloc = rt.alloc();
-    let (text, told) = (Mutex::new(Vec::new(alloc)), AtomicU64::new(0));
-    let sheet = Sheet {
-        rt: &rt,
-        text: &text,
-        left: u64::MAX,
-    };
-    let gate = Recording::new(&rt, alloc, sheet, Count { told: &told });
-    let ran = run(&rt, &STEPS, &gate)?;
-    drop(gate);
-    assert!(rt; ran.is_ended && ran.is_told_so && ran.said.as_slice() == REPLIES);
-    assert_eq!(rt; told.load(Ordering::SeqCst), 0);
-    let text = text.into_inner();
+    let (is_same, text, told) = run_recorded(&rt, u64::MAX)?;
+    assert!(rt; is_same);
+    assert_eq!(rt; told, 0);
     assert!(rt; text.as_slice() == LINES);
-    let mut replies = Vec::new(alloc);
+    let mut replies = Vec::new(rt.alloc());
     let mut script = text.as_slice();
-    assert!(rt; replay(alloc, &mut script, &mut replies).is_ok());
+    assert!(rt; replay(rt.alloc(), &mut script, &mut replies).is_ok());
     assert!(rt; replies.as_slice() == REPLAYED);
     Ok(())
 }
@@ -93,19 +124,10 @@ fn its_events_are_a_script(rt: HostRuntime) -> Result<(), Fail> {
 /// A write that fails ends the recording, of which is told once, and not the server.
 #[test]
 fn its_end_is_told_once(rt: HostRuntime) -> Result<(), Fail> {
-    let alloc = rt.alloc();
-    let (text, told) = (Mutex::new(Vec::new(alloc)), AtomicU64::new(0));
-    let sheet = Sheet {
-        rt: &rt,
-        text: &text,
-        left: 2,
-    };
-    let gate = Recording::new(&rt, alloc, sheet, Count { told: &told });
-    let ran = run(&rt, &STEPS, &gate)?;
-    drop(gate);
-    assert!(rt; ran.is_ended && ran.is_told_so && ran.said.as_slice() == REPLIES);
-    assert_eq!(rt; told.load(Ordering::SeqCst), 1);
-    let text = text.into_inner();
-    assert!(rt; !text.is_empty() && text.len() < LINES.len() && LINES.starts_with(text.as_slice()));
+    let (is_same, text, told) = run_recorded(&rt, 2)?;
+    assert!(rt; is_same);
+    assert_eq!(rt; told, 1);
+    assert!(rt; !text.is_empty() && text.len() < LINES.len());
+    assert!(rt; LINES.starts_with(text.as_slice()));
     Ok(())
 }
