@@ -70,8 +70,8 @@ impl<'s> Tells for Count<'s> {
 /// What `controlled` does with its server, of one that writes its events down.
 fn recorded<W, T, R>(rt: &R, out: W, tells: T) -> Result<bool, Fail>
 where
-    W: Write + Send,
-    T: Tells + Sync,
+    W: Write + Send + Drop,
+    T: Tells + Sync + Drop,
     R: Net<Listener = TcpListener, Stream = TcpStream>
         + Wait
         + Threads
