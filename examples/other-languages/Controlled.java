@@ -18,7 +18,7 @@ class Controlled {
     }
 
     /** A server of a test's own, whose clock, leases and trimming go by lines (`serve --control`). */
-    static class Server {
+    static class Server implements AutoCloseable {
         final HttpClient client = HttpClient.newBuilder().version(HttpClient.Version.HTTP_1_1).build();
         final Process process;
         final BufferedReader replies;
@@ -62,36 +62,43 @@ class Controlled {
             expect("closed at revision " + revision, replies.readLine());
             expect(0, process.waitFor());
         }
+
+        @Override
+        public void close() {
+            process.destroy();
+        }
     }
 
     static void aLeaseOfTenSecondsEndsAtOnce() throws Exception {
-        Server server = new Server();
-        expect("at 1000", server.order("AT 1000"));
-        server.ask("lease/grant", "{'TTL':'10','ID':'7'}");
-        server.ask("kv/put", "{'key':'" + b64("lock") + "','lease':'7'}");
-        expect("at 10999", server.order("AT 10999"));
-        expect("nothing", server.order("EXPIRE"));
-        expect(true, server.ask("kv/range", "{'key':'" + b64("lock") + "'}").contains("\"count\":\"1\""));
-        expect("at 11000", server.order("AT 11000"));
-        expect("expired 7 revision 3", server.order("EXPIRE"));
-        expect(false, server.ask("kv/range", "{'key':'" + b64("lock") + "'}").contains("\"count\""));
-        server.end(3);
+        try (Server server = new Server()) {
+            expect("at 1000", server.order("AT 1000"));
+            server.ask("lease/grant", "{'TTL':'10','ID':'7'}");
+            server.ask("kv/put", "{'key':'" + b64("lock") + "','lease':'7'}");
+            expect("at 10999", server.order("AT 10999"));
+            expect("nothing", server.order("EXPIRE"));
+            expect(true, server.ask("kv/range", "{'key':'" + b64("lock") + "'}").contains("\"count\":\"1\""));
+            expect("at 11000", server.order("AT 11000"));
+            expect("expired 7 revision 3", server.order("EXPIRE"));
+            expect(false, server.ask("kv/range", "{'key':'" + b64("lock") + "'}").contains("\"count\""));
+            server.end(3);
+        }
     }
 
     static void aCompactionCancelsAWatcherThatIsTooLate() throws Exception {
-        Server server = new Server();
-        for (String value : List.of("one", "two", "three")) {
-            server.ask("kv/put", "{'key':'" + b64("job") + "','value':'" + b64(value) + "'}");
+        try (Server server = new Server()) {
+            for (String value : List.of("one", "two", "three")) {
+                server.ask("kv/put", "{'key':'" + b64("job") + "','value':'" + b64(value) + "'}");
+            }
+            server.ask("kv/compaction", "{'revision':'4'}");
+            List<String> said = new ArrayList<>();
+            do said.add(server.order("TRIM"));
+            while (!said.get(said.size() - 1).startsWith("done "));
+            expect(List.of("removed 2.0", "kept 3.0", "kept 4.0", "done 2"), said);
+            List<String> told = server.watch("{'key':'" + b64("job") + "','start_revision':'2'}");
+            expect(2, told.size());
+            expect(true, told.get(1).contains("\"canceled\":true") && told.get(1).contains("\"compact_revision\":\"4\""));
+            server.end(4);
         }
-        server.ask("kv/compaction", "{'revision':'4'}");
-        List<String> said = new ArrayList<>();
-        do said.add(server.order("TRIM"));
-        while (!said.get(said.size() - 1).startsWith("done "));
-        expect(List.of("removed 2.0", "kept 3.0", "kept 4.0", "done 2"), said);
-        List<String> told = server.watch("{'key':'" + b64("job") + "','start_revision':'2'}");
-        expect(2, told.size());
-        expect(true, told.get(1).contains("\"canceled\":true") && told.get(1).contains("\"compact_revision\":\"4\""));
-        server.end(4);
     }
 
     public static void main(String[] words) throws Exception {

@@ -9,9 +9,10 @@ const b64 = (text) => Buffer.from(text).toString('base64');
 
 // A server of a test's own, whose clock, leases and trimming go by lines (`serve --control`).
 class Server {
-  static async start() {
+  static async start(context) {
     const server = new Server();
     server.process = spawn(process.env.ETCD_ONE ?? './etcd_one', ['serve', '--listen', '127.0.0.1:0', '--control']);
+    context.after(() => server.process.kill());
     for await (const line of createInterface({ input: server.process.stderr })) {
       if (line.startsWith('listening on ')) {
         server.address = line.slice('listening on '.length);
@@ -56,8 +57,8 @@ class Server {
   }
 }
 
-test('a lease of ten seconds ends at once', async () => {
-  const server = await Server.start();
+test('a lease of ten seconds ends at once', async (context) => {
+  const server = await Server.start(context);
   assert.equal(await server.order('AT 1000'), 'at 1000');
   await server.ask('lease/grant', { TTL: '10', ID: '7' });
   await server.ask('kv/put', { key: b64('lock'), value: b64('mine'), lease: '7' });
@@ -70,8 +71,8 @@ test('a lease of ten seconds ends at once', async () => {
   await server.end(3);
 });
 
-test('a compaction cancels a watcher that is too late', async () => {
-  const server = await Server.start();
+test('a compaction cancels a watcher that is too late', async (context) => {
+  const server = await Server.start(context);
   for (const value of ['one', 'two', 'three']) await server.ask('kv/put', { key: b64('job'), value: b64(value) });
   await server.ask('kv/compaction', { revision: '4' });
   const said = [];
