@@ -9,17 +9,17 @@ use std::{io, time};
 
 /// What whoever controls a server does next.
 #[derive(Clone, Copy)]
-pub(crate) enum Step {
+pub(crate) enum Step<'t> {
     /// A line for the server. It comes once the one before it was answered.
-    Line(&'static [u8]),
+    Line(&'t [u8]),
     /// A request on a connection that is kept open, and what is told at first.
-    Asks(&'static [u8], &'static [u8]),
+    Asks(&'t [u8], &'t [u8]),
 }
 
 /// A lease of ten seconds with a key, which ends when the clock is told so; and a compaction at the
 /// deletion of its key. At the end five connections are open: four between two requests, and one of a
 /// watch that is told nothing.
-pub(crate) const STEPS: [Step; 16] = [
+pub(crate) const STEPS: [Step<'static>; 16] = [
     Step::Line(b"AT 1000\n"),
     Step::Asks(
         b"POST /v3/lease/grant HTTP/1.1\r\nHost: t\r\nContent-Length: 21\r\n\r\n\
@@ -79,7 +79,7 @@ pub(crate) const REPLIES: &[u8] = b"at 1000\nat 10999\nnothing\nat 11000\nexpire
 struct Hand<'x, R> {
     rt: &'x R,
     address: SocketAddr,
-    steps: &'x [Step],
+    steps: &'x [Step<'x>],
     open: Vec<TcpStream>,
     is_told_so: bool,
 }
@@ -137,7 +137,7 @@ pub(crate) struct Ran {
 }
 
 /// Runs a server by hand, with a gate of its own.
-pub(crate) fn run<G, R>(rt: &R, steps: &[Step], gate: &G) -> Result<Ran, Fail>
+pub(crate) fn run<G, R>(rt: &R, steps: &[Step<'_>], gate: &G) -> Result<Ran, Fail>
 where
     G: Gate + Sync,
     R: Net<Listener = TcpListener, Stream = TcpStream>
