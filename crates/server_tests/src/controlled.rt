@@ -9,17 +9,17 @@ use std::{io, time};
 
 /// What whoever controls a server does next.
 #[derive(Clone, Copy)]
-pub(crate) enum Step<'t> {
+enum Step {
     /// A line for the server. It comes once the one before it was answered.
-    Line(&'t [u8]),
+    Line(&'static [u8]),
     /// A request on a connection that is kept open, and what is told at first.
-    Asks(&'t [u8], &'t [u8]),
+    Asks(&'static [u8], &'static [u8]),
 }
 
 /// A lease of ten seconds with a key, which ends when the clock is told so; and a compaction at the
 /// deletion of its key. At the end five connections are open: four between two requests, and one of a
 /// watch that is told nothing.
-pub(crate) const STEPS: [Step<'static>; 16] = [
+const STEPS: [Step; 16] = [
     Step::Line(b"AT 1000\n"),
     Step::Asks(
         b"POST /v3/lease/grant HTTP/1.1\r\nHost: t\r\nContent-Length: 21\r\n\r\n\
@@ -79,7 +79,7 @@ pub(crate) const REPLIES: &[u8] = b"at 1000\nat 10999\nnothing\nat 11000\nexpire
 struct Hand<'x, R> {
     rt: &'x R,
     address: SocketAddr,
-    steps: &'x [Step<'x>],
+    steps: &'x [Step],
     open: Vec<TcpStream>,
     is_told_so: bool,
 }
@@ -136,8 +136,8 @@ pub(crate) struct Ran {
     open: Vec<TcpStream>,
 }
 
-/// Runs a server by hand, with a gate of its own.
-pub(crate) fn run<G, R>(rt: &R, steps: &[Step<'_>], gate: &G) -> Result<Ran, Fail>
+/// Runs a server by hand, step by step, with a gate of its own.
+pub(crate) fn run<G, R>(rt: &R, gate: &G) -> Result<Ran, Fail>
 where
     G: Gate + Sync,
     R: Net<Listener = TcpListener, Stream = TcpStream>
@@ -152,7 +152,7 @@ where
     let mut hand = Hand {
         rt,
         address: listener.local_addr()?,
-        steps,
+        steps: &STEPS,
         open: Vec::new(alloc),
         is_told_so: true,
     };
@@ -186,7 +186,7 @@ where
 /// connections are open, and closes them.
 #[test]
 fn lines_control_a_server(rt: HostRuntime) -> Result<(), Fail> {
-    let ran = run(&rt, &STEPS, &OpenGate)?;
+    let ran = run(&rt, &OpenGate)?;
     assert!(rt; ran.is_ended);
     assert!(rt; ran.said.as_slice() == REPLIES);
     assert!(rt; ran.is_told_so);

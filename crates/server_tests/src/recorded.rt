@@ -1,6 +1,6 @@
 //! A server whose events are written down: their lines, and what it does where these cannot be
 //! written.
-use crate::controlled::{REPLIES, STEPS, run};
+use crate::controlled::{REPLIES, run};
 use command_line::{Recording, Tells};
 use commands::{Fault, replay};
 use std::io::{ErrorKind, Write};
@@ -80,7 +80,7 @@ where
         + Sync,
 {
     let gate = Recording::new(rt, rt.alloc(), out, tells);
-    let ran = run(rt, &STEPS, &gate)?;
+    let ran = run(rt, &gate)?;
     Ok(ran.is_ended && ran.is_told_so && ran.said.as_slice() == REPLIES)
 }
 
