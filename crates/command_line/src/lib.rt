@@ -19,7 +19,9 @@
 //! range, or that there is no address.
 //!
 //! The words of `replay` and `check` are read by `filters`. What a server does is told by
-//! `http_front`.
+//! `http_front`. [`serve_on`] runs one by itself, [`serve_controlled`] one that lines on an input
+//! direct, and a [`Recording`] is the gate by which [`serve_by`] and `serve_controlled` have the
+//! events of one written down.
 //!
 //! The tests stand in the crate `server_tests`, in `src/streams.rt` and `src/serving.rt`.
 #![tactic(auto)]

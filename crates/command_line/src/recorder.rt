@@ -1,4 +1,7 @@
 //! `serve --record`: the events of a server, put into a file as the lines of a script.
+ghost use Rattle.std.specs.Prelude.{◌≡◌, true, OnOk, OnErr};
+ghost use Rattle.std.specs.Io.KnownBytes.{Appends};
+ghost use Rattle.commands.specs.Writes.{AppendsFront};
 
 use commands::{Fault, write_bytes};
 use http_front::{Gate, Record};
@@ -68,8 +71,16 @@ impl<'x, R: Wait, W: Write, T: Tells> Recording<'x, R, W, T> {
 }
 
 impl<W: Write> Writing<W> {
-    /// Writes the lines that are next. Fails where a write fails, and where they are not all.
-    fn write(&mut self, is_all: bool) -> io::Result<()> {
+    /// Writes the lines that are next. Fails where a write fails, and where they are not all: a front
+    /// of them was written then.
+    fn write(&mut self, is_all: bool) -> io::Result<()>
+        ensures written { OnOk result (Appends (W.contents self.old.out)
+            (W.contents self.new.out) self.old.text.items) }
+        ensures cut { OnErr result (AppendsFront (W.contents self.old.out)
+            (W.contents self.new.out) self.old.text.items) }
+        ensures all { OnOk result (is_all ≡ true) }
+        ensures text { self.new.text ≡ self.old.text }
+    {
         write_bytes(&mut self.out, self.text.as_slice())?;
         if is_all {
             Ok(())

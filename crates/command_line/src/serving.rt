@@ -75,7 +75,8 @@ pub fn serve_on<R: Wait + Threads + time::Clock + Sync, W: Write>(
     serve_by(rt, alloc, listener, args, &OpenGate, w)
 }
 
-/// The same, by a gate: where that has a record, the events of the server are written down.
+/// The same, by a gate: where that has a record, the events of the server are written down. Fails as
+/// [`serve_on`] does.
 pub fn serve_by<G, R, W: Write>(
     rt: &R,
     alloc: Global,

@@ -15,7 +15,7 @@
 //! into a file, as a script that `replay` answers as the server did.
 //!
 //! What each command does over any reader and writer is told, and proved, in the crates below:
-//! [`arguments`] and [`serve_by`], the words of the command line and the server that they ask for,
+//! [`arguments`] and [`serve_on`], the words of the command line and the server that they ask for,
 //! in `command_line`, [`replay`] and [`check`] in `commands`. Here stand the program's words, its
 //! standard input and output, and its exit status.
 //!
@@ -25,7 +25,7 @@
 
 pub use command_line::{
     Advice, Args, Gate, OpenGate, Recording, Serve, Tells, advise, arguments, serve_by,
-    serve_controlled,
+    serve_controlled, serve_on,
 };
 use commands::fault_of_words;
 pub use commands::{Fault, Verdict, check, replay};
@@ -120,7 +120,7 @@ fn replay_all<R: Runtime + AllocGlobal>(rt: &R) -> Result<(), Fault> {
 }
 
 /// Listens, and serves; where that is asked for, with the server's events put into a file, which is
-/// made anew.
+/// made anew, and with lines on standard input that direct it.
 fn serve_all<
     R: Runtime
         + Files<File = File>
@@ -131,18 +131,40 @@ fn serve_all<
         + Sync,
 >(rt: &R, serve: &Serve<'_>) -> Result<(), Fault> {
     let listener = TcpListener::bind(rt, serve.listen).map_err(Fault::Address)?;
-    match serve.recording {
-        Some(path) => {
-            let file = File::create(rt, path).map_err(Fault::Record)?;
-            let gate = Recording::new(rt, rt.alloc(), file, Telling { rt });
-            serve_by_gate(rt, serve, &listener, &gate)
+    let Some(path) = serve.recording else {
+        tell_address(rt, &listener);
+        if serve.control {
+            return serve_lines(rt, serve, &listener, &OpenGate);
         }
-        None => serve_by_gate(rt, serve, &listener, &OpenGate),
+        let args = Args::Serve(*serve);
+        return serve_on(rt, rt.alloc(), &listener, &args, &mut io::writer(rt));
+    };
+    let file = File::create(rt, path).map_err(Fault::Record)?;
+    let gate = Recording::new(rt, rt.alloc(), file, Telling { rt });
+    tell_address(rt, &listener);
+    if serve.control {
+        return serve_lines(rt, serve, &listener, &gate);
+    }
+    let args = Args::Serve(*serve);
+    serve_by(
+        rt,
+        rt.alloc(),
+        &listener,
+        &args,
+        &gate,
+        &mut io::writer(rt),
+    )
+}
+
+/// Says on standard error where a server listens.
+fn tell_address<R: Runtime>(rt: &R, listener: &TcpListener) {
+    if let Ok(address) = listener.local_addr() {
+        let _ = eprintln!(rt; "listening on {address}");
     }
 }
 
-/// Says on standard error where a server listens, and runs it.
-fn serve_by_gate<
+/// Runs a server that lines on standard input direct, by a gate.
+fn serve_lines<
     G: Gate + Sync,
     R: Runtime
         + AllocGlobal
@@ -151,24 +173,18 @@ fn serve_by_gate<
         + Wait
         + Sync,
 >(rt: &R, serve: &Serve<'_>, listener: &TcpListener, gate: &G) -> Result<(), Fault> {
-    if let Ok(address) = listener.local_addr() {
-        let _ = eprintln!(rt; "listening on {address}");
-    }
     let args = Args::Serve(*serve);
+    let mut reader = rt.reader();
     let mut writer = io::writer(rt);
-    if serve.control {
-        let mut reader = rt.reader();
-        return serve_controlled(
-            rt,
-            rt.alloc(),
-            listener,
-            &args,
-            gate,
-            &mut reader,
-            &mut writer,
-        );
-    }
-    serve_by(rt, rt.alloc(), listener, &args, gate, &mut writer)
+    serve_controlled(
+        rt,
+        rt.alloc(),
+        listener,
+        &args,
+        gate,
+        &mut reader,
+        &mut writer,
+    )
 }
 
 /// Tells on standard error where a recording ends before its server does.

@@ -10,10 +10,10 @@ use Rattle.std.specs.contracts.net.TcpListener as TcpListener
 use Rattle.std.proofs.sync.Mutex.TheSendSync as mutex
 use Rattle.std.proofs.sync.atomic.AtomicBool.TheSendSync as flag
 use Rattle.engine_lock.proofs.Crossing.{client_send, engine_sync}
-use Rattle.http_front.specs.contracts.door.Door as Door
+use Rattle.http_peer.specs.contracts.door.Door as Door
 use Rattle.http_front.specs.contracts.shared.Shared as Shared
 use Rattle.http_front.specs.contracts.workers.Worked as Worked
-use Rattle.http_front.proofs.door.Door.TheSendSync as door
+use Rattle.http_peer.proofs.door.Door.TheSendSync as door
 
 pub shared_sync : (a : NamedLft) (T G C : RattleType) (n : names.Ghosts T.Denot) (g : ledger.Ghosts T.Denot) → IsSync G → IsSync C
     → IsSync (Shared.the_row a T G C n g)

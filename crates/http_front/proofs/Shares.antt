@@ -8,7 +8,7 @@ use Rattle.json_gateway.specs.declared.outcome.Settled.{Settled}
 use Rattle.engine_lock.specs.Locked.{Caller}
 use Rattle.http_loop.specs.declared.answering.Told.{Told}
 use Rattle.http_loop.specs.declared.answering.Told.TheVariants as told
-use Rattle.http_loop.specs.Answered.{AreMessages, Conn, IsAnswered, IsStream, IsTold, streamed}
+use Rattle.http_loop.specs.Answered.{AreMessages, Conn, IsAnswered, IsStream, IsStreamOf, IsTold, streamed}
 use Rattle.http_loop.specs.Turned.{NotBegun, Serves}
 use Rattle.kv_model.specs.declared.call.Command.{Command}
 use Rattle.engine_lock.specs.declared.engine.Submitted.{Submitted}
@@ -76,9 +76,9 @@ messages ids n _ s _ out r (AreMessages.spent sent) = refl
 
 streams : (ids : Ids) (n : ℕ) (created : List ℕ) (s t : Caller) (out : List ℕ) (r : Result Bool Front) → IsStream Caller (Tells ids) n created s out t r
     → t.made ≡ s.made
-streams ids n created s _ out _ (IsStream.headless sent) = refl
-streams ids n created s _ _ _ (IsStream.uncreated out sent) = refl
-streams ids n created s t _ r (IsStream.whole {out} later) = messages ids n _ s t out r later
+streams ids n created s _ out _ (IsStreamOf.headless sent) = refl
+streams ids n created s _ _ _ (IsStreamOf.uncreated out sent) = refl
+streams ids n created s t _ r (IsStreamOf.whole {out} later) = messages ids n _ s t out r later
 
 is_told : (ids : Ids) (w : Option ℕ) (x : Settled) (close : Bool) (s t : Caller) (out : List ℕ) (r : Result Bool Front)
     → IsTold Caller (Tells ids) w x close s out t r → t.made ≡ s.made

@@ -4,14 +4,15 @@ use Rattle.trim_core.specs.declared.trimmer.Trim.{Trim}
 use Rattle.json_gateway.specs.declared.outcome.Outcome.{Outcome}
 use Rattle.engine_lock.specs.Locked.{Caller, TrimsFor, left, plus}
 use Rattle.engine_lock.specs.declared.past.Given.TheVariants as given
-use Rattle.http_front.specs.Ends.{IsDone}
+use Rattle.trim_core.specs.Told.{told_of}
+use Rattle.json_gateway.specs.Endings.{is_done}
 use Rattle.engine_lock.specs.declared.engine.Submitted.{Submitted}
 use Rattle.http_front.specs.Engines.{AreTrimmed, Awaits, lost_answer}
 
 -- the last step, which says that trimming is done
-pub done_last : (n : ℕ) (c c' : Caller) (t k : Trim) → TrimsFor c.made t → t ≡ k → IsDone k → c' ≡ plus (left c) (given.Trimmed t)
+pub done_last : (n : ℕ) (c c' : Caller) (t k : Trim) → TrimsFor c.made t → t ≡ k → is_done (told_of k) ≡ true → c' ≡ plus (left c) (given.Trimmed t)
     → AreTrimmed n true c c'
-done_last n c c' t k h e d is = subst (λ (x : Caller). AreTrimmed n true c x) (sym is) (AreTrimmed.last t h (subst IsDone (sym e) d))
+done_last n c c' t k h e d is = subst (λ (x : Caller). AreTrimmed n true c x) (sym is) (AreTrimmed.last t h (subst (λ (x : Trim). is_done (told_of x) ≡ true) (sym e) d))
 
 -- a step before others
 pub others : (n : ℕ) (b : Bool) (c c' : Caller) (t : Trim) → TrimsFor c.made t → c' ≡ plus (left c) (given.Trimmed t) → (d : Caller)

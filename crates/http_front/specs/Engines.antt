@@ -17,6 +17,7 @@ use Rattle.kv_model.specs.Requests.{request_of}
 use Rattle.kv_model.specs.Told as model
 use Rattle.store_laws.specs.Snapshots.{Untrimmed, untrimmed_of}
 use Rattle.trim_core.specs.declared.trimmer.Trim.{Trim}
+use Rattle.trim_core.specs.Told.{told_of}
 use Rattle.range_view.specs.declared.reply.RangeReply.{RangeReply}
 use Rattle.range_view.specs.Replies.{reply_view}
 use Rattle.gateway_read.specs.declared.bad.Bad.{Bad}
@@ -26,7 +27,7 @@ use Rattle.json_gateway.specs.declared.outcome.Message.TheVariants as message
 use Rattle.json_gateway.specs.declared.outcome.Outcome.{Outcome}
 use Rattle.json_gateway.specs.declared.outcome.Settled.{Settled}
 use Rattle.json_gateway.specs.declared.outcome.Settled.TheVariants as settled
-use Rattle.json_gateway.specs.Endings.{Refuses, fault_of_reading, is_want}
+use Rattle.json_gateway.specs.Endings.{Refuses, fault_of_reading, is_done, is_want}
 use Rattle.json_gateway.specs.Outcomes.{response_of}
 use Rattle.engine_lock.specs.Locked.{Caller, knowing, left, plus, rise, with_done}
 use Rattle.engine_lock.specs.Locked as lock
@@ -35,14 +36,13 @@ use Rattle.engine_lock.specs.declared.past.Given.TheVariants as given
 use Rattle.http_loop.specs.declared.answering.Told.{Told}
 use Rattle.http_loop.specs.declared.answering.Told.TheVariants as told
 use Rattle.http_loop.specs.Connections.{path_asked}
-use Rattle.http_front.specs.Ends.{IsDone}
 
 -- ---- trimming, for an answer that waits for it
 
 -- Trimming steps were made for a client, of which the last so many were refused for want of memory. They end with one
 -- that says that trimming is done; or it was given up, after 1,000 refusals in a row.
 pub data AreTrimmed : ℕ → Bool → Caller → Caller → Type 0 where
-  last : {n : ℕ} {c : Caller} (t : Trim) → lock.TrimsFor c.made t → IsDone t
+  last : {n : ℕ} {c : Caller} (t : Trim) → lock.TrimsFor c.made t → is_done (told_of t) ≡ true
       → AreTrimmed n true c (plus (left c) (given.Trimmed t))
   more : {n : ℕ} {b : Bool} {c c' : Caller} (t : Trim) → lock.TrimsFor c.made t
       → AreTrimmed 0 b (plus (left c) (given.Trimmed t)) c' → AreTrimmed n b c c'

@@ -1,10 +1,11 @@
 //! What goes on beside the connections: trimming, and leases that end.
-ghost use Rattle.std.specs.Prelude.{◌≤◌, IfOk, IfSome};
+ghost use Rattle.std.specs.Prelude.{◌≡◌, ◌≤◌, true, IfOk, IfSome};
+ghost use Rattle.trim_core.specs.Told.{told_of};
+ghost use Rattle.json_gateway.specs.Endings.{is_done};
 ghost use Rattle.engine_lock.specs.Locked.{Trims};
-ghost use Rattle.http_front.specs.Ends.{IsDone};
 
-use crate::gate::{Clock, Gate};
-use crate::recorded::Recorded;
+use http_peer::{Clock, Gate};
+use recorded_engine::Recorded;
 use crate::shared::Shared;
 use engine_lock::{Client, EngineName};
 use json_gateway::{Expiry, Refusal, Trim};
@@ -41,7 +42,8 @@ pub(crate) fn keep_trimming<L: EngineName, G: Gate, C, R: Wait + time::Clock>(
 fn make_trim_step<L: EngineName, G: Gate, R: Wait>(
     events: &Recorded<'_, L, G, R>,
 ) -> Option<Result<Trim, Refusal>>
-    ensures { IfSome result (λ step. IfOk step (λ trim. Trims trim × IsDone trim)) }
+    ensures { IfSome result (λ step. IfOk step
+        (λ trim. Trims trim × (is_done (told_of trim) ≡ true))) }
 {
     match events.trim() {
         Ok(trim) => match trim {

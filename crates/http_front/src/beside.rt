@@ -8,8 +8,8 @@ ghost use Rattle.engine_lock.specs.Locked.{left};
 ghost use Rattle.http_front.specs.Engines.{Begins, CatchesUp, IsAnswer, Looks, LooksUp, Reads, SettlesAs};
 ghost use Rattle.http_front.specs.Engines.{Starts, Stays, response_over};
 
-use crate::gate::Gate;
-use crate::recorded::Recorded;
+use http_peer::Gate;
+use recorded_engine::Recorded;
 use engine_lock::{Client, EngineName};
 use json_gateway::{Ids, Outcome, Refusal, Reply, Settled, declined, range_text};
 use kv_model::call::{Command, RangeQuery};

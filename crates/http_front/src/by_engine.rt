@@ -5,12 +5,12 @@ ghost use Rattle.http_front.specs.Engines as engines;
 ghost use Rattle.http_front.specs.Engines.{AreTrimmed, Awaits, Does, Looks, Submits, lost_answer};
 
 use crate::beside::looked;
-use crate::gate::{Clock, Gate};
-use crate::recorded::Recorded;
+use http_peer::{Clock, Gate};
+use recorded_engine::Recorded;
 use engine_lock::{Client, EngineName, Submitted};
 use http_input::Request;
 use http_loop::{Answering, Told, command_path};
-use json_gateway::{Bad, Message, Outcome, Settled, Trim, dismissed, read};
+use json_gateway::{Bad, Message, Outcome, Settled, Trim, WireEvent, dismissed, read};
 use kv_model::call::Command;
 use std::alloc::Global;
 use std::sync::Wait;
@@ -52,10 +52,13 @@ where
     /// Does the command that a request asks for, once the gate lets it, at the clock's moment.
     fn answer(&self, alloc: Global, state: &mut Client<L>, request: &Request<'_>) -> Outcome {
         self.events.gate.before(self.call);
-        match read(alloc, command_path(request), request.body) {
+        let path = command_path(request);
+        match read(alloc, path, request.body) {
             Ok(command) => {
                 let now = self.clock.now();
-                done(&self.events, alloc, state, now, &command, request)
+                let body = request.body;
+                let event = WireEvent::Post { path, body };
+                done(&self.events, alloc, state, now, &command, &event)
             }
             Err(bad) => refused(alloc, bad),
         }
@@ -108,7 +111,7 @@ fn done<L: EngineName, G: Gate, R: Wait>(
     client: &mut Client<L>,
     now: u64,
     command: &Command,
-    request: &Request<'_>,
+    event: &WireEvent<'_>,
 ) -> Outcome
     ensures { Submits events.now.engine.now client.old command.now result client.new
         ⊎ Looks events.now.engine.now client.old command.now result client.new }
@@ -116,7 +119,7 @@ fn done<L: EngineName, G: Gate, R: Wait>(
     if let Some(outcome) = looked(events, alloc, client, now, command) {
         return outcome;
     }
-    performed(events, client, now, command, request)
+    performed(events, client, now, command, event)
 }
 
 /// Submits a command, and does the trimming that its answer waits for.
@@ -125,11 +128,11 @@ fn performed<L: EngineName, G: Gate, R: Wait>(
     client: &mut Client<L>,
     now: u64,
     command: &Command,
-    request: &Request<'_>,
+    event: &WireEvent<'_>,
 ) -> Outcome
     ensures { Does events.now.engine.now client.old command.now result client.new }
 {
-    let submitted = events.submit(client, now, command, request);
+    let submitted = events.submit(client, now, command, event);
     awaited(events, client, submitted)
 }
 

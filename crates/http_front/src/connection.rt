@@ -4,14 +4,14 @@ ghost use Rattle.http_input.specs.Inputs.{failures_after_read};
 ghost use Rattle.http_reply.specs.Counts.{failures_of, inner_of};
 ghost use Rattle.http_reply.specs.Sends.{failures_after};
 ghost use Rattle.http_loop.specs.Answered.{IsAnswered};
+ghost use Rattle.http_loop.specs.Texts.{IsOfConnection};
 ghost use Rattle.http_loop.specs.Turned.{NotBegun, Serves};
 ghost use Rattle.engine_lock.specs.Locked.{Caller};
-ghost use Rattle.http_front.specs.Ends.{IsOfConnection};
 ghost use Rattle.http_front.specs.Engines.{Answers, Finishes, Tells};
 
 use crate::by_engine::ByEngine;
-use crate::gate::{Clock, Gate};
-use crate::recorded::Recorded;
+use http_peer::{Clock, Gate};
+use recorded_engine::Recorded;
 use engine_lock::{Client, Engine, EngineName};
 use http_loop::serve_all;
 use http_reply::{Counted, Front};

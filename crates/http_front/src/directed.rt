@@ -3,7 +3,7 @@ ghost use Rattle.std.specs.Prelude.{IfOk, IfErr};
 ghost use Rattle.engine_lock.specs.Fits.{IsStanding};
 ghost use Rattle.http_front.specs.Ends.{IsOfServer};
 
-use crate::gate::{Clock, Gate};
+use http_peer::{Clock, Gate};
 use crate::shared::Shared;
 use crate::threads::{Served, clients_of, closed, join_all, start_all, with_client};
 use engine_lock::{Client, Engine, EngineName};

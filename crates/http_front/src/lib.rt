@@ -13,7 +13,7 @@
 //!
 //! A [`Gate`] holds requests back for tests, is told where a request is waited for, and knows
 //! whether a client has left; a [`Clock`] tells the moments by which leases end. The gate and the
-//! reader that `pool` hands in look at the peer (`peer.rt`), so that no client keeps a worker for
+//! reader that `pool` hands in look at the peer (`http_peer`), so that no client keeps a worker for
 //! nothing.
 //!
 //! [`pool_directed`] serves without the two threads beside the connections, until somebody ends it
@@ -33,22 +33,17 @@ mod beside;
 mod by_engine;
 mod connection;
 mod directed;
-mod door;
-pub mod gate;
-mod peer;
-mod recorded;
 mod shared;
 mod threads;
 mod workers;
 
 pub use connection::work;
 pub use directed::{Directing, Limits, pool_directed};
-pub use door::MOST_CONNECTIONS;
-pub use gate::{Clock, Gate, OpenGate};
 pub use http_head::Head;
 pub use http_input::{Input, Request, next_request};
 pub use http_loop::serve_alone;
+pub use http_peer::{Clock, Gate, MOST_CONNECTIONS, OpenGate};
 pub use http_reply::{Counted, Front, ReplyBuffer, write_chunk, write_reply};
-pub use recorded::Recorded;
+pub use recorded_engine::Recorded;
 pub use recording::Record;
 pub use threads::pool;

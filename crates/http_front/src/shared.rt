@@ -1,8 +1,8 @@
 //! What the threads of a server share.
 ghost use Rattle.std.specs.Prelude.{◌≡◌};
 
-use crate::door::Door;
-use crate::recorded::Recorded;
+use http_peer::Door;
+use recorded_engine::Recorded;
 use engine_lock::{Engine, EngineName};
 use std::net::TcpListener;
 use std::sync::Mutex;

@@ -1,8 +1,8 @@
 //! A worker: one connection after the other, each to its end.
 
 use crate::connection::work;
-use crate::gate::{Clock, Gate};
-use crate::peer::{Coming, Going, Peer, PeerGate};
+use http_peer::{Clock, Gate};
+use http_peer::{Coming, Going, Peer, PeerGate};
 use crate::shared::Shared;
 use engine_lock::{Client, EngineName};
 use http_reply::Counted;

@@ -5,7 +5,7 @@ use Rattle.http_reply.specs.declared.front.Front.TheVariants as front
 use Rattle.http_reply.specs.Replies.{chunk, last_chunk, stream_head}
 use Rattle.http_loop.specs.declared.answering.Told.{Told}
 use Rattle.http_loop.specs.declared.answering.Told.TheVariants as told
-use Rattle.http_loop.specs.Answered.{AreMessages, IsStream, most_messages}
+use Rattle.http_loop.specs.Answered.{AreMessages, IsStream, IsStreamOf, most_messages}
 use Rattle.http_loop.specs.Texts.{Grows, IsSent, Writes}
 use Rattle.http_loop.proofs.Texts.{by_both, by_none, seen_as}
 
@@ -59,20 +59,20 @@ module _ (S : Type 0) (Tells : S → ℕ → Told → S → Type 0) (n : ℕ) (s
 
 module _ (S : Type 0) (Tells : S → ℕ → Told → S → Type 0) (n : ℕ) (created : List ℕ) (s : S) where
   pub head_cut : (c c' : Option (List ℕ)) (f : Front) → Writes true stream_head c c' (Err f) → Grows c c' (λ out. IsStream S Tells n created s out s (Err f))
-  head_cut c c' f = seen_as c c' (λ out. IsSent true stream_head out (Err f)) (λ out. IsStream S Tells n created s out s (Err f)) (λ x h. IsStream.headless h)
+  head_cut c c' f = seen_as c c' (λ out. IsSent true stream_head out (Err f)) (λ out. IsStream S Tells n created s out s (Err f)) (λ x h. IsStreamOf.headless h)
 
   module _ (a b : Option (List ℕ)) (x : Bool) (w : Writes true stream_head a b (Ok x)) where
     pub created_cut : (c : Option (List ℕ)) (f : Front) → Writes true (chunk created) b c (Err f) → Grows a c (λ out. IsStream S Tells n created s out s (Err f))
     created_cut c f = by_both a b c (λ out. IsSent true stream_head out (Ok x)) (λ out. IsSent true (chunk created) out (Err f))
         (λ out. IsStream S Tells n created s out s (Err f))
-        (λ y z p q. subst (λ (y : List ℕ). IsStream S Tells n created s (y ++ z) s (Err f)) (sym p.1) (IsStream.uncreated z q)) w
+        (λ y z p q. subst (λ (y : List ℕ). IsStream S Tells n created s (y ++ z) s (Err f)) (sym p.1) (IsStreamOf.uncreated z q)) w
 
     pub streamed_whole : (c d : Option (List ℕ)) (t : S) (y : Bool) (r : Result Bool Front) → Writes true (chunk created) b c (Ok y)
         → Grows c d (λ out. AreMessages S Tells n most_messages s out t r) → Grows a d (λ out. IsStream S Tells n created s out t r)
     streamed_whole c d t y r v m = by_both a b d (λ out. IsSent true stream_head out (Ok x))
         (λ out. (z : List ℕ) × (out ≡ chunk created ++ z) × AreMessages S Tells n most_messages s z t r) (λ out. IsStream S Tells n created s out t r)
         (λ p q h k. subst (λ (p : List ℕ). IsStream S Tells n created s (p ++ q) t r) (sym h.1)
-        (subst (λ (q : List ℕ). IsStream S Tells n created s (stream_head ++ q) t r) (sym k.1) (IsStream.whole k.2))) w
+        (subst (λ (q : List ℕ). IsStream S Tells n created s (stream_head ++ q) t r) (sym k.1) (IsStreamOf.whole k.2))) w
         (by_both b c d (λ out. IsSent true (chunk created) out (Ok y)) (λ out. AreMessages S Tells n most_messages s out t r)
         (λ out. (z : List ℕ) × (out ≡ chunk created ++ z) × AreMessages S Tells n most_messages s z t r)
         (λ p q h k. (q, ap (λ (p : List ℕ). p ++ q) h.1, k)) v m)

@@ -9,7 +9,7 @@ use Rattle.http_loop.specs.declared.writing.Turn.{Turn}
 use Rattle.http_loop.specs.declared.writing.Turn.TheVariants as turn
 use Rattle.http_loop.specs.Answered.{Conn}
 use Rattle.http_loop.specs.Texts.{Grows, replies_more}
-use Rattle.http_loop.specs.Turned.{Begins, Ends, Gave, MayHave, MayHaveAfter, NotBegun, Serves, SoFar, Turned, Turns}
+use Rattle.http_loop.specs.Turned.{Begins, Ends, Gave, MayHaveAfter, NotBegun, Serves, SoFar, Turned, Turns}
 use Rattle.http_loop.proofs.Texts.{by_both, by_none, seen_as, wrote_none}
 
 -- ---- numbers of replies
@@ -29,6 +29,10 @@ abbrev rest_of : Option (List ℕ) → List ℕ
 rest_of None = []
 rest_of (Some xs) = xs
 
+-- behind a turn that others follow
+abbrev MayHave : Option (List ℕ) → List ℕ → Type 0
+MayHave a = MayHaveAfter a (Ok turn.More)
+
 may_rest : (a : Option (List ℕ)) → MayHave a (rest_of a)
 may_rest None = tt
 may_rest (Some xs) = refl
@@ -39,10 +43,6 @@ may_end None (Ok turn.More) = tt
 may_end None (Ok turn.Last) = refl
 may_end None (Ok turn.End) = refl
 may_end None (Err f) = refl
-
-may_after : (a : Option (List ℕ)) (later : List ℕ) → MayHave a later → MayHaveAfter a (Ok turn.More) later
-may_after None later m = tt
-may_after (Some xs) later m = m
 
 may_more : (a b : Option (List ℕ)) (came later : List ℕ) → Gave a came b → MayHave b later → MayHave a (came ++ later)
 may_more None b came later g m = tt
@@ -140,7 +140,7 @@ module _ (S : Type 0) (Is : S → Asked → List ℕ → S → Result Bool Front
                 (λ out. (later : List ℕ) → MayHave d later → Begins S Is s (p ++ ((f.came ++ k.came) ++ later)) (n + 1) (o ++ later) u out)
                 (λ x y h i later m. subst (λ (bytes : List ℕ). Begins S Is s (p ++ bytes) (n + 1) (o ++ later) u (x ++ y)) (sym (append_assoc f.came k.came later))
                 (begins_on s (p ++ (f.came ++ (k.came ++ later))) (q ++ (k.came ++ later)) n t x (h (k.came ++ later) (may_more b d k.came later k.gave m))
-                (o ++ later) u y (i later (may_after d later m)))) f.begun k.turned;
+                (o ++ later) u y (i later m))) f.begun k.turned;
           }
 
       -- a turn that ends it

@@ -15,10 +15,10 @@ use Rattle.json_gateway.specs.declared.outcome.Settled.TheVariants as settled
 use Rattle.json_gateway.specs.Outcomes.{IsBare, is_accepted}
 use Rattle.json_gateway.specs.Runs.{command_view, ending_view}
 use Rattle.json_gateway.specs.Steps.{Steps}
-use Rattle.http_loop.specs.Served.{Answers, Finishes, Leaves, ServesOf, Stands, Tells, ids_alone}
+use Rattle.http_loop.specs.Served.{Answers, Finishes, Leaves, Stands, Tells, ids_alone}
 use Rattle.http_loop.specs.Answered as any
 use Rattle.http_loop.specs.Answered.{IsTold, most_messages, streamed}
-use Rattle.http_loop.specs.Connections.{AreMessages, Conn, IsAnswered, IsOutcome, IsStream, Standing, dropped, event_of, path_asked, with_world}
+use Rattle.http_loop.specs.Connections.{AreMessages, IsAnswered, IsOutcome, Standing, dropped, event_of, path_asked, with_world}
 use Rattle.http_loop.specs.Turned as turns
 use Rattle.http_loop.specs.Turned.{NotBegun}
 use Rattle.http_loop.proofs.Rests as rests
@@ -61,12 +61,12 @@ messages n _ old _ out r (any.AreMessages.spent sent) s h l =
     record { after = s; stands = h; is = AreMessages.quiet (quiet_at ids_alone s.world n h.world.sound (omega (arith, l))) sent }
 
 streams : (n : ℕ) (created : List ℕ) (old new : CoreState) (out : List ℕ) (r : Result Bool Front) → any.IsStream CoreState Tells n created old out new r
-    → (s : Standing) → Stands old s → rests.rest s.world n ≤ most_messages → Leaves new (λ t. IsStream ids_alone n created s out t r)
-streams n created old _ out _ (any.IsStream.headless sent) s h l = record { after = s; stands = h; is = IsStream.headless sent }
-streams n created old _ _ _ (any.IsStream.uncreated out sent) s h l = record { after = s; stands = h; is = IsStream.uncreated out sent }
-streams n created old new _ r (any.IsStream.whole {out} later) s h l =
+    → (s : Standing) → Stands old s → rests.rest s.world n ≤ most_messages → Leaves new (λ t. any.IsStreamOf Standing (AreMessages ids_alone n) created s out t r)
+streams n created old _ out _ (any.IsStreamOf.headless sent) s h l = record { after = s; stands = h; is = any.IsStreamOf.headless sent }
+streams n created old _ _ _ (any.IsStreamOf.uncreated out sent) s h l = record { after = s; stands = h; is = any.IsStreamOf.uncreated out sent }
+streams n created old new _ r (any.IsStreamOf.whole {out} later) s h l =
     let m = messages n most_messages old new out r later s h l in
-    record { after = m.after; stands = m.stands; is = IsStream.whole m.is }
+    record { after = m.after; stands = m.stands; is = any.IsStreamOf.whole m.is }
 
 -- ---- a request
 
@@ -104,27 +104,30 @@ answered old new a out r d s h =
 
 conns : (old new : CoreState) (bytes : List ℕ) (limit : ℕ) (out : List ℕ) (r : Result ℕ Front)
     → any.Conn CoreState (any.IsAnswered CoreState Answers Tells Finishes) old bytes limit out new r → (s : Standing) → Stands old s
-    → Leaves new (λ t. Conn ids_alone s bytes limit out t r)
-conns old _ bytes _ _ _ any.Conn.at_limit s h = record { after = s; stands = h; is = Conn.at_limit }
-conns old _ _ _ _ _ (any.Conn.at_end l) s h = record { after = s; stands = h; is = Conn.at_end l }
-conns old _ bytes _ _ _ (any.Conn.within l x) s h = record { after = s; stands = h; is = Conn.within l x }
-conns old _ bytes _ out _ (any.Conn.unanswered l f r n x) s h = record { after = s; stands = h; is = Conn.unanswered l f r n x }
-conns old _ bytes _ _ _ (any.Conn.unread l) s h = record { after = s; stands = h; is = Conn.unread l }
-conns old _ bytes _ _ _ (any.Conn.unheld l x) s h = record { after = s; stands = h; is = Conn.unheld l x }
+    → Leaves new (λ t. any.Conn Standing (IsAnswered ids_alone) s bytes limit out t r)
+conns old _ bytes _ _ _ any.Conn.at_limit s h = record { after = s; stands = h; is = any.Conn.at_limit }
+conns old _ _ _ _ _ (any.Conn.at_end l) s h = record { after = s; stands = h; is = any.Conn.at_end l }
+conns old _ bytes _ _ _ (any.Conn.within l x) s h = record { after = s; stands = h; is = any.Conn.within l x }
+conns old _ bytes _ out _ (any.Conn.unanswered l f r n x) s h = record { after = s; stands = h; is = any.Conn.unanswered l f r n x }
+conns old _ bytes _ _ _ (any.Conn.unread l) s h = record { after = s; stands = h; is = any.Conn.unread l }
+conns old _ bytes _ _ _ (any.Conn.unheld l x) s h = record { after = s; stands = h; is = any.Conn.unheld l x }
 conns old new bytes _ _ _ (any.Conn.more {t} {rest} {text} {out} {r} l a x is later) s h =
     let d = answered old t a text (Ok false) is s h in
     let m = conns t new rest l out r later d.after d.stands in
-    record { after = m.after; stands = m.stands; is = Conn.more l a x d.is m.is }
+    record { after = m.after; stands = m.stands; is = any.Conn.more l a x d.is m.is }
 conns old new bytes _ out _ (any.Conn.closing l a left x is) s h =
-    let d = answered old new a out (Ok true) is s h in record { after = d.after; stands = d.stands; is = Conn.closing l a left x d.is }
+    let d = answered old new a out (Ok true) is s h in record { after = d.after; stands = d.stands; is = any.Conn.closing l a left x d.is }
 conns old new bytes _ out _ (any.Conn.broken {f} l a left x is) s h =
-    let d = answered old new a out (Err f) is s h in record { after = d.after; stands = d.stands; is = Conn.broken l a left x d.is }
+    let d = answered old new a out (Err f) is s h in record { after = d.after; stands = d.stands; is = any.Conn.broken l a left x d.is }
 
 pub serves : (left : Option (List ℕ)) (p : List ℕ) (limit : ℕ) (c c' : Option (List ℕ)) (old new : CoreState) (r : Result ℕ Front)
     → NotBegun old new c c' r ⊎ turns.Serves CoreState (any.IsAnswered CoreState Answers Tells Finishes) left p limit c c' old new r
-    → (s : Standing) → Stands old s → NotBegun old new c c' r ⊎ ServesOf ids_alone s left p limit c new c' r
+    → (s : Standing) → Stands old s
+    → NotBegun old new c c' r ⊎ Leaves new (λ t. turns.Serves Standing (IsAnswered ids_alone) left p limit c c' s t r)
 serves left p limit c c' old new r (inl none) s h = inl none
-serves None p limit c c' old new r (inr all) s h = inr tt
-serves (Some left) p limit c c' old new r (inr all) s h =
-    let m = conns old new (p ++ left) limit all.out r all.are s h in
-    inr (record { after = m.after; out = all.out; stands = m.stands; wrote = all.wrote; conn = m.is })
+serves None p limit c c' old new r (inr (came, g)) s h =
+    let m = conns old new (p ++ came) limit g.out r g.are s h in
+    inr (record { after = m.after; stands = m.stands; is = (came, record { out = g.out; wrote = g.wrote; are = m.is }) })
+serves (Some left) p limit c c' old new r (inr g) s h =
+    let m = conns old new (p ++ left) limit g.out r g.are s h in
+    inr (record { after = m.after; stands = m.stands; is = record { out = g.out; wrote = g.wrote; are = m.is } })

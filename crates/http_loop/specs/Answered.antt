@@ -39,15 +39,17 @@ pub data AreMessages (S : Type 0) (Tells : S → ℕ → Told → S → Type 0) 
   spent : {s : S} {out : List ℕ} {r : Result Bool Front} → IsSent true last_chunk out r
       → AreMessages S Tells n 0 s out s r
 
--- the stream of a watch: its head, its created message as the first chunk, and its messages
-pub data IsStream (S : Type 0) (Tells : S → ℕ → Told → S → Type 0) (n : ℕ) (created : List ℕ) (s : S)
+-- the stream of a watch, whose messages are these: its head, its created message as the first chunk, and the messages
+pub data IsStreamOf (S : Type 0) (Are : S → List ℕ → S → Result Bool Front → Type 0) (created : List ℕ) (s : S)
     : List ℕ → S → Result Bool Front → Type 0 where
-  headless : {out : List ℕ} {f : Front} → IsSent true stream_head out (Err f)
-      → IsStream S Tells n created s out s (Err f)
+  headless : {out : List ℕ} {f : Front} → IsSent true stream_head out (Err f) → IsStreamOf S Are created s out s (Err f)
   uncreated : (out : List ℕ) {f : Front} → IsSent true (chunk created) out (Err f)
-      → IsStream S Tells n created s (stream_head ++ out) s (Err f)
-  whole : {out : List ℕ} {t : S} {r : Result Bool Front} → AreMessages S Tells n most_messages s out t r
-      → IsStream S Tells n created s (stream_head ++ (chunk created ++ out)) t r
+      → IsStreamOf S Are created s (stream_head ++ out) s (Err f)
+  whole : {out : List ℕ} {t : S} {r : Result Bool Front} → Are s out t r
+      → IsStreamOf S Are created s (stream_head ++ (chunk created ++ out)) t r
+
+abbrev pub IsStream : (S : Type 0) → (S → ℕ → Told → S → Type 0) → ℕ → List ℕ → S → List ℕ → S → Result Bool Front → Type 0
+IsStream S Tells n = IsStreamOf S (AreMessages S Tells n most_messages)
 
 -- the watch whose messages answer a request: it was made, and its answer was not lost
 abbrev pub streamed : Settled → Option ℕ → Option ℕ

@@ -1,6 +1,6 @@
 -- What the requests of a connection are answered, over a world of the store and what is kept of it (RFC 9112).
-use Rattle.std.specs.Prelude.{◌≡◌, ℕ, ◌+◌, ◌≤◌, List, [], ◌++◌, length, Bool, true, false, if◌then◌else◌}
-use Rattle.std.specs.Prelude.{nat_eq, Option, None, Some, Result, Ok, Err, codes}
+use Rattle.std.specs.Prelude.{◌≡◌, ℕ, List, [], ◌++◌, Bool, true, if◌then◌else◌}
+use Rattle.std.specs.Prelude.{nat_eq, Option, None, Some, Result, Err, codes}
 use Rattle.std.specs.Cmp.Lexicographic.{pointwise}
 use Rattle.kv_model.specs.declared.ids.Ids.{Ids}
 use Rattle.kv_model.specs.declared.refusal.Refusal.TheVariants as refusal
@@ -11,12 +11,12 @@ use Rattle.kv_model.specs.Headline.{Keeping, Keeps}
 use Rattle.kv_model.specs.Watches.{deliver}
 use Rattle.kv_model.specs.Wire.{WireEvent, WireTold, WireOutcome, wire_step, is_free, takes_memory, MayLose, message_to}
 use Rattle.kv_model.specs.World.{World, without_watch}
-use Rattle.http_head.specs.Heads.{Fault, Names, window}
-use Rattle.http_head.specs.Requests.{Asked, IsCut, ReadsAsked, path_of}
+use Rattle.http_head.specs.Requests.{Asked, path_of}
 use Rattle.http_reply.specs.declared.front.Front.{Front}
 use Rattle.http_reply.specs.declared.front.Front.TheVariants as front
-use Rattle.http_loop.specs.Texts.{IsSent, end_of, front_of, replies_more}
-use Rattle.http_reply.specs.Replies.{chunk, last_chunk, refusal_bytes, reply_bytes, stream_head}
+use Rattle.http_reply.specs.Replies.{chunk, last_chunk, reply_bytes}
+use Rattle.http_loop.specs.Answered.{IsStreamOf}
+use Rattle.http_loop.specs.Texts.{IsSent}
 
 -- the whole history, and what is kept of it
 pub record Standing : Type 0 where
@@ -79,15 +79,6 @@ pub data AreMessages (ids : Ids) (n : ℕ) : Standing → List ℕ → Standing 
       → AreMessages ids n s out (with_world s (deliver s.world n).1) (Err f)
   untold : {s : Standing} → AreMessages ids n s [] s (Err front.Memory)
 
--- the stream of a watch: its head, its created message as the first chunk, and its messages
-pub data IsStream (ids : Ids) (n : ℕ) (created : List ℕ) (s : Standing) : List ℕ → Standing → Result Bool Front
-    → Type 0 where
-  headless : {out : List ℕ} {f : Front} → IsSent true stream_head out (Err f) → IsStream ids n created s out s (Err f)
-  uncreated : (out : List ℕ) {f : Front} → IsSent true (chunk created) out (Err f)
-      → IsStream ids n created s (stream_head ++ out) s (Err f)
-  whole : {out : List ℕ} {t : Standing} {r : Result Bool Front} → AreMessages ids n s out t r
-      → IsStream ids n created s (stream_head ++ (chunk created ++ out)) t r
-
 -- What is written for a request, what stands after it, and whether the connection ends with it, or why its reply was
 -- not written. No watch is left of it.
 pub data IsAnswered (ids : Ids) (s : Standing) (a : Asked) : List ℕ → Standing → Result Bool Front → Type 0 where
@@ -96,38 +87,4 @@ pub data IsAnswered (ids : Ids) (s : Standing) (a : Asked) : List ℕ → Standi
       → IsSent a.close (reply_bytes (response_of o) a.close) out r → IsAnswered ids s a out (dropped (watch_of o) t) r
   by_stream : {out : List ℕ} {t u : Standing} {r : Result Bool Front} (o : WireOutcome) (n : ℕ)
       → IsOutcome ids s a o t → streamed o ≡ Some n
-      → IsStream ids n (response_of o).body t out u r → IsAnswered ids s a out (dropped (Some n) u) r
-
--- ---- a connection
-
--- From what stands, these bytes and so many requests at most: what is written, what stands then, and the number of
--- replies, or why there are no more.
-pub data Conn (ids : Ids) : Standing → List ℕ → ℕ → List ℕ → Standing → Result ℕ Front → Type 0 where
-  -- no more requests are to be answered
-  at_limit : {s : Standing} {bytes : List ℕ} → Conn ids s bytes 0 [] s (Ok 0)
-  -- the input ends before a first byte
-  at_end : {s : Standing} (limit : ℕ) → Conn ids s [] (1 + limit) [] s (Ok 0)
-  -- the input ends within a request
-  within : {s : Standing} {bytes : List ℕ} (limit : ℕ) → IsCut bytes → Conn ids s bytes (1 + limit) [] s (Err front.End)
-  -- the bytes begin with no request that is answered
-  unanswered : {s : Standing} {bytes out : List ℕ} (limit : ℕ) (f : Fault) (r : Result Bool Front)
-      → Names f (window bytes)
-      → IsSent true (refusal_bytes (front_of f)) out r
-      → Conn ids s bytes (1 + limit) out s (Err (end_of (front_of f) r))
-  -- a read failed
-  unread : {s : Standing} {bytes : List ℕ} (limit : ℕ) → Conn ids s bytes (1 + limit) [] s (Err front.Read)
-  -- no memory was found for as many bytes as wait
-  unheld : {s : Standing} {bytes : List ℕ} (limit : ℕ) → 16384 ≤ length bytes
-      → Conn ids s bytes (1 + limit) [] s (Err front.Memory)
-  -- a request, and then the others
-  more : {s t u : Standing} {bytes rest text out : List ℕ} {r : Result ℕ Front} (limit : ℕ) (a : Asked)
-      → ReadsAsked bytes a rest
-      → IsAnswered ids s a text t (Ok false) → Conn ids t rest limit out u r
-      → Conn ids s bytes (1 + limit) (text ++ out) u (replies_more 1 r)
-  -- a request that closes the connection
-  closing : {s t : Standing} {bytes text : List ℕ} (limit : ℕ) (a : Asked) (rest : List ℕ) → ReadsAsked bytes a rest
-      → IsAnswered ids s a text t (Ok true) → Conn ids s bytes (1 + limit) text t (Ok 1)
-  -- a request that was done, and whose reply was not written to its end
-  broken : {s t : Standing} {bytes text : List ℕ} {f : Front} (limit : ℕ) (a : Asked) (rest : List ℕ)
-      → ReadsAsked bytes a rest
-      → IsAnswered ids s a text t (Err f) → Conn ids s bytes (1 + limit) text t (Err f)
+      → IsStreamOf Standing (AreMessages ids n) (response_of o).body t out u r → IsAnswered ids s a out (dropped (Some n) u) r

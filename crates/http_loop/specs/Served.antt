@@ -1,40 +1,22 @@
 -- What serving a connection does, where a core by itself answers it.
-use Rattle.std.specs.Prelude.{◌≡◌, ◌<◌, ℕ, ◌^◌, List, ◌++◌, Option, None, Some, Result, ⊤}
-use Rattle.std.specs.Io.KnownBytes.{Appends}
+use Rattle.std.specs.Prelude.{◌≡◌, ◌<◌, ℕ, ◌^◌, Option, None, Some}
 use Rattle.kv_model.specs.declared.ids.Ids.{Ids}
 use Rattle.kv_model.specs.Watches.{deliver}
 use Rattle.kv_model.specs.Wire.{message_to}
 use Rattle.store_laws.specs.Stands.{StandsFor}
 use Rattle.request_core.specs.State.{CoreState, keeping_of}
 use Rattle.http_head.specs.Requests.{Asked}
-use Rattle.http_reply.specs.declared.front.Front.{Front}
 use Rattle.json_gateway.specs.declared.outcome.Outcome.{Outcome}
 use Rattle.json_gateway.specs.Outcomes.{IsBare}
 use Rattle.json_gateway.specs.Runs.{command_view}
 use Rattle.http_loop.specs.declared.answering.Told.{Told}
 use Rattle.http_loop.specs.declared.answering.Told.TheVariants as told
-use Rattle.http_loop.specs.Connections.{Conn, IsOutcome, Standing, dropped, with_world}
+use Rattle.http_loop.specs.Connections.{IsOutcome, Standing, dropped, with_world}
 
 -- the core stands for this world, and keeps just this
 pub record Stands (core : CoreState) (s : Standing) : Type 0 where
   pub world : StandsFor core.store s.world
   pub keeping : keeping_of core ≡ s.keeping
-
--- What is written is what the bytes are answered, the core then stands for what stands after that, and the result is
--- the number of replies, or why there are no more.
-pub record Serves (ids : Ids) (s : Standing) (bytes : List ℕ) (limit : ℕ) (c : Option (List ℕ)) (core : CoreState) (c'
-    : Option (List ℕ)) (r : Result ℕ Front) : Type 0 where
-  pub after : Standing
-  pub out : List ℕ
-  pub stands : Stands core after
-  pub wrote : Appends c c' out
-  pub conn : Conn ids s bytes limit out after r
-
--- the same, where the reader tells its bytes: pending are those that were read and not used
-abbrev pub ServesOf : Ids → Standing → Option (List ℕ) → List ℕ → ℕ → Option (List ℕ) → CoreState → Option (List ℕ)
-    → Result ℕ Front → Type 0
-ServesOf ids s None pending limit c core c' r = ⊤
-ServesOf ids s (Some left) pending limit c core c' r = Serves ids s (pending ++ left) limit c core c' r
 
 -- the ids of a server by itself
 abbrev pub ids_alone : Ids

@@ -36,12 +36,8 @@ Gave None came left = ⊤
 Gave (Some all) came None = ⊥
 Gave (Some all) came (Some left) = all ≡ came ++ left
 
--- it may still have these: its own, where it tells them, and else whatever they are
-abbrev pub MayHave : Option (List ℕ) → List ℕ → Type 0
-MayHave None later = ⊤
-MayHave (Some left) later = later ≡ left
-
--- and behind a turn: one that does not tell its bytes is asked for no more where the turn ends the connection
+-- behind a turn it may still have these: its own, where it tells them; one that does not is asked for no more where the
+-- turn ends the connection, and else they are whatever they are
 abbrev pub MayHaveAfter : Option (List ℕ) → Result Turn Front → List ℕ → Type 0
 MayHaveAfter (Some left) r later = later ≡ left
 MayHaveAfter None (Ok turn.More) later = ⊤
@@ -62,7 +58,7 @@ pub record SoFar (S : Type 0) (Is : S → Asked → List ℕ → S → Result Bo
     (pending pending' : List ℕ) (n : ℕ) (c c' : Option (List ℕ)) (s t : S) : Type 0 where
   pub came : List ℕ
   pub gave : Gave left came left'
-  pub begun : Grows c c' (λ out. (later : List ℕ) → MayHave left' later
+  pub begun : Grows c c' (λ out. (later : List ℕ) → MayHaveAfter left' (Ok turn.More) later
       → Begins S Is s (pending ++ (came ++ later)) n (pending' ++ later) t out)
 
 -- What is written is what the bytes are answered, and the result is the number of replies, or why there are no more. A

@@ -1,10 +1,10 @@
-use Rattle.std.proofs.Common.{arith}
+use Rattle.std.proofs.Common.{arith, refl}
 use Rattle.http_front.proofs.Trimmed.{done_last, last_refusal, others, refusal}
 use Rattle.http_front.proofs.by_engine.trim_all.Goals as goal
 
 pub returns-in-Ok-Done : goal.returns-in-Ok-Done
 returns-in-Ok-Done g c = c.loop.invariant.0 _ _
-    (done_last _ _ _ c.in-Ok-Done.field-0 _ c.in-Ok-Done.ensures.sees c.in-Ok-Done.field-0-is tt c.in-Ok-Done.ensures.given)
+    (done_last _ _ _ c.in-Ok-Done.field-0 _ c.in-Ok-Done.ensures.sees c.in-Ok-Done.field-0-is refl c.in-Ok-Done.ensures.given)
 
 pub loop-preserved-in-Ok : goal.loop-preserved-in-Ok
 loop-preserved-in-Ok g c = (

@@ -9,20 +9,22 @@ use std::net::{TcpListener, TcpStream};
 /// The most connections of a server.
 pub const MOST_CONNECTIONS: u64 = 9_223_372_036_854_775_807;
 
-/// How many connections have got a worker so far, how many may, and one that came in and has none
-/// yet.
+/// The way in. Behind a lock it lets in one connection at a time.
 #[derive(Drop)]
-pub(crate) struct Door {
-    taken: u64,
-    limit: u64,
-    waiting: Option<TcpStream>,
+pub struct Door {
+    /// How many connections have got a worker so far.
+    pub taken: u64,
+    /// How many may.
+    pub limit: u64,
+    /// One that came in and has none yet.
+    pub waiting: Option<TcpStream>,
     ghost within: { taken ≤ limit },
     ghost room: { IfSome waiting (λ stream. taken < limit) } by { Prim.hlevel props },
 }
 
 impl Door {
     /// No connection came in. A limit above 2^63 - 1 counts as that.
-    pub(crate) fn new(limit: u64) -> Door
+    pub fn new(limit: u64) -> Door
         ensures taken { result.taken ≡ 0 }
         ensures limit { result.limit ≡ min limit (2 ^ 63 - 1) }
         ensures waiting { result.waiting ≡ None }
@@ -35,7 +37,7 @@ impl Door {
     }
 
     /// Lets no further connection in.
-    pub(crate) fn shut(&mut self)
+    pub fn shut(&mut self)
         ensures limit { self.new.limit ≡ self.old.taken }
         ensures waiting { self.new.waiting ≡ None }
     {
@@ -46,7 +48,7 @@ impl Door {
     /// The next connection and its number, from 1 on in the order in which they came in; `None`
     /// where the limit is reached. Waits for a peer, where none waits already. Fails where the
     /// accept does, and then nothing is counted.
-    pub(crate) fn next(&mut self, listener: &TcpListener) -> io::Result<Option<(u64, TcpStream)>>
+    pub fn next(&mut self, listener: &TcpListener) -> io::Result<Option<(u64, TcpStream)>>
         ensures failed { OnErr result ((self.new.taken ≡ self.old.taken)
             × (self.new.limit ≡ self.old.limit) × (self.new.waiting ≡ self.old.waiting)) }
         ensures counted { IfOk result (λ next. MatchOption next
@@ -70,7 +72,7 @@ impl Door {
 
     /// Whether a connection waits for a worker: one that came to the listener is let in, and waits
     /// for [`next`](Door::next). Waits for nothing.
-    pub(crate) fn is_wanted(&mut self, listener: &TcpListener) -> bool
+    pub fn is_wanted(&mut self, listener: &TcpListener) -> bool
         ensures taken { self.new.taken ≡ self.old.taken }
         ensures limit { self.new.limit ≡ self.old.limit }
         ensures waits { result ≡ is_some self.new.waiting }

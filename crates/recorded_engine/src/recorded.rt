@@ -11,10 +11,8 @@ ghost use Rattle.engine_lock.specs.Locked.{left, plus, rise, rise_of_expiry, tol
 ghost use Rattle.engine_lock.specs.Orders.{Makes};
 ghost use Rattle.engine_lock.specs.declared.past.Given.TheVariants as given;
 
-use crate::gate::Gate;
 use engine_lock::{Client, Engine, EngineName, Submitted};
-use http_input::Request;
-use http_loop::command_path;
+use http_peer::Gate;
 use json_gateway::{Expiry, Message, Refusal, Settled, Trim, Trimmed, WireEvent};
 use kv_model::call::Command;
 use std::alloc::AllocError;
@@ -40,18 +38,18 @@ pub struct Recorded<'e, L: EngineName, G, R> {
 
 impl<'e, L: EngineName, G: Gate, R: Wait> Recorded<'e, L, G, R> {
     /// Whether events are written down.
-    pub(crate) fn is_recorded(&self) -> bool {
+    pub fn is_recorded(&self) -> bool {
         self.gate.record().is_some()
     }
 
-    /// [`Engine::submit`], of the command that a request asks for. The line is the request's, unless
-    /// the command was refused for memory.
-    pub(crate) fn submit(
+    /// [`Engine::submit`], of the command that a request asks for. The line is that of the request,
+    /// which `event` has, unless the command was refused for memory.
+    pub fn submit(
         &self,
         client: &mut Client<L>,
         now: u64,
         command: &Command,
-        request: &Request<'_>,
+        event: &WireEvent<'_>,
     ) -> Submitted
         ensures submits { Submits self.now.engine.now (left client.old) now (call_of command.now) result
             client.new }
@@ -65,7 +63,7 @@ impl<'e, L: EngineName, G: Gate, R: Wait> Recorded<'e, L, G, R> {
         let mut lines = record.hold(self.rt, now);
         let submitted = self.engine.submit(self.rt, client, now, command);
         if !matches!(submitted.outcome.settled, Settled::Memory) {
-            lines.note(&event_of(request));
+            lines.note(event);
         }
         drop(lines);
         self.gate.recorded();
@@ -73,7 +71,7 @@ impl<'e, L: EngineName, G: Gate, R: Wait> Recorded<'e, L, G, R> {
     }
 
     /// [`Engine::deliver_for`].
-    pub(crate) fn deliver(&self, client: &mut Client<L>, number: u64) -> Result<Message, AllocError>
+    pub fn deliver(&self, client: &mut Client<L>, number: u64) -> Result<Message, AllocError>
         ensures sees { IfOk result (λ m. TellsTo self.now.engine.now client.old.made number m) }
         ensures given { client.new ≡ told_to (left client.old) number result }
     {
@@ -91,7 +89,7 @@ impl<'e, L: EngineName, G: Gate, R: Wait> Recorded<'e, L, G, R> {
     }
 
     /// [`Engine::drop_watch_for`].
-    pub(crate) fn drop_watch(&self, client: &mut Client<L>, number: u64) -> Result<(), Refusal>
+    pub fn drop_watch(&self, client: &mut Client<L>, number: u64) -> Result<(), Refusal>
         ensures sees { DropsFor client.old.made number (is_ok result) }
         ensures given { client.new
             ≡ plus (left client.old) (given.Dropped number (is_ok result)) }
@@ -110,7 +108,7 @@ impl<'e, L: EngineName, G: Gate, R: Wait> Recorded<'e, L, G, R> {
     }
 
     /// [`Engine::trim_once_for`].
-    pub(crate) fn trim_for(&self, client: &mut Client<L>) -> Result<Trim, Refusal>
+    pub fn trim_for(&self, client: &mut Client<L>) -> Result<Trim, Refusal>
         ensures sees { IfOk result (λ t. TrimsFor client.old.made t) }
         ensures given { IfOk result (λ t. client.new ≡ plus (left client.old) (given.Trimmed t)) }
         ensures same { OnErr result (client.new ≡ left client.old) }
@@ -129,7 +127,7 @@ impl<'e, L: EngineName, G: Gate, R: Wait> Recorded<'e, L, G, R> {
     }
 
     /// [`Engine::trim_once`].
-    pub(crate) fn trim(&self) -> Result<Trim, Refusal>
+    pub fn trim(&self) -> Result<Trim, Refusal>
         ensures trims { IfOk result (λ t. Trims t) }
     {
         let Some(record) = self.gate.record() else {
@@ -195,13 +193,5 @@ impl<'e, L: EngineName, G: Gate, R: Wait> Recorded<'e, L, G, R> {
         drop(lines);
         self.gate.recorded();
         step
-    }
-}
-
-/// The event that a request is.
-fn event_of<'r>(request: &Request<'r>) -> WireEvent<'r> {
-    WireEvent::Post {
-        path: command_path(request),
-        body: request.body,
     }
 }

@@ -32,7 +32,7 @@ const MOST_WASTED: u64 = 256;
 
 /// The client of a connection.
 #[derive(Drop)]
-pub(crate) struct Peer<'s> {
+pub struct Peer<'s> {
     stream: &'s TcpStream,
     listener: &'s TcpListener,
     door: &'s Mutex<Door>,
@@ -46,7 +46,7 @@ impl<'s> Peer<'s> {
     /// The client at the other end of a stream, which came in by this door. From then on a read of
     /// the stream waits for 100 ms, and a write for a second; where the system refuses that, for
     /// ever.
-    pub(crate) fn new(
+    pub fn new(
         stream: &'s TcpStream,
         listener: &'s TcpListener,
         door: &'s Mutex<Door>,
@@ -138,9 +138,11 @@ fn has_waited(error: &io::Error) -> bool {
 
 /// A gate that knows the client of its connection, too. Where the server ends, every client has left.
 #[derive(Drop)]
-pub(crate) struct PeerGate<'p, 's, G> {
-    pub(crate) gate: &'p G,
-    pub(crate) peer: &'p Peer<'s>,
+pub struct PeerGate<'p, 's, G> {
+    /// The gate of the server, which is told of the same, and asked.
+    pub gate: &'p G,
+    /// The client of the connection.
+    pub peer: &'p Peer<'s>,
 }
 
 impl<'p, 's, G: Gate> Gate for PeerGate<'p, 's, G> {
@@ -174,8 +176,9 @@ impl<'p, 's, G: Gate> Gate for PeerGate<'p, 's, G> {
 /// come for a second, and another client waits for a worker, and none is free; and where the server
 /// ends, between requests, or within one once no byte of it has come for a second.
 #[derive(Drop)]
-pub(crate) struct Coming<'p, 's> {
-    pub(crate) peer: &'p Peer<'s>,
+pub struct Coming<'p, 's> {
+    /// The client.
+    pub peer: &'p Peer<'s>,
 }
 
 impl<'p, 's> Read for Coming<'p, 's> {
@@ -205,8 +208,9 @@ impl<'p, 's> Read for Coming<'p, 's> {
 /// What goes to the client of a connection. A write fails, too, where no byte has been taken for ten
 /// seconds.
 #[derive(Drop)]
-pub(crate) struct Going<'p, 's> {
-    pub(crate) peer: &'p Peer<'s>,
+pub struct Going<'p, 's> {
+    /// The client.
+    pub peer: &'p Peer<'s>,
 }
 
 impl<'p, 's> Write for Going<'p, 's> {
