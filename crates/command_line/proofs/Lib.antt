@@ -2,3 +2,4 @@ pub mod Closing
 pub mod CommandLine
 pub mod FirstOutside
 pub mod Options
+pub mod ReadBack

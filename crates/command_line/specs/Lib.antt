@@ -2,3 +2,4 @@ pub mod Advice
 pub mod Arguments
 pub mod Serving
 pub mod Controls
+pub mod ReadBack

@@ -29,6 +29,7 @@
 mod advice;
 mod control;
 mod filters;
+pub mod laws;
 mod recorder;
 mod serving;
 mod words;

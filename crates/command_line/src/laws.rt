@@ -1,0 +1,13 @@
+//! Laws of a recording, each the contract of a function that does nothing.
+ghost use Rattle.command_line.specs.ReadBack.{IsEachReadBack, AreReadBack};
+
+/// The line of each event is read as that event.
+pub fn event_read_back()
+    ensures { IsEachReadBack }
+{}
+
+/// The text of events, one after the other, is read as those events, whatever follows it: so is a
+/// recording that a failed write cut off, up to its last whole line.
+pub fn text_read_back()
+    ensures { AreReadBack }
+{}
