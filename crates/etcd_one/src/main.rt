@@ -146,14 +146,7 @@ fn serve_all<
         return serve_lines(rt, serve, &listener, &gate);
     }
     let args = Args::Serve(*serve);
-    serve_by(
-        rt,
-        rt.alloc(),
-        &listener,
-        &args,
-        &gate,
-        &mut io::writer(rt),
-    )
+    serve_by(rt, rt.alloc(), &listener, &args, &gate, &mut io::writer(rt))
 }
 
 /// Says on standard error where a server listens.

@@ -4,11 +4,11 @@ ghost use Rattle.trim_core.specs.Told.{told_of};
 ghost use Rattle.json_gateway.specs.Endings.{is_done};
 ghost use Rattle.engine_lock.specs.Locked.{Trims};
 
-use http_peer::{Clock, Gate};
-use recorded_engine::Recorded;
 use crate::shared::Shared;
 use engine_lock::{Client, EngineName};
+use http_peer::{Clock, Gate};
 use json_gateway::{Expiry, Refusal, Trim};
+use recorded_engine::Recorded;
 use std::sync::Wait;
 use std::sync::atomic::Ordering;
 use std::time::Duration;

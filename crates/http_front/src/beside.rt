@@ -8,12 +8,12 @@ ghost use Rattle.engine_lock.specs.Locked.{left};
 ghost use Rattle.http_front.specs.Engines.{Begins, CatchesUp, IsAnswer, Looks, LooksUp, Reads, SettlesAs};
 ghost use Rattle.http_front.specs.Engines.{Starts, Stays, response_over};
 
-use http_peer::Gate;
-use recorded_engine::Recorded;
 use engine_lock::{Client, EngineName};
+use http_peer::Gate;
 use json_gateway::{Ids, Outcome, Refusal, Reply, Settled, declined, range_text};
 use kv_model::call::{Command, RangeQuery};
 use range_view::RangeReply;
+use recorded_engine::Recorded;
 use std::alloc::Global;
 use std::sync::Wait;
 

@@ -5,13 +5,13 @@ ghost use Rattle.http_front.specs.Engines as engines;
 ghost use Rattle.http_front.specs.Engines.{AreTrimmed, Awaits, Does, Looks, Submits, lost_answer};
 
 use crate::beside::looked;
-use http_peer::{Clock, Gate};
-use recorded_engine::Recorded;
 use engine_lock::{Client, EngineName, Submitted};
 use http_input::Request;
 use http_loop::{Answering, Told, command_path};
+use http_peer::{Clock, Gate};
 use json_gateway::{Bad, Message, Outcome, Settled, Trim, WireEvent, dismissed, read};
 use kv_model::call::Command;
+use recorded_engine::Recorded;
 use std::alloc::Global;
 use std::sync::Wait;
 use std::time::Duration;

@@ -10,11 +10,11 @@ ghost use Rattle.engine_lock.specs.Locked.{Caller};
 ghost use Rattle.http_front.specs.Engines.{Answers, Finishes, Tells};
 
 use crate::by_engine::ByEngine;
-use http_peer::{Clock, Gate};
-use recorded_engine::Recorded;
 use engine_lock::{Client, Engine, EngineName};
 use http_loop::serve_all;
+use http_peer::{Clock, Gate};
 use http_reply::{Counted, Front};
+use recorded_engine::Recorded;
 use std::alloc::Global;
 use std::io::{Read, Write};
 use std::sync::Wait;

@@ -3,10 +3,10 @@ ghost use Rattle.std.specs.Prelude.{IfOk, IfErr};
 ghost use Rattle.engine_lock.specs.Fits.{IsStanding};
 ghost use Rattle.http_front.specs.Ends.{IsOfServer};
 
-use http_peer::{Clock, Gate};
 use crate::shared::Shared;
 use crate::threads::{Served, clients_of, closed, join_all, start_all, with_client};
 use engine_lock::{Client, Engine, EngineName};
+use http_peer::{Clock, Gate};
 use http_reply::Front;
 use request_core::store::Core;
 use std::alloc::Global;

@@ -1,9 +1,9 @@
 //! What the threads of a server share.
 ghost use Rattle.std.specs.Prelude.{◌≡◌};
 
+use engine_lock::{Engine, EngineName};
 use http_peer::Door;
 use recorded_engine::Recorded;
-use engine_lock::{Engine, EngineName};
 use std::net::TcpListener;
 use std::sync::Mutex;
 use std::sync::atomic::AtomicBool;

@@ -4,10 +4,10 @@ ghost use Rattle.engine_lock.specs.Fits.{IsStanding};
 ghost use Rattle.http_front.specs.Ends.{IsOfServer, fault_of};
 
 use crate::background::{keep_expiring, keep_trimming};
-use http_peer::{Clock, Gate};
 use crate::shared::Shared;
 use crate::workers::{Worked, keep_working};
 use engine_lock::{Client, Engine, EngineName};
+use http_peer::{Clock, Gate};
 use http_reply::Front;
 use request_core::store::Core;
 use std::alloc::Global;

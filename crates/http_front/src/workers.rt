@@ -1,10 +1,9 @@
 //! A worker: one connection after the other, each to its end.
 
 use crate::connection::work;
-use http_peer::{Clock, Gate};
-use http_peer::{Coming, Going, Peer, PeerGate};
 use crate::shared::Shared;
 use engine_lock::{Client, EngineName};
+use http_peer::{Clock, Coming, Gate, Going, Peer, PeerGate};
 use http_reply::Counted;
 use std::alloc::Global;
 use std::net::TcpStream;
