@@ -19,7 +19,7 @@ use std::marker::Model;
 const MOST_REVISION: u64 = (1 << 63) - 1;
 
 /// Why a line gives nothing.
-#[derive(Clone, Copy, Debug)]
+#[derive(Clone, Copy)]
 pub(crate) enum Unfit {
     /// It is of no form that stands there.
     Form,

@@ -4,7 +4,7 @@ ghost use Rattle.std.specs.Prelude.{◌≡◌};
 use std::alloc::{AllocError, AllocFailed};
 
 /// Why reading stops before the end.
-#[derive(Clone, Copy, Debug)]
+#[derive(Clone, Copy)]
 pub(crate) enum Stop<'a> {
     /// The first of these lines is unreadable; where there is none, it is missing.
     At(&'a [u8]),

@@ -11,7 +11,7 @@ use commands::Fault;
 use std::alloc::{AllocError, Global};
 
 /// A command that has no words after its own.
-#[derive(Clone, Copy, Debug, PartialEq, Eq)]
+#[derive(Clone, Copy, PartialEq, Eq)]
 pub(crate) enum Filter {
     /// `replay`: answer the script on standard input.
     Replay,

@@ -41,7 +41,7 @@ pub struct Limits {
 
 /// A clock that stands at its beginning. A moment that is handed in by it leaves the engine's clock,
 /// so that this stands where the engine was last told a moment by somebody else.
-#[derive(Clone, Copy, Debug, Drop)]
+#[derive(Clone, Copy, Drop)]
 pub(crate) struct Standing;
 
 impl Clock for Standing {

@@ -72,7 +72,7 @@ where
 }
 
 /// Why a server ends before its connections do.
-#[derive(Clone, Copy, Debug, PartialEq, Eq)]
+#[derive(Clone, Copy, PartialEq, Eq)]
 pub(crate) enum Trouble {
     /// A thread could not be started.
     Spawn,

@@ -25,7 +25,7 @@ const ALONE: Ids = Ids {
 };
 
 /// Answers of a core that nobody else changes.
-#[derive(Clone, Copy, Debug, Drop)]
+#[derive(Clone, Copy, Drop)]
 struct Alone;
 
 impl Answering<Core> for Alone {

@@ -17,7 +17,7 @@ use std::collections::BTreeMap;
 use std::marker::Model;
 
 /// The revisions of each key: an ordered map of the standard library.
-#[derive(Debug, Drop)]
+#[derive(Drop)]
 pub struct KeyIndex {
     alloc: Global,
     keys: BTreeMap<Bytes, Revisions>,
@@ -36,7 +36,7 @@ impl Model for KeyIndex {
 }
 
 /// A key of the index, lent with its revisions.
-#[derive(Clone, Copy, Debug)]
+#[derive(Clone, Copy)]
 pub struct Indexed<'a> {
     pub key: &'a Bytes,
     pub revisions: &'a Revisions,

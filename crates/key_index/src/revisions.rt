@@ -15,14 +15,14 @@ use std::collections::VecDeque;
 use std::marker::Model;
 
 /// The revisions of a key, rising: those of its puts and of its tombstones.
-#[derive(Debug, Drop)]
+#[derive(Drop)]
 pub struct Revisions {
     held: Held,
 }
 
 /// What holds the revisions: most keys have just one, which takes no block of its own. A list has
 /// at least two, and goes where it falls below (the invariant of `Revisions`).
-#[derive(Debug, Drop)]
+#[derive(Drop)]
 enum Held {
     Nothing,
     One(Rev),

@@ -3,7 +3,7 @@ ghost use Rattle.std.specs.Prelude.{◌≤◌};
 
 /// A granted lease: its ID, its time to live in seconds, and its deadline in milliseconds of the
 /// clock.
-#[derive(Clone, Copy, Debug)]
+#[derive(Clone, Copy)]
 pub struct Entry {
     pub id: i64,
     pub ttl: u64,

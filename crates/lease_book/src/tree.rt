@@ -35,7 +35,7 @@ struct Node {
 }
 
 /// What is known of the leases from a node downward.
-#[derive(Clone, Copy, Debug)]
+#[derive(Clone, Copy)]
 struct Sums {
     /// How many there are.
     count: u32,

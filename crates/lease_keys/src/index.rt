@@ -15,7 +15,7 @@ use std::marker::Model;
 
 /// Pairs of a lease and a key: of each lease an ordered set of its keys. A lease without keys has
 /// no entry.
-#[derive(Debug, Drop)]
+#[derive(Drop)]
 pub struct LeaseKeys {
     alloc: Global,
     leases: BTreeMap<i64, KeySet>,

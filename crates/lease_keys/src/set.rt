@@ -13,12 +13,12 @@ use std::marker::Model;
 
 /// The keys of one lease. A single one, as most leases have, takes no memory of its own; more, and
 /// none at all, stand in an ordered set of the standard library.
-#[derive(Debug, Drop)]
+#[derive(Drop)]
 pub(crate) struct KeySet {
     held: Held,
 }
 
-#[derive(Debug, Drop)]
+#[derive(Drop)]
 enum Held {
     One(Bytes),
     Many(BTreeSet<Bytes>),

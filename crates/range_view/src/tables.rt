@@ -29,7 +29,7 @@ pub use version_table::Versions;
 
 /// The versions that are kept with the index of their keys, the revision of the last compaction,
 /// the present one, and how far trimming has come.
-#[derive(Debug, Drop)]
+#[derive(Drop)]
 pub struct Tables {
     table: VersionTable,
     index: KeyIndex,

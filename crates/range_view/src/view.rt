@@ -26,7 +26,7 @@ use version_table::{VersionTable, Versions};
 
 /// What is kept, seen at a place in the history: of each key its last version that is not after the
 /// place.
-#[derive(Debug, Drop)]
+#[derive(Drop)]
 pub struct View<'a> {
     table: &'a VersionTable,
     index: &'a KeyIndex,

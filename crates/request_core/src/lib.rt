@@ -28,8 +28,8 @@
 //! ```
 //!
 //! Only tested is that calls which may find no memory succeed where there is ample: in the crate
-//! `store_tests`, in `src/cores.rt`; that of the last revisions, which needs a core made near them,
-//! in `src/store/spent.rt`.
+//! `store_tests`, in `src/cores.rt`, and in `src/spent.rt` those of the last revisions, which need a
+//! core made near them.
 #![tactic(auto)]
 
 pub mod answer;

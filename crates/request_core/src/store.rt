@@ -15,8 +15,6 @@ mod putting;
 mod ranging;
 mod receipts;
 mod revoking;
-#[cfg(test)]
-mod spent;
 mod transacting;
 mod trimming;
 mod watching;
@@ -83,8 +81,9 @@ impl Core {
         Core::at(alloc, 1)
     }
 
-    /// A store that has come to a revision and keeps no version and no lease.
-    fn at(alloc: Global, revision: u64) -> Self
+    /// A store that has come to a revision and keeps no version, no lease and no watch; its clock and
+    /// its stamp are 0. The revision is one that a store may have: from 1 to `LAST_MAIN`. Takes no memory.
+    pub fn at(alloc: Global, revision: u64) -> Self
         requires opened { 1 ≤ revision }
         requires fits { revision ≤ last_main }
         ensures { result

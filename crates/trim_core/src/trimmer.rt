@@ -24,7 +24,7 @@ pub enum Trim {
 
 /// How far trimming has come since the last compaction: the first place in the history that it has
 /// not looked at.
-#[derive(Debug, Drop)]
+#[derive(Drop)]
 pub struct Trimmer {
     place: Rev,
 }

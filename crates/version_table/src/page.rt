@@ -14,7 +14,7 @@ pub(crate) const PLACES: usize = 256;
 
 /// Versions side by side, and how many places of the page were ever used: the place of a version
 /// that was taken out is not used again.
-#[derive(Debug, Drop)]
+#[derive(Drop)]
 pub(crate) struct Page {
     used: usize,
     versions: Vec<Version>,

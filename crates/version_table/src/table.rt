@@ -14,7 +14,7 @@ use std::alloc::{AllocError, Global};
 use std::marker::Model;
 
 /// The versions of all keys, one list that rises by revision.
-#[derive(Debug, Drop)]
+#[derive(Drop)]
 pub struct VersionTable {
     alloc: Global,
     pages: Vec<Page>,

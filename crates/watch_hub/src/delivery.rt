@@ -29,7 +29,7 @@ pub enum Delivery<'a> {
 }
 
 /// What a delivery leaves of a watch.
-#[derive(Clone, Copy, Debug)]
+#[derive(Clone, Copy)]
 pub(crate) enum Course {
     /// It stays as it was.
     Waits,

@@ -8,7 +8,7 @@ use range_view::Tables;
 /// A watch that stands. Where it is not late it is behind, and holds the main revision of the first
 /// version that it matches and was not told of, or it is caught up. Then what it looks at next is
 /// the next revision, or a later one that it waits for.
-#[derive(Debug, Drop)]
+#[derive(Drop)]
 pub(crate) struct Entry {
     pub(crate) number: u64,
     /// The client's number for it.

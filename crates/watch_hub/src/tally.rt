@@ -7,7 +7,7 @@ const MOST_EVENTS: u64 = 1000;
 
 /// The events of a message while they are counted: whole revisions, as many as have room, and at
 /// least the first.
-#[derive(Clone, Copy, Debug)]
+#[derive(Clone, Copy)]
 pub(crate) struct Tally {
     /// How many events there are, at most as many as a message takes.
     events: u64,
