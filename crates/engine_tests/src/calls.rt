@@ -2,6 +2,7 @@
 ghost use Rattle.std.specs.Prelude.{◌≡◌};
 
 use crate::lock_replies::ONES;
+use crate::texts::{GRANT, PUT, WATCH};
 use engine_lock::{Client, CloseFault, Engine, EngineName, MOST_CLIENTS, Opening};
 use json_gateway::{Expiry, Message, Refusal, Trim, Trimmed, read};
 use std::alloc::Global;
@@ -54,10 +55,10 @@ fn posted<L: EngineName, R: Wait>(
     alloc: Global,
     engine: &Engine<L>,
     client: &mut Client<L>,
-    path: &[u8],
-    body: &[u8],
+    path: &str,
+    body: &str,
 ) -> u16 {
-    let Ok(command) = read(alloc, path, body) else {
+    let Ok(command) = read(alloc, path.as_bytes(), body.as_bytes()) else {
         return 0;
     };
     let submitted = engine.submit(rt, client, 1000, &command);
@@ -77,26 +78,23 @@ struct Said {
 }
 
 /// A watch of one key, a put of it, and a put of a second key under a lease of one second.
+const BEGINNING: [(&str, &str); 4] = [
+    (WATCH, "{\"create_request\":{\"key\":\"YQ==\"}}"),
+    (PUT, "{\"key\":\"YQ==\"}"),
+    (GRANT, "{\"TTL\":\"1\",\"ID\":\"7\"}"),
+    (PUT, "{\"key\":\"Yg==\",\"lease\":\"7\"}"),
+];
+
+/// Posts the beginning.
 fn begin<L: EngineName, R: Wait>(
     rt: &R,
     alloc: Global,
     engine: &Engine<L>,
     client: &mut Client<L>,
 ) {
-    let watch = b"{\"create_request\":{\"key\":\"YQ==\"}}";
-    let _watched = posted(rt, alloc, engine, client, b"/v3/watch", watch);
-    let _put = posted(
-        rt,
-        alloc,
-        engine,
-        client,
-        b"/v3/kv/put",
-        b"{\"key\":\"YQ==\"}",
-    );
-    let grant = b"{\"TTL\":\"1\",\"ID\":\"7\"}";
-    let _granted = posted(rt, alloc, engine, client, b"/v3/lease/grant", grant);
-    let leased = b"{\"key\":\"Yg==\",\"lease\":\"7\"}";
-    let _leased = posted(rt, alloc, engine, client, b"/v3/kv/put", leased);
+    for (path, body) in BEGINNING.iter() {
+        let _status = posted(rt, alloc, engine, client, path, body);
+    }
 }
 
 fn call_each<L: EngineName, R: Wait>(rt: &R, engine: &Engine<L>, client: &mut Client<L>) -> Said {
@@ -268,14 +266,7 @@ fn closed_twice<L: EngineName, R: Wait>(
     let engine = Engine::<L>::new(alloc, opening, ONES);
     let first = engine.client(rt).ok()?;
     let mut second = engine.client(rt).ok()?;
-    let _put = posted(
-        rt,
-        alloc,
-        &engine,
-        &mut second,
-        b"/v3/kv/put",
-        b"{\"key\":\"YQ==\"}",
-    );
+    let _put = posted(rt, alloc, &engine, &mut second, PUT, "{\"key\":\"YQ==\"}");
     closed_without(rt, alloc, engine, first, second)
 }
 

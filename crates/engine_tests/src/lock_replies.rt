@@ -124,9 +124,7 @@ fn versions_left<L: EngineName, R: Wait>(
     client: Client<L>,
 ) -> Option<u64> {
     let mut clients = Vec::new(alloc);
-    let Ok(()) = clients.push(client) else {
-        return None;
-    };
+    let _ = clients.push(client);
     match engine.close(rt, clients) {
         Ok(core) => dumped(&core),
         Err(_) => None,
@@ -143,6 +141,19 @@ fn dumped(core: &Core) -> Option<u64> {
     }
 }
 
+/// The steps of a row by the one client of an engine, which then closes.
+fn by_one<L: EngineName, R: Wait>(
+    rt: &R,
+    alloc: Global,
+    engine: Engine<L>,
+    client: Client<L>,
+    steps: &[Step],
+) -> (Option<usize>, Option<u64>) {
+    let mut client = client;
+    let first = first_otherwise(rt, alloc, &engine, &mut client, steps);
+    (first, versions_left(rt, alloc, engine, client))
+}
+
 /// The steps of a row on a new engine: the first that is answered otherwise, and how many versions
 /// are left.
 fn run<L: EngineName, R: Wait>(
@@ -156,11 +167,10 @@ fn run<L: EngineName, R: Wait>(
     requires book { opening.book ≡ L.book }
 {
     let engine = Engine::<L>::new(alloc, opening, ONES);
-    let Ok(mut client) = engine.client(rt) else {
-        return (None, None);
-    };
-    let first = first_otherwise(rt, alloc, &engine, &mut client, steps);
-    (first, versions_left(rt, alloc, engine, client))
+    match engine.client(rt) {
+        Ok(client) => by_one(rt, alloc, engine, client, steps),
+        Err(_) => (None, None),
+    }
 }
 
 fn run_row<R: Wait>(rt: &R, alloc: Global, steps: &[Step]) -> (Option<usize>, Option<u64>) {

@@ -114,6 +114,41 @@ where
     }
 }
 
+/// Starts the clients.
+fn start_clients<'s, E, L, R>(
+    scope: &Scope<'s, E>,
+    rt: &'s R,
+    alloc: Global,
+    engine: &'s Engine<L>,
+) -> Vec<JoinHandle<Client<L>>>
+where
+    L: EngineName + Send + Sync + 's,
+    R: Wait + Sync + 's,
+{
+    let mut handles = Vec::new(alloc);
+    for _ in 0..CLIENTS {
+        if let Ok(client) = engine.client(rt) {
+            if let Some(handle) = start_client(scope, rt, alloc, engine, client) {
+                let _ = handles.push(handle);
+            }
+        }
+    }
+    handles
+}
+
+/// What all of some threads hand back.
+pub(super) fn joined<T: Send, R: Wait>(
+    rt: &R,
+    alloc: Global,
+    handles: Vec<JoinHandle<T>>,
+) -> Vec<T> {
+    let mut all = Vec::new(alloc);
+    for handle in handles {
+        let _ = all.push(handle.join(rt));
+    }
+    all
+}
+
 /// Starts all threads, and joins them.
 fn run_all<'s, E, L, R>(
     scope: &Scope<'s, E>,
@@ -127,17 +162,7 @@ where
     R: Wait + Threads + Sync + 's,
 {
     let trimming = start_trimming(scope, rt, engine, ended)?;
-    let mut handles = Vec::new(alloc);
-    for _ in 0..CLIENTS {
-        let client = engine.client(rt).ok()?;
-        handles
-            .push(start_client(scope, rt, alloc, engine, client)?)
-            .ok()?;
-    }
-    let mut clients = Vec::new(alloc);
-    for handle in handles {
-        clients.push(handle.join(rt)).ok()?;
-    }
+    let clients = joined(rt, alloc, start_clients(scope, rt, alloc, engine));
     ended.store(true, Ordering::SeqCst);
     trimming.join(rt);
     Some(clients)
@@ -167,7 +192,7 @@ fn is_certified(alloc: Global, core: &Core, count: u64) -> bool {
 }
 
 /// The sum of the shares.
-fn sum_of<L: EngineName>(clients: &[Client<L>]) -> u64 {
+pub(super) fn sum_of<L: EngineName>(clients: &[Client<L>]) -> u64 {
     let mut sum = 0u64;
     for client in clients {
         sum = sum.saturating_add(client.share());

@@ -120,6 +120,27 @@ fn first_otherwise<L: EngineName, R: Wait>(
     }
 }
 
+/// The first step that goes otherwise, where the second client is made.
+fn beside<L: EngineName, R: Wait>(
+    rt: &R,
+    alloc: Global,
+    engine: &Engine<L>,
+    a: &mut Client<L>,
+) -> Option<usize> {
+    match engine.client(rt) {
+        Ok(mut b) => Some(first_otherwise(rt, alloc, engine, (a, &mut b))),
+        Err(_) => None,
+    }
+}
+
+/// The first step that goes otherwise, of two clients of an engine.
+fn by_two<L: EngineName, R: Wait>(rt: &R, alloc: Global, engine: &Engine<L>) -> Option<usize> {
+    match engine.client(rt) {
+        Ok(mut a) => beside(rt, alloc, engine, &mut a),
+        Err(_) => None,
+    }
+}
+
 /// The first step that goes otherwise, of two clients of a new engine.
 fn run<L: EngineName, R: Wait>(rt: &R, alloc: Global, opening: Opening) -> Option<usize>
     requires name { opening.name ≡ L.Ledger.name }
@@ -127,9 +148,7 @@ fn run<L: EngineName, R: Wait>(rt: &R, alloc: Global, opening: Opening) -> Optio
     requires book { opening.book ≡ L.book }
 {
     let engine = Engine::<L>::new(alloc, opening, ONES);
-    let mut a = engine.client(rt).ok()?;
-    let mut b = engine.client(rt).ok()?;
-    Some(first_otherwise(rt, alloc, &engine, (&mut a, &mut b)))
+    by_two(rt, alloc, &engine)
 }
 
 fn run_read_back<R: Wait>(rt: &R, alloc: Global) -> Option<usize> {

@@ -3,6 +3,7 @@
 ghost use Rattle.std.specs.Prelude.{◌≡◌};
 
 use crate::lock_replies::ONES;
+use crate::many_clients::{joined, sum_of};
 use crate::texts::{PUT, RANGE};
 use engine_lock::{Client, Engine, EngineName, Opening};
 use json_gateway::read;
@@ -135,7 +136,7 @@ fn read_often<L: EngineName>(alloc: Global, client: Client<L>) -> Saw<L> {
 }
 
 /// Makes trimming steps, and now and then a Compact at the present revision, until the others have
-/// ended.
+/// ended, and hands the client back.
 fn trim_often<L: EngineName, R: Wait>(
     rt: &R,
     engine: &Engine<L>,
@@ -143,6 +144,17 @@ fn trim_often<L: EngineName, R: Wait>(
     ended: &AtomicBool,
 ) -> Client<L> {
     let mut client = client;
+    trim_until(rt, engine, &mut client, ended);
+    client
+}
+
+/// Makes trimming steps and Compacts until the others have ended.
+fn trim_until<L: EngineName, R: Wait>(
+    rt: &R,
+    engine: &Engine<L>,
+    client: &mut Client<L>,
+    ended: &AtomicBool,
+) {
     let mut revision = 1;
     for _ in rt.forever() {
         if ended.load(Ordering::SeqCst) {
@@ -155,10 +167,9 @@ fn trim_often<L: EngineName, R: Wait>(
             revision,
             physical: false,
         };
-        let submitted = engine.submit(rt, &mut client, 0, &compact);
+        let submitted = engine.submit(rt, client, 0, &compact);
         revision = i64::try_from(submitted.revision).unwrap_or(revision);
     }
-    client
 }
 
 /// What the history has of a writer's key at a revision: how many puts, and the last one's revision.
@@ -252,6 +263,55 @@ where
     }
 }
 
+/// Starts the writers.
+fn start_writers<'s, E, L, R>(
+    scope: &Scope<'s, E>,
+    rt: &'s R,
+    alloc: Global,
+    engine: &'s Engine<L>,
+) -> Vec<JoinHandle<Wrote<L>>>
+where
+    L: EngineName + Send + Sync + 's,
+    R: Wait + Sync + 's,
+{
+    let mut handles = Vec::new(alloc);
+    for writer in 0..WRITERS {
+        if let Ok(client) = engine.client(rt) {
+            let wrote = Wrote {
+                client,
+                writer,
+                revisions: Vec::new(alloc),
+            };
+            if let Some(handle) = start_writer(scope, rt, alloc, engine, wrote) {
+                let _ = handles.push(handle);
+            }
+        }
+    }
+    handles
+}
+
+/// Starts the readers.
+fn start_readers<'s, E, L, R>(
+    scope: &Scope<'s, E>,
+    rt: &'s R,
+    alloc: Global,
+    engine: &'s Engine<L>,
+) -> Vec<JoinHandle<Saw<L>>>
+where
+    L: EngineName + Send + Sync + 's,
+    R: Wait + Sync + 's,
+{
+    let mut handles = Vec::new(alloc);
+    for _ in 0..READERS {
+        if let Ok(client) = engine.client(rt) {
+            if let Some(handle) = start_reader(scope, alloc, client) {
+                let _ = handles.push(handle);
+            }
+        }
+    }
+    handles
+}
+
 /// Starts all threads, and joins them.
 fn run_all<'s, E, L, R>(
     scope: &Scope<'s, E>,
@@ -265,36 +325,46 @@ where
     R: Wait + Threads + Sync + 's,
 {
     let trimmer = start_trimmer(scope, rt, engine, engine.client(rt).ok()?, ended)?;
-    let mut writing = Vec::new(alloc);
-    for writer in 0..WRITERS {
-        let wrote = Wrote {
-            client: engine.client(rt).ok()?,
-            writer,
-            revisions: Vec::new(alloc),
-        };
-        writing
-            .push(start_writer(scope, rt, alloc, engine, wrote)?)
-            .ok()?;
-    }
-    let mut reading = Vec::new(alloc);
-    for _ in 0..READERS {
-        let client = engine.client(rt).ok()?;
-        reading.push(start_reader(scope, alloc, client)?).ok()?;
-    }
-    let mut writers = Vec::new(alloc);
-    for handle in writing {
-        writers.push(handle.join(rt)).ok()?;
-    }
-    let mut readers = Vec::new(alloc);
-    for handle in reading {
-        readers.push(handle.join(rt)).ok()?;
-    }
+    let writing = start_writers(scope, rt, alloc, engine);
+    let reading = start_readers(scope, rt, alloc, engine);
+    let writers = joined(rt, alloc, writing);
+    let readers = joined(rt, alloc, reading);
     ended.store(true, Ordering::SeqCst);
     Some(All {
         writers,
         readers,
         trimmer: trimmer.join(rt),
     })
+}
+
+/// How many reads there were, and how many of them were wrong.
+fn read_in_all<L: EngineName>(readers: &[Saw<L>], writers: &[Wrote<L>]) -> (usize, u64) {
+    let (mut count, mut wrong) = (0usize, 0u64);
+    for saw in readers {
+        count = count.saturating_add(saw.reads.len());
+        wrong = wrong.saturating_add(wrong_reads(saw.reads.as_slice(), writers));
+    }
+    (count, wrong)
+}
+
+/// All clients.
+fn clients_of<L: EngineName>(alloc: Global, all: All<L>) -> Vec<Client<L>> {
+    let All {
+        writers,
+        readers,
+        trimmer,
+    } = all;
+    let mut clients = Vec::new(alloc);
+    let _ = clients.push(trimmer);
+    for saw in readers {
+        let Saw { client, .. } = saw;
+        let _ = clients.push(client);
+    }
+    for wrote in writers {
+        let Wrote { client, .. } = wrote;
+        let _ = clients.push(client);
+    }
+    clients
 }
 
 /// How many reads there were, how many of them were wrong, the sum of all shares, and the revision
@@ -305,26 +375,9 @@ fn judged<L: EngineName, R: Wait>(
     engine: Engine<L>,
     all: All<L>,
 ) -> Option<(usize, u64, u64, u64)> {
-    let All {
-        writers,
-        readers,
-        trimmer,
-    } = all;
-    let (mut count, mut wrong, mut sum) = (0usize, 0u64, trimmer.share());
-    let mut clients = Vec::new(alloc);
-    clients.push(trimmer).ok()?;
-    for saw in readers {
-        let Saw { client, reads } = saw;
-        count = count.saturating_add(reads.len());
-        wrong = wrong.saturating_add(wrong_reads(reads.as_slice(), writers.as_slice()));
-        sum = sum.saturating_add(client.share());
-        clients.push(client).ok()?;
-    }
-    for wrote in writers {
-        let Wrote { client, .. } = wrote;
-        sum = sum.saturating_add(client.share());
-        clients.push(client).ok()?;
-    }
+    let (count, wrong) = read_in_all(all.readers.as_slice(), all.writers.as_slice());
+    let clients = clients_of(alloc, all);
+    let sum = sum_of(clients.as_slice());
     match engine.close(rt, clients) {
         Ok(core) => Some((count, wrong, sum, core.status().revision)),
         Err(_) => None,

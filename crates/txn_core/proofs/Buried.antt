@@ -16,8 +16,8 @@ use Rattle.store_laws.proofs.HistoryLaws.{same_key-eq}
 use Rattle.store_laws.proofs.KeyLaws.{has_key, same-refl, has_key-filter, value-has_key}
 use Rattle.store_laws.proofs.PlaceLaws.{each-map}
 use Rattle.txn_core.specs.KeyWrites.{tombstone}
-use Rattle.txn_core.specs.Planning.{buries, is_gone, with_grave, with_graves}
-use Rattle.txn_core.specs.Swept.{covers, of_keys, AreGone, AreBut}
+use Rattle.txn_core.specs.Planning.{buries, is_gone, with_grave, with_graves, AreGone}
+use Rattle.swept_ranges.specs.Swept.{covers, of_keys, AreBut}
 
 -- ---- what is deleted already
 

@@ -12,6 +12,5 @@ pub mod Running
 pub mod StaticFaults
 pub mod Staying
 pub mod Stepping
-pub mod Sweeping
 pub mod Walking
 pub mod Answering

@@ -26,7 +26,7 @@ use Rattle.store_laws.proofs.KeyLaws.{has_key}
 use Rattle.store_laws.proofs.PlaceLaws.{each-map, rev_le-before}
 use Rattle.txn_core.specs.Emptied.{put_keys, put_from, PutsNone, AreEmptied}
 use Rattle.txn_core.specs.declared.emptied.Emptied.{Emptied}
-use Rattle.txn_core.specs.Swept.{covers, of_keys, AreBut}
+use Rattle.swept_ranges.specs.Swept.{covers, of_keys, AreBut}
 use Rattle.txn_core.specs.declared.touched.Touched.{Touched}
 use Rattle.txn_core.specs.Touching.{bit, keys_put, count_touched}
 use Rattle.txn_core.specs.Views.{touch_view, keys_view, AreSorted}

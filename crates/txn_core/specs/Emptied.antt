@@ -7,7 +7,7 @@ use Rattle.kv_model.specs.History.{is_tombstone, value_at}
 use Rattle.kv_model.specs.Keys.{in_range}
 use Rattle.kv_model.specs.Txns.{Touch, place_before}
 use Rattle.txn_core.specs.declared.emptied.Emptied.{Emptied}
-use Rattle.txn_core.specs.Swept.{covers}
+use Rattle.swept_ranges.specs.Swept.{covers}
 use Rattle.txn_core.specs.Touching.{count_touched}
 use Rattle.txn_core.specs.Views.{keys_view, AreSorted}
 

@@ -3,6 +3,5 @@ pub mod Graves
 pub mod KeyWrites
 pub mod Planning
 pub mod Steps
-pub mod Swept
 pub mod Touching
 pub mod Views

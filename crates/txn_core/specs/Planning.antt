@@ -1,10 +1,12 @@
 -- The versions that a transaction makes, and its first refusal, told from what is seen at a place before it.
 use Rattle.std.specs.Prelude.{◌≡◌, ℕ, ℤ, List, [], ◌∷◌, ◌++◌, length, filter, Bool, true, false, ◌&&◌, if◌then◌else◌}
-use Rattle.std.specs.Prelude.{Option, None, Some, MatchBool, ⊤}
+use Rattle.std.specs.Prelude.{Option, None, Some, is_some, MatchBool, ⊤}
 use Rattle.std.specs.Option.{option_or}
 use Rattle.std.specs.List.{list_any}
+use Rattle.std.specs.Borrow.{Bor}
 use Rattle.kv_model.specs.declared.version.Rev.{Rev}
 use Rattle.kv_model.specs.declared.version.Version.{Version}
+use Rattle.kv_model.specs.declared.version.KeyRange.{KeyRange}
 use Rattle.kv_model.specs.declared.refusal.Refusal.{Refusal}
 use Rattle.kv_model.specs.declared.refusal.Refusal.TheVariants.{Memory}
 use Rattle.kv_model.specs.Keys.{same_key}
@@ -14,6 +16,7 @@ use Rattle.kv_model.specs.Txns.{Path, path_of}
 use Rattle.kv_model.specs.Calls.{Ops}
 use Rattle.kv_model.specs.Leases.{Lease, is_granted}
 use Rattle.range_view.specs.Stored.{Viewed}
+use Rattle.swept_ranges.specs.Swept.{covers}
 use Rattle.txn_core.specs.KeyWrites.{held_refusal, put_version, tombstone, number_after, as_kept}
 
 -- ---- what is deleted so far
@@ -34,6 +37,10 @@ with_grave main ws k = if is_gone ws k then ws else ws ++ tombstone main (length
 abbrev pub with_graves : ℕ → List Version → List (List ℕ) → List Version
 with_graves main ws [] = ws
 with_graves main ws (k ∷ ks) = with_graves main (with_grave main ws k) ks
+
+-- each live key that these ranges cover is deleted by one of the versions
+abbrev pub AreGone : Viewed → List Version → List (Bor KeyRange) → Type 0
+AreGone v ws rs = (k : List ℕ) → covers rs k ≡ true → is_some (value_at v.versions v.place k) ≡ true → is_gone ws k ≡ true
 
 -- ---- the operations that run
 

@@ -9,13 +9,12 @@ ghost use Rattle.kv_model.specs.Txns.{Touch};
 ghost use Rattle.kv_model.specs.Txns as txns;
 ghost use Rattle.range_view.specs.Replies.{kv_view};
 ghost use Rattle.txn_core.specs.Emptied.{AreEmptied, PutsNone, put_from, put_keys};
-ghost use Rattle.txn_core.specs.Swept as spans;
+ghost use Rattle.swept_ranges.specs.Swept as spans;
 ghost use Rattle.txn_core.specs.Touching.{count_touched, keys_put};
 ghost use Rattle.txn_core.specs.Views.{touch_view, keys_view, AreSorted};
 
 use crate::keys::{count_within, sorted_keys};
 use crate::reply::place_before;
-use crate::swept;
 use crate::touched::Touched;
 use bytes::Bytes;
 use kv_model::version::{Body, KeyRange, Version};
@@ -59,7 +58,7 @@ pub(crate) fn live_left<'a, 't>(
     ensures { IfOk result (λ kvs. map kv_view kvs.items
         ≡ live view.now.versions view.now.place range.now) }
 {
-    let kvs = swept::live_beside(alloc, view, &emptied.ranges, range)?;
+    let kvs = swept_ranges::live_beside(alloc, view, &emptied.ranges, range)?;
     Ok(kvs)
 }
 
@@ -92,7 +91,7 @@ pub(crate) fn settle<'a, 't>(
     if !is_free(emptied, range) {
         return Ok(());
     }
-    swept::add(&mut emptied.ranges, range)?;
+    swept_ranges::add(&mut emptied.ranges, range)?;
     Ok(())
 }
 

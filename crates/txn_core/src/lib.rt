@@ -40,8 +40,6 @@ mod planning;
 mod put;
 mod reply;
 pub mod step;
-mod stretch;
-mod swept;
 mod touched;
 
 pub use checking::check;

@@ -9,16 +9,14 @@ ghost use Rattle.kv_model.specs.Ranges as ranges;
 ghost use Rattle.kv_model.specs.Txns.{Path, path_of, static_fault, run_refusal, effect, added_by};
 ghost use Rattle.txn_core.specs.KeyWrites.{number_after, as_kept};
 ghost use Rattle.txn_core.specs.KeyWrites as writes;
-ghost use Rattle.txn_core.specs.Planning.{present};
+ghost use Rattle.txn_core.specs.Planning.{AreGone, present};
 ghost use Rattle.txn_core.specs.Planning as planning;
 ghost use Rattle.txn_core.specs.Steps.{step_view, steps_view};
-ghost use Rattle.txn_core.specs.Swept.{AreGone};
 
 use crate::changes::Changes;
 use crate::compare::all_hold;
 use crate::put::{held_refusal, number_after, version_put};
 use crate::step::{Plan, Step};
-use crate::swept;
 use kv_model::call::{DeleteRequest, Operation, PutRequest, RangeQuery, Txn};
 use kv_model::refusal::Refusal;
 use kv_model::version::KeyRange;
@@ -299,8 +297,8 @@ fn run_delete<'a, 't>(
         (ranges.keys_of (ranges.live view.now.versions view.now.place request.now.range))) }
     ensures emptied { OnOk result (AreGone view.now changes.new emptied.new.items) }
 {
-    let live = swept::live_beside(alloc, view, emptied, &request.range)?;
+    let live = swept_ranges::live_beside(alloc, view, emptied, &request.range)?;
     changes.delete(number_after(view.revision()), &live)?;
-    swept::add(emptied, &request.range)?;
+    swept_ranges::add(emptied, &request.range)?;
     Ok(())
 }

@@ -2,7 +2,7 @@
 use Rattle.std.proofs.Common.{map, subst}
 use Rattle.kv_model.specs.Ranges.{live}
 use Rattle.range_view.specs.Replies.{kv_view}
-use Rattle.txn_core.specs.Swept.{covers, AreBut}
+use Rattle.swept_ranges.specs.Swept.{covers, AreBut}
 use Rattle.txn_core.proofs.Staying.{but-none}
 use Rattle.txn_core.proofs.emptied.live_left.Goals as goal
 

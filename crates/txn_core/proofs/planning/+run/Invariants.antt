@@ -1,8 +1,7 @@
 use Rattle.std.proofs.Common.{◌≡◌, drop, map}
 use Rattle.kv_model.specs.Commands.{ops_view}
-use Rattle.txn_core.specs.Planning.{path_in, versions_made_in, refusal_in}
+use Rattle.txn_core.specs.Planning.{path_in, versions_made_in, refusal_in, AreGone}
 use Rattle.txn_core.specs.Steps.{in_row, step_view}
-use Rattle.txn_core.specs.Swept.{AreGone}
 use Rattle.txn_core.proofs.planning.+run.Given as goal
 
 -- the steps so far, and behind them the rest of the row, are the row; so are the versions made and the refusals; what is emptied is gone

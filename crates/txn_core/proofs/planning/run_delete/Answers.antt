@@ -3,8 +3,8 @@ use Rattle.std.proofs.Common.{◌≡◌, sym, ◌∙◌, ap, subst, map}
 use Rattle.kv_model.specs.Ranges.{keys_of, live}
 use Rattle.range_view.specs.Replies.{kv_view}
 use Rattle.txn_core.specs.KeyWrites.{number_after}
-use Rattle.txn_core.specs.Planning.{with_graves}
-use Rattle.txn_core.specs.Swept.{covers, AreBut, AreGone}
+use Rattle.txn_core.specs.Planning.{with_graves, AreGone}
+use Rattle.swept_ranges.specs.Swept.{covers, AreBut}
 use Rattle.txn_core.proofs.Buried.{graves-but, gone-more}
 use Rattle.txn_core.proofs.planning.run_delete.Goals as goal
 

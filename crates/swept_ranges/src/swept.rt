@@ -5,7 +5,8 @@ ghost use Rattle.kv_model.specs.declared.version.KeyRange.{KeyRange};
 ghost use Rattle.kv_model.specs.Keys.{in_range, key_le};
 ghost use Rattle.kv_model.specs.Ranges.{live};
 ghost use Rattle.range_view.specs.Replies.{kv_view};
-ghost use Rattle.txn_core.specs.Swept as spans;
+ghost use Rattle.swept_ranges.specs.Swept.{AreBut, covers, of_keys};
+ghost use Rattle.swept_ranges.specs.Walks as walks;
 
 use crate::stretch::{Stretch, is_below, range_of, stretch_of};
 use kv_model::version::KeyRange;
@@ -41,9 +42,9 @@ enum Walked<'t> {
 /// their first keys, and that is the order of their ends too. The error is want of memory.
 ///
 /// It halves, moves those behind its place, and drops each range once.
-pub(crate) fn add<'t>(swept: &mut Vec<&'t KeyRange>, range: &'t KeyRange) -> Result<(), AllocError>
-    ensures { OnOk result ((k : List ℕ) → spans.covers swept.new.items k ≡ true
-        → (spans.covers swept.old.items k || in_range range.now k) ≡ true) }
+pub fn add<'t>(swept: &mut Vec<&'t KeyRange>, range: &'t KeyRange) -> Result<(), AllocError>
+    ensures { OnOk result ((k : List ℕ) → covers swept.new.items k ≡ true
+        → (covers swept.old.items k || in_range range.now k) ≡ true) }
 {
     let Some(stretch) = stretch_of(range) else {
         return Ok(());
@@ -67,8 +68,8 @@ pub(crate) fn add<'t>(swept: &mut Vec<&'t KeyRange>, range: &'t KeyRange) -> Res
 
 /// Drops the ranges from a place on that end by an end.
 fn drop_within(swept: &mut Vec<&KeyRange>, place: usize, to: Option<&[u8]>)
-    ensures { (k : List ℕ) → spans.covers swept.new.items k ≡ true
-        → spans.covers swept.old.items k ≡ true }
+    ensures { (k : List ℕ) → covers swept.new.items k ≡ true
+        → covers swept.old.items k ≡ true }
 {
     while place < swept.len() && ends_by(swept[place], to) {
         swept.remove(place);
@@ -81,8 +82,8 @@ fn put_in<'t>(
     place: usize,
     range: &'t KeyRange,
 ) -> Result<(), AllocError>
-    ensures { OnOk result ((k : List ℕ) → spans.covers swept.new.items k ≡ true
-        → (spans.covers swept.old.items k || in_range range.now k) ≡ true) }
+    ensures { OnOk result ((k : List ℕ) → covers swept.new.items k ≡ true
+        → (covers swept.old.items k || in_range range.now k) ≡ true) }
 {
     let place = place.min(swept.len());
     swept.insert(place, range)?;
@@ -135,13 +136,13 @@ fn ends_by(range: &KeyRange, to: Option<&[u8]>) -> bool {
 /// `AllocError` comes where a list of keys or of what they hold found no memory. The keys of the
 /// range that no range covers are walked, live or not, each in time logarithmic in the versions, and
 /// beside it each range that the walk comes to, in time logarithmic in their number.
-pub(crate) fn live_beside<'a, 't>(
+pub fn live_beside<'a, 't>(
     alloc: Global,
     view: &View<'a>,
     swept: &[&'t KeyRange],
     range: &'t KeyRange,
 ) -> Result<Vec<KvRef<'a>>, AllocError>
-    ensures { IfOk result (λ kvs. spans.AreBut (spans.covers swept.now) (map kv_view kvs.items)
+    ensures { IfOk result (λ kvs. AreBut (covers swept.now) (map kv_view kvs.items)
         (live view.now.versions view.now.place range.now)) }
 {
     match stretch_of(range) {
@@ -158,8 +159,8 @@ fn walk<'a, 't>(
     range: &'t KeyRange,
     whole: &Stretch<'t>,
 ) -> Result<Vec<KvRef<'a>>, AllocError>
-    requires { (k : List ℕ) → spans.has whole.now k ≡ in_range range.now k }
-    ensures { IfOk result (λ kvs. spans.AreBut (spans.covers swept.now) (map kv_view kvs.items)
+    requires { (k : List ℕ) → walks.has whole.now k ≡ in_range range.now k }
+    ensures { IfOk result (λ kvs. AreBut (covers swept.now) (map kv_view kvs.items)
         (live view.now.versions view.now.place range.now)) }
 {
     let mut kvs = Vec::new(alloc);
@@ -184,11 +185,11 @@ fn step<'a, 't>(
     from: &'t [u8],
     kvs: &mut Vec<KvRef<'a>>,
 ) -> Result<Walked<'t>, AllocError>
-    requires whole { (k : List ℕ) → spans.has whole.now k ≡ in_range range.now k }
+    requires whole { (k : List ℕ) → walks.has whole.now k ≡ in_range range.now k }
     requires from { key_le whole.now.from.now from.now ≡ true }
-    requires so_far { spans.AreButFrom (spans.covers swept.now) from.now
+    requires so_far { walks.AreButFrom (covers swept.now) from.now
         (map kv_view kvs.old.items) (live view.now.versions view.now.place range.now) }
-    ensures { IfOk result (λ w. spans.IsWalked (spans.covers swept.now) whole.now.from.now
+    ensures { IfOk result (λ w. walks.IsWalked (covers swept.now) whole.now.from.now
         (map kv_view kvs.new.items) (live view.now.versions view.now.place range.now) w) }
 {
     match look_ahead(swept, from) {
@@ -220,9 +221,9 @@ fn push_live<'a>(
     kvs: &mut Vec<KvRef<'a>>,
 ) -> Result<bool, AllocError>
     ensures { IfOk result (λ b. b ≡ true → (r : KeyRange) (g : List ℕ → Bool)
-        → ((k : List ℕ) → spans.has stretch.now k ≡ (in_range r k && g k))
+        → ((k : List ℕ) → walks.has stretch.now k ≡ (in_range r k && g k))
         → map kv_view kvs.new.items ≡ map kv_view kvs.old.items
-        ++ spans.of_keys g (live view.now.versions view.now.place r)) }
+        ++ of_keys g (live view.now.versions view.now.place r)) }
 {
     let Some(range) = range_of(alloc, stretch)? else {
         return Ok(false);
@@ -234,7 +235,7 @@ fn push_live<'a>(
 
 /// What lies ahead from a key on.
 fn look_ahead<'t>(swept: &[&'t KeyRange], from: &[u8]) -> Ahead<'t>
-    ensures { spans.IsAhead (spans.covers swept.now) from.now result }
+    ensures { walks.IsAhead (covers swept.now) from.now result }
 {
     let place = begun(swept, from);
     if place > 0 {
@@ -251,7 +252,7 @@ fn look_ahead<'t>(swept: &[&'t KeyRange], from: &[u8]) -> Ahead<'t>
 
 /// A gap up to a key, where that is not below another.
 fn gap_to<'t>(to: &'t [u8], from: &[u8]) -> Ahead<'t>
-    ensures { (c : List ℕ → Bool) → spans.IsAhead c from.now result }
+    ensures { (c : List ℕ → Bool) → walks.IsAhead c from.now result }
 {
     if from.cmp(to).is_le() {
         Ahead::Gap(to)
@@ -262,7 +263,7 @@ fn gap_to<'t>(to: &'t [u8], from: &[u8]) -> Ahead<'t>
 
 /// What a range covers from a key on.
 fn covering<'t>(range: &'t KeyRange, from: &[u8]) -> Ahead<'t>
-    ensures { spans.IsAhead (in_range range.now) from.now result }
+    ensures { walks.IsAhead (in_range range.now) from.now result }
 {
     let Some(stretch) = stretch_of(range) else {
         return Ahead::Open;
@@ -275,7 +276,7 @@ fn covering<'t>(range: &'t KeyRange, from: &[u8]) -> Ahead<'t>
 
 /// What a range covers that goes on to an end, from a key that it has.
 fn covered_up_to(to: Option<&[u8]>) -> Ahead<'_>
-    ensures { result ≡ spans.covered_up_to to.entry }
+    ensures { result ≡ walks.covered_up_to to.entry }
 {
     match to {
         Some(to) => Ahead::Until(to),

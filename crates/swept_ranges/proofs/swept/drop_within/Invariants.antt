@@ -1,6 +1,6 @@
 use Rattle.std.proofs.Common.{◌≡◌, ℕ, List, true, length}
-use Rattle.txn_core.specs.Swept.{covers}
-use Rattle.txn_core.proofs.swept.drop_within.Given as goal
+use Rattle.swept_ranges.specs.Swept.{covers}
+use Rattle.swept_ranges.proofs.swept.drop_within.Given as goal
 
 -- what is left covers no more
 abbrev pub invariant-loop-swept : goal.invariant-loop-swept

@@ -2,8 +2,9 @@ use Rattle.std.proofs.Common.{◌≡◌, true, map}
 use Rattle.kv_model.specs.Keys.{key_le}
 use Rattle.kv_model.specs.Ranges.{live}
 use Rattle.range_view.specs.Replies.{kv_view}
-use Rattle.txn_core.specs.Swept.{covers, AreButFrom}
-use Rattle.txn_core.proofs.swept.walk.Given as goal
+use Rattle.swept_ranges.specs.Swept.{covers}
+use Rattle.swept_ranges.specs.Walks.{AreButFrom}
+use Rattle.swept_ranges.proofs.swept.walk.Given as goal
 
 -- the walk has come to a key, and what it has taken lacks only what is covered before that
 abbrev pub invariant-loop : goal.invariant-loop

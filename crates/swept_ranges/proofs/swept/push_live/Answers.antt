@@ -2,8 +2,8 @@
 use Rattle.std.proofs.Common.{◌∙◌, ap, map, ◌++◌}
 use Rattle.std.proofs.lemmas.List.{map-append}
 use Rattle.range_view.specs.Replies.{kv_view}
-use Rattle.txn_core.proofs.Sweeping.{live-within}
-use Rattle.txn_core.proofs.swept.push_live.Goals as goal
+use Rattle.swept_ranges.proofs.Sweeping.{live-within}
+use Rattle.swept_ranges.proofs.swept.push_live.Goals as goal
 
 pub returns : goal.returns
 returns c = λ yes r g h.

@@ -20,8 +20,9 @@ use Rattle.store_laws.proofs.BatchLaws.{filter-none}
 use Rattle.store_laws.proofs.DeleteLaws.{value_at-key}
 use Rattle.store_laws.proofs.KeyLaws.{IsAscending, AllAbove}
 use Rattle.store_laws.proofs.PlaceLaws.{each-map}
-use Rattle.txn_core.specs.declared.stretch.Stretch.{Stretch}
-use Rattle.txn_core.specs.Swept.{has, is_below, covered_up_to, IsAhead, of_keys, AreBut, AreButFrom}
+use Rattle.swept_ranges.specs.declared.stretch.Stretch.{Stretch}
+use Rattle.swept_ranges.specs.Swept.{of_keys, AreBut}
+use Rattle.swept_ranges.specs.Walks.{has, is_below, covered_up_to, IsAhead, AreButFrom}
 
 -- ---- the order of keys
 

@@ -4,9 +4,10 @@ use Rattle.std.specs.Ordering.{is_le}
 use Rattle.kv_model.specs.Ranges.{live}
 use Rattle.range_view.specs.Replies.{kv_view}
 use Rattle.store_laws.proofs.KeyLaws.{cmp-refl}
-use Rattle.txn_core.specs.Swept.{covers, AreButFrom}
-use Rattle.txn_core.proofs.Sweeping.{begins}
-use Rattle.txn_core.proofs.swept.walk.Goals as goal
+use Rattle.swept_ranges.specs.Swept.{covers}
+use Rattle.swept_ranges.specs.Walks.{AreButFrom}
+use Rattle.swept_ranges.proofs.Sweeping.{begins}
+use Rattle.swept_ranges.proofs.swept.walk.Goals as goal
 
 pub loop-init : goal.loop-init
 loop-init c =

@@ -1,9 +1,9 @@
 -- With one range more, what is covered lies in that, or was covered.
 use Rattle.std.proofs.Common.{ap, sym, ◌∙◌}
 use Rattle.kv_model.specs.Keys.{in_range}
-use Rattle.txn_core.specs.Swept.{covers}
-use Rattle.txn_core.proofs.Sweeping.{any-inserted}
-use Rattle.txn_core.proofs.swept.put_in.Goals as goal
+use Rattle.swept_ranges.specs.Swept.{covers}
+use Rattle.swept_ranges.proofs.Sweeping.{any-inserted}
+use Rattle.swept_ranges.proofs.swept.put_in.Goals as goal
 
 pub returns : goal.returns
 returns c = λ k h. any-inserted (λ r. in_range r.now k) c.args.range c.min-place.result c.args.swept.now.items

@@ -2,7 +2,7 @@
 ghost use Rattle.std.specs.Prelude.{◌≡◌, ℕ, List, MatchOption, IfOk, ⊤};
 ghost use Rattle.std.specs.Prelude.{◌&&◌};
 ghost use Rattle.kv_model.specs.Keys.{in_range, same_key, zero_byte, key_le, key_lt};
-ghost use Rattle.txn_core.specs.Swept as spans;
+ghost use Rattle.swept_ranges.specs.Walks as walks;
 
 use bytes::Bytes;
 use kv_model::span::Span;
@@ -18,7 +18,7 @@ pub(crate) struct Stretch<'t> {
 
 /// The stretch that a range is; `None` where it is one key.
 pub(crate) fn stretch_of(range: &KeyRange) -> Option<Stretch<'_>>
-    ensures { MatchOption result ⊤ (λ s. (k : List ℕ) → spans.has s k ≡ in_range range.now k) }
+    ensures { MatchOption result ⊤ (λ s. (k : List ℕ) → walks.has s k ≡ in_range range.now k) }
 {
     match range.span() {
         Span::Key(_) => None,
@@ -39,7 +39,7 @@ pub(crate) fn stretch_of(range: &KeyRange) -> Option<Stretch<'_>>
 
 /// Whether a key comes before an end, if there is one.
 pub(crate) fn is_below(to: Option<&[u8]>, key: &[u8]) -> bool
-    ensures { result ≡ spans.is_below to.entry key.now }
+    ensures { result ≡ walks.is_below to.entry key.now }
 {
     match to {
         None => true,
@@ -51,7 +51,7 @@ pub(crate) fn is_below(to: Option<&[u8]>, key: &[u8]) -> bool
 /// in a range. The error is want of memory.
 pub(crate) fn range_of(alloc: Global, stretch: &Stretch<'_>) -> Result<Option<KeyRange>, AllocError>
     ensures { IfOk result (λ o. MatchOption o ⊤ (λ r.
-        (k : List ℕ) → in_range r k ≡ spans.has stretch.now k)) }
+        (k : List ℕ) → in_range r k ≡ walks.has stretch.now k)) }
 {
     match stretch.to {
         Some(to) => interval(alloc, stretch.from, to),

@@ -5,9 +5,10 @@ use Rattle.kv_model.specs.Keys.{key_le, key_lt}
 use Rattle.kv_model.specs.Ranges.{live}
 use Rattle.range_view.specs.Replies.{kv_view}
 use Rattle.store_laws.proofs.DeleteLaws.{live-ascends}
-use Rattle.txn_core.specs.Swept.{covers, of_keys, AreBut, AreButFrom}
-use Rattle.txn_core.proofs.Sweeping.{le-trans, past-all, past-until, through-gap, to-end, part-gap, part-rest}
-use Rattle.txn_core.proofs.swept.step.Goals as goal
+use Rattle.swept_ranges.specs.Swept.{covers, of_keys, AreBut}
+use Rattle.swept_ranges.specs.Walks.{AreButFrom}
+use Rattle.swept_ranges.proofs.Sweeping.{le-trans, past-all, past-until, through-gap, to-end, part-gap, part-rest}
+use Rattle.swept_ranges.proofs.swept.step.Goals as goal
 
 pub returns-in-Covered : goal.returns-in-Covered
 returns-in-Covered c =

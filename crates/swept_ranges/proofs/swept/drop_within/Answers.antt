@@ -1,9 +1,9 @@
 -- A range that goes covers nothing.
 use Rattle.std.proofs.Common.{ap, sym, ◌∙◌}
 use Rattle.kv_model.specs.Keys.{in_range}
-use Rattle.txn_core.specs.Swept.{covers}
-use Rattle.txn_core.proofs.Sweeping.{any-removed}
-use Rattle.txn_core.proofs.swept.drop_within.Goals as goal
+use Rattle.swept_ranges.specs.Swept.{covers}
+use Rattle.swept_ranges.proofs.Sweeping.{any-removed}
+use Rattle.swept_ranges.proofs.swept.drop_within.Goals as goal
 
 pub loop-swept-preserved : goal.loop-swept-preserved
 loop-swept-preserved c = λ k h. c.loop-swept.invariant k
