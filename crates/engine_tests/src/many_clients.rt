@@ -137,7 +137,7 @@ where
 }
 
 /// What all of some threads hand back.
-pub(super) fn joined<T: Send, R: Wait>(
+pub(super) fn joined<T: Drop + Send, R: Threads>(
     rt: &R,
     alloc: Global,
     handles: Vec<JoinHandle<T>>,

@@ -34,7 +34,7 @@ pub struct RangeReply<'a> {
 }
 
 /// What an operation of a transaction is answered (the etcd documentation's ResponseOp).
-#[derive(Debug, Drop)]
+#[derive(Drop)]
 pub enum OpReply<'a> {
     Range(RangeReply<'a>),
     /// What the key held before the put; `None` where that is not asked for.

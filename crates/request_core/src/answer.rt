@@ -9,7 +9,7 @@ use range_view::reply::{KvRef, OpReply, RangeReply};
 use txn_core::step::Step;
 
 /// What an accepted command did, and what is left to read for its answer.
-#[derive(Debug, Drop)]
+#[derive(Drop)]
 pub struct Receipt<'c> {
     /// The number of changing calls, wrapping, when the command was done.
     pub stamp: u64,
@@ -34,7 +34,7 @@ impl Receipt<'_> {
 }
 
 /// What is left to read for an answer.
-#[derive(Debug, Drop)]
+#[derive(Drop)]
 pub enum Todo<'c> {
     /// The live keys of a range.
     Range(&'c RangeQuery),
@@ -113,7 +113,7 @@ impl Todo<'_> {
 }
 
 /// The answer to a command, which lends from the core (the etcd documentation's API reference).
-#[derive(Debug, Drop)]
+#[derive(Drop)]
 pub enum Answer<'a> {
     Range(RangeReply<'a>),
     Put {

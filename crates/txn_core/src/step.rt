@@ -3,7 +3,7 @@ use kv_model::call::{DeleteRequest, PutRequest, RangeQuery};
 use kv_model::version::Version;
 
 /// An operation that runs, in the order of the document (the etcd documentation's RequestOp).
-#[derive(Debug, Drop)]
+#[derive(Drop)]
 pub enum Step<'t> {
     Range(&'t RangeQuery),
     Put(&'t PutRequest),
@@ -18,7 +18,7 @@ pub enum Step<'t> {
 }
 
 /// What a transaction does.
-#[derive(Debug, Drop)]
+#[derive(Drop)]
 pub struct Plan<'t> {
     /// Whether all its compares hold.
     pub succeeded: bool,
