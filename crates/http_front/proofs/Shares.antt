@@ -9,7 +9,7 @@ use Rattle.engine_lock.specs.Locked.{Caller}
 use Rattle.http_loop.specs.declared.answering.Told.{Told}
 use Rattle.http_loop.specs.declared.answering.Told.TheVariants as told
 use Rattle.http_loop.specs.Answered.{AreMessages, Conn, IsAnswered, IsStream, IsStreamOf, IsTold, streamed}
-use Rattle.http_loop.specs.Turned.{NotBegun, Serves}
+use Rattle.http_loop.specs.Turned.{NotBegun, Serves, progress}
 use Rattle.kv_model.specs.declared.call.Command.{Command}
 use Rattle.engine_lock.specs.declared.engine.Submitted.{Submitted}
 use Rattle.http_front.specs.Engines.{Answers, AreTrimmed, Awaits, Begins, Does, Finishes, Looks, Starts, Submits, Tells}
@@ -113,7 +113,7 @@ module _ (ids : Ids) where
   conns s t bytes _ out _ (Conn.broken {f} l a left x is) = answered s t a out (Err f) is
 
   pub never_falls : (left : Option (List ℕ)) (p : List ℕ) (limit : ℕ) (c c' : Option (List ℕ)) (s t : Caller) (r : Result ℕ Front)
-      → NotBegun s t c c' r ⊎ Serves Caller Is left p limit c c' s t r → s.made ≤ t.made
+      → NotBegun s t c c' r ⊎ Serves Caller Is limit (progress s left p c) c' t r → s.made ≤ t.made
   never_falls left p limit c c' s t r (inl none) = let e = ap (λ (c : Caller). c.made) none.same in omega (arith, e)
   never_falls None p limit c c' s t r (inr all) = conns s t _ limit all.1.out r all.1.are
   never_falls (Some left) p limit c c' s t r (inr all) = conns s t _ limit all.out r all.are

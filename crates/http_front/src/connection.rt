@@ -5,7 +5,7 @@ ghost use Rattle.http_reply.specs.Counts.{failures_of, inner_of};
 ghost use Rattle.http_reply.specs.Sends.{failures_after};
 ghost use Rattle.http_loop.specs.Answered.{IsAnswered};
 ghost use Rattle.http_loop.specs.Texts.{IsOfConnection};
-ghost use Rattle.http_loop.specs.Turned.{NotBegun, Serves};
+ghost use Rattle.http_loop.specs.Turned.{NotBegun, Serves, progress};
 ghost use Rattle.engine_lock.specs.Locked.{Caller};
 ghost use Rattle.http_front.specs.Engines.{Answers, Finishes, Tells};
 
@@ -61,9 +61,9 @@ where
     ensures serves { NotBegun client.old client.new
         (Out.contents (inner_of w.old)) (Out.contents (inner_of w.new)) result
         ⊎ Serves Caller (IsAnswered Caller (Answers engine.now) (Tells engine.now) Finishes)
-        (In.remaining (inner_of r.old)) [] 18446744073709551615
-        (Out.contents (inner_of w.old)) (Out.contents (inner_of w.new))
-        client.old client.new result }
+        18446744073709551615
+        (progress client.old (In.remaining (inner_of r.old)) [] (Out.contents (inner_of w.old)))
+        (Out.contents (inner_of w.new)) client.new result }
     ensures share { client.old.made ≤ client.new.made }
     ensures reader { failures_of r.new ≡ failures_after_read result (failures_of r.old) }
     ensures writer { failures_of w.new ≡ failures_after result (failures_of w.old) }

@@ -9,7 +9,7 @@ use Rattle.http_loop.specs.declared.writing.Turn.{Turn}
 use Rattle.http_loop.specs.declared.writing.Turn.TheVariants as turn
 use Rattle.http_loop.specs.Answered.{Conn}
 use Rattle.http_loop.specs.Texts.{Grows, replies_more}
-use Rattle.http_loop.specs.Turned.{Begins, Ends, Gave, MayHaveAfter, NotBegun, Serves, SoFar, Turned, Turns}
+use Rattle.http_loop.specs.Turned.{Begins, Ends, Gave, MayHaveAfter, NotBegun, Serves, SoFar, Turned, Turns, progress}
 use Rattle.http_loop.proofs.Texts.{by_both, by_none, seen_as, wrote_none}
 
 -- ---- numbers of replies
@@ -103,24 +103,24 @@ module _ (S : Type 0) (Is : S → Asked → List ℕ → S → Result Bool Front
 
   -- ---- the same, by what the reader gives
 
-  pub start : (a c : Option (List ℕ)) (s : S) (p : List ℕ) → SoFar S Is a a p p 0 c c s s
+  pub start : (a c : Option (List ℕ)) (s : S) (p : List ℕ) → SoFar S Is 0 (progress s a p c) (progress s a p c)
   start a c s p = record {
     came = [];
     gave = gave_none a;
     begun = by_none c (λ out. (later : List ℕ) → MayHave a later → Begins S Is s (p ++ later) 0 (p ++ later) s out) (λ later m. begins_none s (p ++ later));
   }
 
-  module _ (a b : Option (List ℕ)) (p q : List ℕ) (n : ℕ) (c c' : Option (List ℕ)) (s t : S) (f : SoFar S Is a b p q n c c' s t) where
+  module _ (a b : Option (List ℕ)) (p q : List ℕ) (n : ℕ) (c c' : Option (List ℕ)) (s t : S) (f : SoFar S Is n (progress s a p c) (progress t b q c')) where
     -- as far as it is known, the whole is what came and these
     over : (most : ℕ) (c'' : Option (List ℕ)) (u : S) (r : Result ℕ Front) (later : List ℕ) → GaveAll a (f.came ++ later)
-        → Grows c c'' (λ out. Conn S Is s (p ++ (f.came ++ later)) most out u r) → Serves S Is a p most c c'' s u r
+        → Grows c c'' (λ out. Conn S Is s (p ++ (f.came ++ later)) most out u r) → Serves S Is most (progress s a p c) c'' u r
     over most c'' u r later e g = by a e
       where
-        by : (a : Option (List ℕ)) → GaveAll a (f.came ++ later) → Serves S Is a p most c c'' s u r
+        by : (a : Option (List ℕ)) → GaveAll a (f.came ++ later) → Serves S Is most (progress s a p c) c'' u r
         by None e = (f.came ++ later, g)
         by (Some xs) e = subst (λ (ys : List ℕ). Grows c c'' (λ out. Conn S Is s (p ++ ys) most out u r)) e g
 
-    pub at_limit : (most : ℕ) → n ≤ most → most ≤ n → Serves S Is a p most c c' s t (Ok n)
+    pub at_limit : (most : ℕ) → n ≤ most → most ≤ n → Serves S Is most (progress s a p c) c' t (Ok n)
     at_limit most l m = over most c' t (Ok n) (rest_of b) (gave_all a b f.came f.gave)
         (seen_as c c' (λ out. (later : List ℕ) → MayHave b later → Begins S Is s (p ++ (f.came ++ later)) n (q ++ later) t out)
         (λ out. Conn S Is s (p ++ (f.came ++ rest_of b)) most out t (Ok n))
@@ -128,10 +128,10 @@ module _ (S : Type 0) (Is : S → Asked → List ℕ → S → Result Bool Front
 
     module _ (d : Option (List ℕ)) (o : List ℕ) (c'' : Option (List ℕ)) (u : S) where
       -- one turn more
-      pub on : (x : Turn) → x ≡ turn.More → Turns S Is b d q o c' c'' t u (Ok x) → SoFar S Is a d p o (n + 1) c c'' s u
-      on x e k = by (subst (λ (x : Turn). Turns S Is b d q o c' c'' t u (Ok x)) e k)
+      pub on : (x : Turn) → x ≡ turn.More → Turns S Is (progress t b q c') (progress u d o c'') (Ok x) → SoFar S Is (n + 1) (progress s a p c) (progress u d o c'')
+      on x e k = by (subst (λ (x : Turn). Turns S Is (progress t b q c') (progress u d o c'') (Ok x)) e k)
         where
-          by : Turns S Is b d q o c' c'' t u (Ok turn.More) → SoFar S Is a d p o (n + 1) c c'' s u
+          by : Turns S Is (progress t b q c') (progress u d o c'') (Ok turn.More) → SoFar S Is (n + 1) (progress s a p c) (progress u d o c'')
           by k = record {
             came = f.came ++ k.came;
             gave = gave_more a b d f.came k.came f.gave k.gave;
@@ -146,7 +146,7 @@ module _ (S : Type 0) (Is : S → Asked → List ℕ → S → Result Bool Front
       -- a turn that ends it
       stop : (most : ℕ) (x : Result Turn Front) (r r' : Result ℕ Front) → n < most → replies_more n r ≡ r'
           → ((bytes left : List ℕ) (y : List ℕ) → Turned S Is t bytes left u x y → Ends S Is t bytes u r y)
-          → Turns S Is b d q o c' c'' t u x → Serves S Is a p most c c'' s u r'
+          → Turns S Is (progress t b q c') (progress u d o c'') x → Serves S Is most (progress s a p c) c'' u r'
       stop most x r r' l e is k =
           let later = rest_of d in
           let may = may_more b d k.came later k.gave (may_rest d) in
@@ -157,20 +157,20 @@ module _ (S : Type 0) (Is : S → Asked → List ℕ → S → Result Bool Front
           (λ y z h i. ends_with s (p ++ (f.came ++ (k.came ++ later))) (q ++ (k.came ++ later)) n t y (h (k.came ++ later) may) most u r r' z l e
           (is (q ++ (k.came ++ later)) (o ++ later) z (i later (may_end d x)))) f.begun k.turned)
 
-      pub last : (most : ℕ) (x : Turn) → x ≡ turn.Last → n < most → Turns S Is b d q o c' c'' t u (Ok x) → Serves S Is a p most c c'' s u (Ok (n + 1))
+      pub last : (most : ℕ) (x : Turn) → x ≡ turn.Last → n < most → Turns S Is (progress t b q c') (progress u d o c'') (Ok x) → Serves S Is most (progress s a p c) c'' u (Ok (n + 1))
       last most x e l = stop most (Ok x) (Ok 1) (Ok (n + 1)) l refl (λ bytes left y h. subst (λ (x : Turn). Turned S Is t bytes left u (Ok x) y) e h)
 
-      pub end : (most : ℕ) (x : Turn) → x ≡ turn.End → n < most → Turns S Is b d q o c' c'' t u (Ok x) → Serves S Is a p most c c'' s u (Ok n)
+      pub end : (most : ℕ) (x : Turn) → x ≡ turn.End → n < most → Turns S Is (progress t b q c') (progress u d o c'') (Ok x) → Serves S Is most (progress s a p c) c'' u (Ok n)
       end most x e l = stop most (Ok x) (Ok 0) (Ok n) l (ap Ok (omega arith)) (λ bytes left y h. subst (λ (x : Turn). Turned S Is t bytes left u (Ok x) y) e h)
 
-      pub failed : (most : ℕ) (x : Front) → n < most → Turns S Is b d q o c' c'' t u (Err x) → Serves S Is a p most c c'' s u (Err x)
+      pub failed : (most : ℕ) (x : Front) → n < most → Turns S Is (progress t b q c') (progress u d o c'') (Err x) → Serves S Is most (progress s a p c) c'' u (Err x)
       failed most x l = stop most (Err x) (Err x) (Err x) l refl (λ bytes left y h. h)
 
   -- ---- the buffers
 
   pub begun : (X : Type 0) (a : Option (List ℕ)) (p : List ℕ) (most : ℕ) (c c' : Option (List ℕ)) (s t : S) (r : Result ℕ Front)
-      → p ≡ [] → Serves S Is a p most c c' s t r → X ⊎ Serves S Is a [] most c c' s t r
-  begun X a p most c c' s t r e h = inr (subst (λ (p : List ℕ). Serves S Is a p most c c' s t r) e h)
+      → p ≡ [] → Serves S Is most (progress s a p c) c' t r → X ⊎ Serves S Is most (progress s a [] c) c' t r
+  begun X a p most c c' s t r e h = inr (subst (λ (p : List ℕ). Serves S Is most (progress s a p c) c' t r) e h)
 
 pub not_begun : (X S : Type 0) (s : S) (c : Option (List ℕ)) → NotBegun s s c c (Err front.Memory) ⊎ X
 not_begun X S s c = inl (record { memory = refl; same = refl; wrote = wrote_none c })

@@ -16,7 +16,7 @@ use Rattle.http_loop.specs.declared.writing.Turn.{Turn}
 use Rattle.http_loop.specs.declared.writing.Turn.TheVariants as turn
 use Rattle.http_loop.specs.Answered.{Conn}
 use Rattle.http_loop.specs.Texts.{Declines, Grows, IsSent, end_of, front_of, turn_of}
-use Rattle.http_loop.specs.Turned.{Ends, Gave, MayHaveAfter, Turned, Turns}
+use Rattle.http_loop.specs.Turned.{Ends, Gave, MayHaveAfter, Turned, Turns, progress}
 use Rattle.http_loop.proofs.Texts.{by_none, seen_as, silent}
 
 -- ---- what was read
@@ -65,9 +65,9 @@ module _ (S : Type 0) (Is : S → Asked → List ℕ → S → Result Bool Front
   -- a request was read: the bytes begin with it
   module _ (q' : List ℕ) (x : Head) (o : Option Head) (e : o ≡ Some x) (h : Came left' q (Ok o))
       (skipped : q' ≡ drop (x.len + x.body) q) (a : Asked) (is : a ≡ asked_of q x) (c c' : Option (List ℕ)) where
-    pub asked : (r : Result Bool Front) (y : Result Turn Front) → y ≡ turn_of r → Grows c c' (λ out. Is s a out t r) → Turns S Is left left' p q' c c' s t y
-    asked r y f g = subst (λ (y : Result Turn Front). Turns S Is left left' p q' c c' s t y) (sym f)
-        (subst (λ (k : List ℕ). Turns S Is left left' p k c c' s t (turn_of r)) (sym skipped)
+    pub asked : (r : Result Bool Front) (y : Result Turn Front) → y ≡ turn_of r → Grows c c' (λ out. Is s a out t r) → Turns S Is (progress s left p c) (progress t left' q' c') y
+    asked r y f g = subst (λ (y : Result Turn Front). Turns S Is (progress s left p c) (progress t left' q' c') y) (sym f)
+        (subst (λ (k : List ℕ). Turns S Is (progress s left p c) (progress t left' k c') (turn_of r)) (sym skipped)
         (record {
           came = k.more;
           gave = gave left left' p q k took;
@@ -88,7 +88,7 @@ module _ (S : Type 0) (Is : S → Asked → List ℕ → S → Result Bool Front
         one bytes rest h (Err f) out i = λ l. Conn.broken l (asked_of q x) (drop (x.len + x.body) q ++ rest) h.1 i
 
   -- the input has ended
-  pub ended : (c : Option (List ℕ)) (o : Option Head) → o ≡ None → Came left' q (Ok o) → Turns S Is left left' p q c c s s (Ok turn.End)
+  pub ended : (c : Option (List ℕ)) (o : Option Head) → o ≡ None → Came left' q (Ok o) → Turns S Is (progress s left p c) (progress s left' q c) (Ok turn.End)
   ended c o e h = record {
     came = k.more;
     gave = gave left left' p q k took;
@@ -139,7 +139,7 @@ module _ (S : Type 0) (Is : S → Asked → List ℕ → S → Result Bool Front
     no_request front.Accept h d = absurd h
     no_request front.Unclosed h d = absurd h
 
-    pub declined : (x : Front) → Came left' q (Err x) → Declines x c c' m m' end → Turns S Is left left' p q c c' s s (Err end)
+    pub declined : (x : Front) → Came left' q (Err x) → Declines x c c' m m' end → Turns S Is (progress s left p c) (progress s left' q c') (Err end)
     declined x h d = record {
       came = k.more;
       gave = gave left left' p q k took;

@@ -20,7 +20,7 @@ use Rattle.http_loop.specs.Answered as any
 use Rattle.http_loop.specs.Answered.{IsTold, most_messages, streamed}
 use Rattle.http_loop.specs.Connections.{AreMessages, IsAnswered, IsOutcome, Standing, dropped, event_of, path_asked, with_world}
 use Rattle.http_loop.specs.Turned as turns
-use Rattle.http_loop.specs.Turned.{NotBegun}
+use Rattle.http_loop.specs.Turned.{NotBegun, progress}
 use Rattle.http_loop.proofs.Rests as rests
 use Rattle.http_loop.proofs.Rests.{less_at, quiet_at, rest_most}
 
@@ -121,9 +121,9 @@ conns old new bytes _ out _ (any.Conn.broken {f} l a left x is) s h =
     let d = answered old new a out (Err f) is s h in record { after = d.after; stands = d.stands; is = any.Conn.broken l a left x d.is }
 
 pub serves : (left : Option (List ℕ)) (p : List ℕ) (limit : ℕ) (c c' : Option (List ℕ)) (old new : CoreState) (r : Result ℕ Front)
-    → NotBegun old new c c' r ⊎ turns.Serves CoreState (any.IsAnswered CoreState Answers Tells Finishes) left p limit c c' old new r
+    → NotBegun old new c c' r ⊎ turns.Serves CoreState (any.IsAnswered CoreState Answers Tells Finishes) limit (progress old left p c) c' new r
     → (s : Standing) → Stands old s
-    → NotBegun old new c c' r ⊎ Leaves new (λ t. turns.Serves Standing (IsAnswered ids_alone) left p limit c c' s t r)
+    → NotBegun old new c c' r ⊎ Leaves new (λ t. turns.Serves Standing (IsAnswered ids_alone) limit (progress s left p c) c' t r)
 serves left p limit c c' old new r (inl none) s h = inl none
 serves None p limit c c' old new r (inr (came, g)) s h =
     let m = conns old new (p ++ came) limit g.out r g.are s h in

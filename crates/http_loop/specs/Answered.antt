@@ -48,6 +48,7 @@ pub data IsStreamOf (S : Type 0) (Are : S → List ℕ → S → Result Bool Fro
   whole : {out : List ℕ} {t : S} {r : Result Bool Front} → Are s out t r
       → IsStreamOf S Are created s (stream_head ++ (chunk created ++ out)) t r
 
+-- the stream of the watch of a number, over whoever tells it
 abbrev pub IsStream : (S : Type 0) → (S → ℕ → Told → S → Type 0) → ℕ → List ℕ → S → List ℕ → S → Result Bool Front → Type 0
 IsStream S Tells n = IsStreamOf S (AreMessages S Tells n most_messages)
 

@@ -43,31 +43,46 @@ MayHaveAfter (Some left) r later = later ≡ left
 MayHaveAfter None (Ok turn.More) later = ⊤
 MayHaveAfter None r later = later ≡ []
 
--- ---- what was done with them: pending were read before and not used, pending' are so now, came were read, c is what the
--- writer is known to hold
+-- ---- how far a connection has come
 
-pub record Turns (S : Type 0) (Is : S → Asked → List ℕ → S → Result Bool Front → Type 0) (left left' : Option (List ℕ))
-    (pending pending' : List ℕ) (c c' : Option (List ℕ)) (s t : S) (r : Result Turn Front) : Type 0 where
+-- what stands behind it, what its reader still has, where it tells that, what was read and not used, and what its writer
+-- holds, where that is known
+pub record Progress (S : Type 0) : Type 0 where
+  pub state : S
+  pub left : Option (List ℕ)
+  pub pending : List ℕ
+  pub wrote : Option (List ℕ)
+
+abbrev pub progress : {S : Type 0} → S → Option (List ℕ) → List ℕ → Option (List ℕ) → Progress S
+progress s left pending wrote = record { state = s; left = left; pending = pending; wrote = wrote }
+
+-- one turn led from the one to the other, and ended so
+pub record Turns (S : Type 0) (Is : S → Asked → List ℕ → S → Result Bool Front → Type 0) (old new : Progress S)
+    (r : Result Turn Front) : Type 0 where
   pub came : List ℕ
-  pub gave : Gave left came left'
-  pub turned : Grows c c' (λ out. (later : List ℕ) → MayHaveAfter left' r later
-      → Turned S Is s (pending ++ (came ++ later)) (pending' ++ later) t r out)
+  pub gave : Gave old.left came new.left
+  pub turned : Grows old.wrote new.wrote (λ out. (later : List ℕ) → MayHaveAfter new.left r later
+      → Turned S Is old.state (old.pending ++ (came ++ later)) (new.pending ++ later) new.state r out)
 
--- n requests were answered so far
-pub record SoFar (S : Type 0) (Is : S → Asked → List ℕ → S → Result Bool Front → Type 0) (left left' : Option (List ℕ))
-    (pending pending' : List ℕ) (n : ℕ) (c c' : Option (List ℕ)) (s t : S) : Type 0 where
+-- n requests were answered from the one to the other
+pub record SoFar (S : Type 0) (Is : S → Asked → List ℕ → S → Result Bool Front → Type 0) (n : ℕ) (old new : Progress S)
+    : Type 0 where
   pub came : List ℕ
-  pub gave : Gave left came left'
-  pub begun : Grows c c' (λ out. (later : List ℕ) → MayHaveAfter left' (Ok turn.More) later
-      → Begins S Is s (pending ++ (came ++ later)) n (pending' ++ later) t out)
+  pub gave : Gave old.left came new.left
+  pub begun : Grows old.wrote new.wrote (λ out. (later : List ℕ) → MayHaveAfter new.left (Ok turn.More) later
+      → Begins S Is old.state (old.pending ++ (came ++ later)) n (new.pending ++ later) new.state out)
 
--- What is written is what the bytes are answered, and the result is the number of replies, or why there are no more. A
--- reader that does not tell its bytes gave some.
-abbrev pub Serves : (S : Type 0) → (S → Asked → List ℕ → S → Result Bool Front → Type 0) → Option (List ℕ) → List ℕ → ℕ
-    → Option (List ℕ) → Option (List ℕ) → S → S → Result ℕ Front → Type 0
-Serves S Is None pending limit c c' s t r =
-    (came : List ℕ) × Grows c c' (λ out. Conn S Is s (pending ++ came) limit out t r)
-Serves S Is (Some left) pending limit c c' s t r = Grows c c' (λ out. Conn S Is s (pending ++ left) limit out t r)
+-- so it is of what a reader gives: of what it has, where it tells that, and else of some bytes
+abbrev pub Given : Option (List ℕ) → (List ℕ → Type 0) → Type 0
+Given None So = (came : List ℕ) × So came
+Given (Some left) So = So left
+
+-- What is written from here on is what the bytes are answered, of so many requests at most; then t stands, and the
+-- result is the number of replies, or why there are no more.
+abbrev pub Serves : (S : Type 0) → (S → Asked → List ℕ → S → Result Bool Front → Type 0) → ℕ → Progress S
+    → Option (List ℕ) → S → Result ℕ Front → Type 0
+Serves S Is limit old wrote t r = Given old.left (λ came. Grows old.wrote wrote
+    (λ out. Conn S Is old.state (old.pending ++ came) limit out t r))
 
 -- no memory was found for the buffers, and nothing was done
 pub record NotBegun {S : Type 0} (old new : S) (c c' : Option (List ℕ)) (r : Result ℕ Front) : Type 0 where

@@ -6,7 +6,7 @@ ghost use Rattle.http_reply.specs.Sends.{failures_after};
 ghost use Rattle.http_loop.specs.Served as served;
 ghost use Rattle.http_loop.specs.Served.{Leaves, Stands, ids_alone};
 ghost use Rattle.http_loop.specs.Connections.{IsAnswered, Standing};
-ghost use Rattle.http_loop.specs.Turned.{NotBegun, Serves};
+ghost use Rattle.http_loop.specs.Turned.{NotBegun, Serves, progress};
 
 use crate::answering::{Answering, Told};
 use crate::serving::serve_all;
@@ -90,9 +90,9 @@ pub fn serve_alone<R: Read, W: Write>(
 ) -> Result<u64, Front>
     ensures serves { (s : Standing) → Stands core.old s
         → NotBegun core.old core.new (W.contents (inner_of w.old)) (W.contents (inner_of w.new)) result
-        ⊎ Leaves core.new (λ t. Serves Standing (IsAnswered ids_alone)
-        (R.remaining (inner_of r.old)) [] limit
-        (W.contents (inner_of w.old)) (W.contents (inner_of w.new)) s t result) }
+        ⊎ Leaves core.new (λ t. Serves Standing (IsAnswered ids_alone) limit
+        (progress s (R.remaining (inner_of r.old)) [] (W.contents (inner_of w.old)))
+        (W.contents (inner_of w.new)) t result) }
     ensures reads { failures_of r.new ≡ failures_after_read result (failures_of r.old) }
     ensures writes { failures_of w.new ≡ failures_after result (failures_of w.old) }
 {

@@ -5,7 +5,7 @@ ghost use Rattle.http_reply.specs.Counts.{failures_of, inner_of};
 ghost use Rattle.http_reply.specs.Sends.{failures_after};
 ghost use Rattle.http_loop.specs.Answered.{IsAnswered, IsTold, streamed};
 ghost use Rattle.http_loop.specs.Texts.{Grows, IsOfConnection, IsOfWriting};
-ghost use Rattle.http_loop.specs.Turned.{NotBegun, Serves, Turns};
+ghost use Rattle.http_loop.specs.Turned.{NotBegun, Serves, Turns, progress};
 
 use crate::answering::Answering;
 use crate::streaming::stream;
@@ -48,9 +48,9 @@ pub fn serve_all<S, A: Answering<S>, R: Read, W: Write>(
     limit: u64,
 ) -> Result<u64, Front>
     ensures serves { NotBegun state.old state.new (W.contents (inner_of w.old)) (W.contents (inner_of w.new)) result
-        ⊎ Serves S (IsAnswered S (A.Answers by.now) (A.Tells by.now) (A.Finishes by.now))
-        (R.remaining (inner_of r.old)) [] limit
-        (W.contents (inner_of w.old)) (W.contents (inner_of w.new)) state.old state.new result }
+        ⊎ Serves S (IsAnswered S (A.Answers by.now) (A.Tells by.now) (A.Finishes by.now)) limit
+        (progress state.old (R.remaining (inner_of r.old)) [] (W.contents (inner_of w.old)))
+        (W.contents (inner_of w.new)) state.new result }
     ensures ends { IfErr result IsOfConnection }
     ensures reads { failures_of r.new ≡ failures_after_read result (failures_of r.old) }
     ensures writes { failures_of w.new ≡ failures_after result (failures_of w.old) }
@@ -75,9 +75,9 @@ fn serve<S, A: Answering<S>, R: Read, W: Write>(
     w: &mut Counted<W>,
     limit: u64,
 ) -> Result<u64, Front>
-    ensures serves { Serves S (IsAnswered S (A.Answers by.now) (A.Tells by.now) (A.Finishes by.now))
-        (R.remaining (inner_of r.old)) input.old limit
-        (W.contents (inner_of w.old)) (W.contents (inner_of w.new)) state.old state.new result }
+    ensures serves { Serves S (IsAnswered S (A.Answers by.now) (A.Tells by.now) (A.Finishes by.now)) limit
+        (progress state.old (R.remaining (inner_of r.old)) input.old (W.contents (inner_of w.old)))
+        (W.contents (inner_of w.new)) state.new result }
     ensures ends { IfErr result IsOfConnection }
     ensures reads { failures_of r.new ≡ failures_after_read result (failures_of r.old) }
     ensures writes { failures_of w.new ≡ failures_after result (failures_of w.old) }
@@ -105,8 +105,8 @@ fn take_turn<S, A: Answering<S>, R: Read, W: Write>(
     w: &mut Counted<W>,
 ) -> Result<Turn, Front>
     ensures turns { Turns S (IsAnswered S (A.Answers by.now) (A.Tells by.now) (A.Finishes by.now))
-        (R.remaining (inner_of r.old)) (R.remaining (inner_of r.new)) input.old input.new
-        (W.contents (inner_of w.old)) (W.contents (inner_of w.new)) state.old state.new result }
+        (progress state.old (R.remaining (inner_of r.old)) input.old (W.contents (inner_of w.old)))
+        (progress state.new (R.remaining (inner_of r.new)) input.new (W.contents (inner_of w.new))) result }
     ensures ends { IfErr result IsOfConnection }
     ensures reads { failures_of r.new ≡ failures_after_read result (failures_of r.old) }
     ensures writes { failures_of w.new ≡ failures_after result (failures_of w.old) }
