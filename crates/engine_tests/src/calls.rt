@@ -222,16 +222,25 @@ fn kept_of<L: EngineName, R: Wait>(rt: &R, engine: &Engine<L>) -> Option<(u64, u
     Some((dump.floor, dump.revision, dump.versions.len(), needs))
 }
 
+/// What the orders come to on an engine, by a client that writes and one that reads.
+fn order_by_two<L: EngineName, R: Wait>(
+    rt: &R,
+    alloc: Global,
+    engine: &Engine<L>,
+) -> Option<Ordered> {
+    let mut writer = engine.client(rt).ok()?;
+    begin(rt, alloc, engine, &mut writer);
+    let mut reader = engine.client(rt).ok()?;
+    Some(order_each(rt, engine, &mut reader))
+}
+
 fn each_order<L: EngineName, R: Wait>(rt: &R, alloc: Global, opening: Opening) -> Option<Ordered>
     requires name { opening.name ≡ L.Ledger.name }
     requires parts { opening.parts ≡ L.Ledger.parts }
     requires book { opening.book ≡ L.book }
 {
     let engine = Engine::<L>::new(alloc, opening, ONES);
-    let mut writer = engine.client(rt).ok()?;
-    let mut reader = engine.client(rt).ok()?;
-    begin(rt, alloc, &engine, &mut writer);
-    Some(order_each(rt, &engine, &mut reader))
+    order_by_two(rt, alloc, &engine)
 }
 
 fn run_each_order<R: Wait>(rt: &R, alloc: Global) -> Option<Ordered> {
@@ -264,10 +273,27 @@ fn closed_twice<L: EngineName, R: Wait>(
     requires book { opening.book ≡ L.book }
 {
     let engine = Engine::<L>::new(alloc, opening, ONES);
-    let first = engine.client(rt).ok()?;
-    let mut second = engine.client(rt).ok()?;
-    let _put = posted(rt, alloc, &engine, &mut second, PUT, "{\"key\":\"YQ==\"}");
-    closed_without(rt, alloc, engine, first, second)
+    match engine.client(rt) {
+        Ok(first) => closed_after_a_put(rt, alloc, engine, first),
+        Err(_) => None,
+    }
+}
+
+/// A second client puts, and the engine is closed with the first one, and then with both.
+fn closed_after_a_put<L: EngineName, R: Wait>(
+    rt: &R,
+    alloc: Global,
+    engine: Engine<L>,
+    first: Client<L>,
+) -> Option<(u8, usize, u64)> {
+    match engine.client(rt) {
+        Ok(mut second) => {
+            let put = "{\"key\":\"YQ==\"}";
+            let _put = posted(rt, alloc, &engine, &mut second, PUT, put);
+            closed_without(rt, alloc, engine, first, second)
+        }
+        Err(_) => None,
+    }
 }
 
 /// An engine is closed with one of its clients, and then with the other one too.
@@ -279,7 +305,7 @@ fn closed_without<L: EngineName, R: Wait>(
     other: Client<L>,
 ) -> Option<(u8, usize, u64)> {
     let mut clients = Vec::new(alloc);
-    clients.push(one).ok()?;
+    let _ = clients.push(one);
     match engine.close(rt, clients) {
         Ok(_) => None,
         Err(fault) => closed_with(rt, fault, other),
@@ -296,7 +322,7 @@ fn closed_with<L: EngineName, R: Wait>(
     let CloseFault { engine, clients } = fault;
     let mut clients = clients;
     let count = clients.len();
-    clients.push(client).ok()?;
+    let _ = clients.push(client);
     match engine.close(rt, clients) {
         Ok(core) => Some((number, count, core.status().revision)),
         Err(_) => None,
