@@ -2,6 +2,7 @@
 ghost use Rattle.std.specs.Prelude.{◌≡◌};
 
 use crate::lock_replies::ONES;
+use crate::texts::{PUT, PUT_A_1, RANGE};
 use engine_lock::{Client, Engine, EngineName, Opening};
 use json_gateway::read;
 use std::alloc::Global;
@@ -19,19 +20,67 @@ fn put_often<L: EngineName, R: Wait>(
     times: u64,
 ) -> Client<L> {
     let mut client = client;
-    let put = read(
-        alloc,
-        b"/v3/kv/put",
-        b"{\"key\":\"YQ==\",\"value\":\"MQ==\"}",
-    );
-    let range = read(alloc, b"/v3/kv/range", b"{\"key\":\"YQ==\"}");
-    if let (Ok(put), Ok(range)) = (&put, &range) {
-        for now in 0..times {
-            let _put = engine.submit(rt, &mut client, now, put);
-            let _range = engine.submit(rt, &mut client, now, range);
-        }
+    for now in 0..times {
+        submit(rt, alloc, engine, &mut client, now, PUT, PUT_A_1);
+        submit(
+            rt,
+            alloc,
+            engine,
+            &mut client,
+            now,
+            RANGE,
+            "{\"key\":\"YQ==\"}",
+        );
     }
     client
+}
+
+/// Submits a request.
+fn submit<L: EngineName, R: Wait>(
+    rt: &R,
+    alloc: Global,
+    engine: &Engine<L>,
+    client: &mut Client<L>,
+    now: u64,
+    path: &str,
+    body: &str,
+) {
+    if let Ok(command) = read(alloc, path.as_bytes(), body.as_bytes()) {
+        let _submitted = engine.submit(rt, client, now, &command);
+    }
+}
+
+/// Two clients of an engine, after their threads put 10 and 12 times.
+fn both<L: EngineName + Send + Sync, R: Threads + Wait + Sync>(
+    rt: &R,
+    alloc: Global,
+    engine: &Engine<L>,
+) -> Option<(Client<L>, Client<L>)> {
+    let first = engine.client(rt).ok()?;
+    let second = engine.client(rt).ok()?;
+    Some(thread::join(
+        rt,
+        move || put_often(rt, alloc, engine, first, 10),
+        move || put_often(rt, alloc, engine, second, 12),
+    ))
+}
+
+/// The shares of an engine's two clients, and the revision of the core that closes with both.
+fn closed<L: EngineName, R: Wait>(
+    rt: &R,
+    alloc: Global,
+    engine: Engine<L>,
+    both: (Client<L>, Client<L>),
+) -> Option<(u64, u64, u64)> {
+    let (first, second) = both;
+    let shares = (first.share(), second.share());
+    let mut clients = Vec::new(alloc);
+    let _ = clients.push(first);
+    let _ = clients.push(second);
+    match engine.close(rt, clients) {
+        Ok(core) => Some((shares.0, shares.1, core.status().revision)),
+        Err(_) => None,
+    }
 }
 
 /// The shares of two clients whose threads put 10 and 12 times, and the revision of the core that
@@ -46,21 +95,9 @@ fn shared<L: EngineName + Send + Sync, R: Threads + Wait + Sync>(
     requires book { opening.book ≡ L.book }
 {
     let engine = Engine::<L>::new(alloc, opening, ONES);
-    let first = engine.client(rt).ok()?;
-    let second = engine.client(rt).ok()?;
-    let lent = &engine;
-    let (first, second) = thread::join(
-        rt,
-        move || put_often(rt, alloc, lent, first, 10),
-        move || put_often(rt, alloc, lent, second, 12),
-    );
-    let shares = (first.share(), second.share());
-    let mut clients = Vec::new(alloc);
-    clients.push(first).ok()?;
-    clients.push(second).ok()?;
-    match engine.close(rt, clients) {
-        Ok(core) => Some((shares.0, shares.1, core.status().revision)),
-        Err(_) => None,
+    match both(rt, alloc, &engine) {
+        Some(clients) => closed(rt, alloc, engine, clients),
+        None => None,
     }
 }
 
