@@ -3,10 +3,10 @@ use denote.Param.{param}
 use denote.Param.Send.{shr_send}
 use Rattle.std.proofs.alloc.Global.TheSendSync as heap
 use Rattle.engine_lock.proofs.Crossing.{client_send, closure_send, engine_sync}
-use Rattle.engine_tests.proofs.threads.shared.Goals as goal
+use Rattle.engine_tests.proofs.threads.both.Goals as goal
 
-pub join-first-requires-send-F : goal.join-first-requires-send-F
-join-first-requires-send-F g c κs _ =
+pub join-requires-send-F : goal.join-requires-send-F
+join-requires-send-F g c κs _ =
     let b = c.type_bounds in
     let client = client_send (param 0 g.row.L) g.L.EngineName g.L.Ledger in
     let engine = engine_sync (param 0 g.row.L) g.L.EngineName g.L.Ledger in
