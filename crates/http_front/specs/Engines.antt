@@ -51,12 +51,7 @@ pub data AreTrimmed : ℕ → Bool → Caller → Caller → Type 0 where
 
 -- the store was changed, and the answer is lost
 abbrev pub lost_answer : Submitted → Outcome
-lost_answer s = record {
-  settled = settled.Lost s.revision;
-  raised = s.outcome.raised;
-  watch = s.outcome.watch;
-  waits = false;
-}
+lost_answer s = record s.outcome { settled = settled.Lost s.revision; waits = false }
 
 -- the outcome of a command, once the trimming that its answer waits for is done; where that was given up it is lost
 pub data Awaits : Submitted → Outcome → Caller → Caller → Type 0 where
@@ -102,7 +97,7 @@ pub record Reads (ids : Ids) (c : Caller) (q : RangeQuery) (o : Outcome) (c' : C
   pub begins : IsPrefix c.reader.known log
   pub settles : SettlesAs (response_over ids (answer_over (untrimmed_of log) q)) o.settled
   pub bare : (o.raised ≡ None) × (o.watch ≡ None)
-  pub client : c' ≡ record c { reader = record c.reader { known = log; inside = false } }
+  pub client : c' ≡ knowing c log
 
 -- The client left its reading and caught up: at some moment it was told of all that the engine had done.
 pub record CatchesUp (c later : Caller) : Type 0 where

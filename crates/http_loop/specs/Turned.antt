@@ -9,20 +9,21 @@ use Rattle.http_loop.specs.declared.writing.Turn.TheVariants as turn
 use Rattle.http_loop.specs.Answered.{Conn}
 use Rattle.http_loop.specs.Texts.{Grows, replies_more}
 
+-- what answering one request does: what stood, the request, what was written, what stands then, and how it ended
+abbrev pub Way : Type 0 → Type 1
+Way S = S → Asked → List ℕ → S → Result Bool Front → Type 0
+
 -- n requests were answered: whatever answers the bytes that are left, from what stands now, ends the answering of all
-abbrev pub Begins : (S : Type 0) → (S → Asked → List ℕ → S → Result Bool Front → Type 0) → S → List ℕ → ℕ → List ℕ → S
-    → List ℕ → Type 0
+abbrev pub Begins : (S : Type 0) → Way S → S → List ℕ → ℕ → List ℕ → S → List ℕ → Type 0
 Begins S Is s bytes n left t out = (k : ℕ) (more : List ℕ) (u : S) (r : Result ℕ Front) → Conn S Is t left k more u r
     → Conn S Is s bytes (n + k) (out ++ more) u (replies_more n r)
 
 -- it ends so with the next request, wherever the limit allows one
-abbrev pub Ends : (S : Type 0) → (S → Asked → List ℕ → S → Result Bool Front → Type 0) → S → List ℕ → S
-    → Result ℕ Front → List ℕ → Type 0
+abbrev pub Ends : (S : Type 0) → Way S → S → List ℕ → S → Result ℕ Front → List ℕ → Type 0
 Ends S Is s bytes t r out = (limit : ℕ) → Conn S Is s bytes (1 + limit) out t r
 
 -- what one turn comes to
-abbrev pub Turned : (S : Type 0) → (S → Asked → List ℕ → S → Result Bool Front → Type 0) → S → List ℕ → List ℕ → S
-    → Result Turn Front → List ℕ → Type 0
+abbrev pub Turned : (S : Type 0) → Way S → S → List ℕ → List ℕ → S → Result Turn Front → List ℕ → Type 0
 Turned S Is s bytes left t (Ok turn.More) out = Begins S Is s bytes 1 left t out
 Turned S Is s bytes left t (Ok turn.Last) out = Ends S Is s bytes t (Ok 1) out
 Turned S Is s bytes left t (Ok turn.End) out = Ends S Is s bytes t (Ok 0) out
@@ -57,16 +58,14 @@ abbrev pub progress : {S : Type 0} → S → Option (List ℕ) → List ℕ → 
 progress s left pending wrote = record { state = s; left = left; pending = pending; wrote = wrote }
 
 -- one turn led from the one to the other, and ended so
-pub record Turns (S : Type 0) (Is : S → Asked → List ℕ → S → Result Bool Front → Type 0) (old new : Progress S)
-    (r : Result Turn Front) : Type 0 where
+pub record Turns (S : Type 0) (Is : Way S) (old new : Progress S) (r : Result Turn Front) : Type 0 where
   pub came : List ℕ
   pub gave : Gave old.left came new.left
   pub turned : Grows old.wrote new.wrote (λ out. (later : List ℕ) → MayHaveAfter new.left r later
       → Turned S Is old.state (old.pending ++ (came ++ later)) (new.pending ++ later) new.state r out)
 
 -- n requests were answered from the one to the other
-pub record SoFar (S : Type 0) (Is : S → Asked → List ℕ → S → Result Bool Front → Type 0) (n : ℕ) (old new : Progress S)
-    : Type 0 where
+pub record SoFar (S : Type 0) (Is : Way S) (n : ℕ) (old new : Progress S) : Type 0 where
   pub came : List ℕ
   pub gave : Gave old.left came new.left
   pub begun : Grows old.wrote new.wrote (λ out. (later : List ℕ) → MayHaveAfter new.left (Ok turn.More) later
@@ -79,8 +78,7 @@ Given (Some left) So = So left
 
 -- What is written from here on is what the bytes are answered, of so many requests at most; then t stands, and the
 -- result is the number of replies, or why there are no more.
-abbrev pub Serves : (S : Type 0) → (S → Asked → List ℕ → S → Result Bool Front → Type 0) → ℕ → Progress S
-    → Option (List ℕ) → S → Result ℕ Front → Type 0
+abbrev pub Serves : (S : Type 0) → Way S → ℕ → Progress S → Option (List ℕ) → S → Result ℕ Front → Type 0
 Serves S Is limit old wrote t r = Given old.left (λ came. Grows old.wrote wrote
     (λ out. Conn S Is old.state (old.pending ++ came) limit out t r))
 
