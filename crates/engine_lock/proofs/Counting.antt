@@ -92,6 +92,7 @@ pub entered : (made now total : ℕ) (old mid : CoreState) (log : List Published
 entered made now total old mid log locked most same stands = record {
   world = locked.fits.world;
   stood = locked.fits.stands;
+  reached = locked.fits.reached;
   seen = omega (arith, most, locked.counted);
   moment = subst (λ (s : CoreState). StandsFor s.store (at_moment locked.fits.world now)) same (stands locked.fits.world locked.fits.stands);
 }

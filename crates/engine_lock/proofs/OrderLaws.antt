@@ -1,5 +1,5 @@
 -- A step of expiry that was submitted is an event of a run, made at its moment.
-use Rattle.std.proofs.Common.{◌≡◌, ℕ, cond, Result, Ok, Err}
+use Rattle.std.proofs.Common.{◌≡◌, ℕ, cond, Ok, Err}
 use Rattle.kv_model.specs.declared.ids.Ids.{Ids}
 use Rattle.kv_model.specs.declared.refusal.Refusal.{Refusal}
 use Rattle.kv_model.specs.Wire as events
@@ -13,6 +13,7 @@ use Rattle.json_gateway.specs.Runs.{expiry_outcome}
 use Rattle.json_gateway.proofs.Events.{expired_steps, unexpired_steps}
 use Rattle.engine_lock.specs.Locked.{Caller, SubmitsExpiry}
 use Rattle.engine_lock.specs.Orders.{Makes}
+use Rattle.engine_lock.proofs.Reaching.{moment_reached}
 
 pub expiry_makes : (ids : Ids) (c later : Caller) (now : ℕ) (e : Expiry) → SubmitsExpiry c now (Ok e) later
     → Makes ids events.WireEvent.expire (expiry_outcome (Ok e))
@@ -23,6 +24,7 @@ expiry_makes ids c later now e s =
       new = s.new;
       world = world;
       stood = s.enters.moment;
+      reached = moment_reached s.enters.world now s.enters.reached;
       steps = expired_steps ids world e (after_moment s.old now) s.new (s.makes.expired world s.enters.moment);
     }
 
@@ -35,5 +37,6 @@ expiry_refused ids c later now e why s is =
       new = s.new;
       world = world;
       stood = s.enters.moment;
+      reached = moment_reached s.enters.world now s.enters.reached;
       steps = unexpired_steps ids world e why (after_moment s.old now) s.new s.makes is s.enters.moment;
     }

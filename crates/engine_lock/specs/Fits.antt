@@ -11,16 +11,20 @@ use Rattle.request_core.specs.declared.answer.Expiry.{Expiry}
 use Rattle.request_core.specs.State.{CoreState, tables_of}
 use Rattle.json_gateway.specs.declared.outcome.Settled.{Settled}
 use Rattle.json_gateway.specs.Outcomes.{is_accepted}
+use Rattle.engine_lock.specs.Reached.{IsReached}
 
--- the core stands for some world
-abbrev pub IsStanding : CoreState → Type 0
-IsStanding core = (w : World) × StandsFor core.store w
+-- the core stands for some world to which events lead from the opening one
+pub record IsStanding (core : CoreState) : Type 0 where
+  pub world : World
+  pub stands : StandsFor core.store world
+  pub reached : IsReached world
 
--- the core stands for a world, the operations say what that world is but for its leases and watches, and what they make
--- of the empty tables is what the core keeps
+-- besides, the operations say what that world is but for its leases and watches, and what they make of the empty tables
+-- is what the core keeps
 pub record Fits (core : CoreState) (log : List Published) : Type 0 where
   pub world : World
   pub stands : StandsFor core.store world
+  pub reached : IsReached world
   pub said : untrimmed_of log ≡ untrimmed world
   pub stored : store_of log ≡ tables_of core
 

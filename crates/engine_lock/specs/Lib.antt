@@ -3,3 +3,4 @@ pub mod Locked
 pub mod Orders
 pub mod PastViews
 pub mod Pasts
+pub mod Reached

@@ -31,6 +31,7 @@ use Rattle.engine_lock.specs.declared.engine.Submitted.{Submitted}
 use Rattle.engine_lock.specs.declared.past.Given.{Given}
 use Rattle.engine_lock.specs.declared.past.Given.TheVariants as given
 use Rattle.engine_lock.specs.Fits.{IsStanding, change_by, change_by_expiry}
+use Rattle.engine_lock.specs.Reached.{IsReached}
 
 -- ---- what clauses see
 
@@ -156,11 +157,12 @@ pub record EndsWatch (number : ℕ) (old new : CoreState) (stood : Bool) : Type 
 
 -- ---- one holding, by what it tells whoever has no lock
 
--- A moment was handed in, on a core that stood for a world and that had all the changes that the client had made: the
--- core then stands for the world at that moment.
+-- A moment was handed in, on a core that stood for a world to which events lead from the opening one, and that had all
+-- the changes that the client had made: the core then stands for the world at that moment.
 pub record Enters (made now : ℕ) (old : CoreState) : Type 0 where
   pub world : World
   pub stood : StandsFor old.store world
+  pub reached : IsReached world
   pub seen : 1 + made ≤ old.store.revision
   pub moment : StandsFor (after_moment old now).store (at_moment world now)
 
@@ -189,18 +191,18 @@ pub record CatchesUp (c : Caller) (now : ℕ) (is_told : Bool) (later : Caller) 
   pub enters : Enters c.made now old
   pub publishes : Publishes (at_moment enters.world now) [] is_told c later
 
--- the watch of this number is told so in some world
+-- the watch of this number is told so in some world to which events lead
 abbrev pub Tells : Ids → ℕ → Message → Type 0
-Tells ids number m = (w : World) × (message_view m ≡ (wire_step ids w (deliver number)).0)
+Tells ids number m = (w : World) × IsReached w × (message_view m ≡ (wire_step ids w (deliver number)).0)
 
--- a trimming step of some core that stood for a world tells so
+-- a trimming step of some core that stood for such a world tells so
 pub record Trims (t : Trim) : Type 0 where
   pub old : CoreState
   pub new : CoreState
   pub stood : IsStanding old
   pub trims : TrimsOnce old new t
 
--- the watch of this number was ended, if there was one, in some core that stood for a world
+-- the watch of this number was ended, if there was one, in some core that stood for such a world
 pub record Drops (number : ℕ) (stood : Bool) : Type 0 where
   pub old : CoreState
   pub new : CoreState

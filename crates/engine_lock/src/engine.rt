@@ -98,8 +98,8 @@ impl<L: EngineName> Engine<L> {
     /// Hands in the moment `now`, in milliseconds, and then does a command, in one holding. The
     /// moment stands where the command is refused, too; one before the clock leaves it.
     ///
-    /// The outcome is `json_gateway::perform`'s, on a core that stood for some world and that had
-    /// all changes that the client had made. Where the result says `published`, the client was told
+    /// The outcome is `json_gateway::perform`'s, on a core that stood for a world to which events
+    /// lead from the opening one, and that had all changes that the client had made. Where the result says `published`, the client was told
     /// of all that was published, which is what that world's history says, followed by the change
     /// that the model makes there (`Submits`). Each later reading of the client begins with it.
     ///

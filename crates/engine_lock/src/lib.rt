@@ -2,9 +2,10 @@
 //!
 //! An [`Engine`] has a core of `request_core` behind a lock, with the book of a ledger beside it.
 //! Each [`Client`] holds a share of the ledger: the number of changes that it made. The one
-//! contract is what the lock keeps: whenever it is free, the core stands for some world of the
-//! model, and its revision is 1 plus the changes of all clients (`IsLocked` in
-//! `specs/Fits.antt`). A share rises by one exactly at a result that says `raised`, so
+//! contract is what the lock keeps: whenever it is free, the core stands for a world of the model
+//! to which events lead from the opening one (`IsReached` in `specs/Reached.antt`), and its
+//! revision is 1 plus the changes of all clients (`IsLocked` in `specs/Fits.antt`). So each answer
+//! is that of a run. A share rises by one exactly at a result that says `raised`, so
 //! [`Engine::close`], which asks for all clients, gives back a core whose revision is 1 plus the
 //! sum of their shares.
 //!

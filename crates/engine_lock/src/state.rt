@@ -1,5 +1,6 @@
 //! What stands under the lock: the core, the ledger's book, and what readers are told of.
 ghost use Rattle.std.specs.Prelude.{◌≡◌, ◌+◌, ◌≤◌, nat_le, is_ok, map, sum, length, ℕ, Bool};
+ghost use Rattle.std.specs.Prelude.{◌==◌, ◌&&◌, not};
 ghost use Rattle.std.specs.Prelude.{[], ◌∷◌, ◌++◌};
 ghost use Rattle.std.specs.Prelude.{IfOk, IfErr, OnOk, OnErr};
 ghost use Rattle.kv_model.specs.Commands.{call_of};
@@ -129,6 +130,8 @@ impl<L: EngineName> State<L> {
         now: u64,
         command: &Command,
     ) -> Submitted
+        ensures performs { Performs ids.now (call_of command.now) (after_moment self.old.core now)
+            self.new.core result.outcome }
         ensures submits { Submits ids.now client.old now (call_of command.now) result client.new }
         ensures client { client.new ≡ record (with_done client.old
             (given.Done command.now now result.outcome) (rise result.outcome.raised))
@@ -156,6 +159,8 @@ impl<L: EngineName> State<L> {
         now: u64,
         command: &Command,
     ) -> Outcome
+        ensures performs { Performs ids.now (call_of command.now) (after_moment self.old.core now)
+            self.new.core result }
         ensures submits { (b : Bool) → (c : Caller) → IsTold b self.new.log client.old c
             → Submits ids.now client.old now (call_of command.now) (record {
               outcome = result;
@@ -193,6 +198,7 @@ impl<L: EngineName> State<L> {
     /// Hands in a moment, and tells the client of all that was done; says whether it did. Where some
     /// of it is not published yet, it is published first.
     pub(crate) fn catch_up<R: Wait>(&mut self, rt: &R, client: &mut Client<L>, now: u64) -> bool
+        ensures core { self.new.core ≡ after_moment self.old.core now }
         ensures catches { CatchesUp client.old now result client.new }
         ensures others { client.new ≡ record client.old { reader = client.new.reader } }
         ensures out { StaysOut client.old client.new }
@@ -205,6 +211,7 @@ impl<L: EngineName> State<L> {
 
     /// Hands in a moment. Whatever the client is told of then is what the holding tells it.
     fn hand_in(&mut self, client: &mut Client<L>, now: u64)
+        ensures core { self.new.core ≡ after_moment self.old.core now }
         ensures catches { (b : Bool) → (c : Caller) → IsTold b self.new.log client.old c
             → CatchesUp client.old now b c }
         ensures same { client.new ≡ client.old }
@@ -221,6 +228,7 @@ impl<L: EngineName> State<L> {
         client: &mut Client<L>,
         now: u64,
     ) -> Result<Expiry, Refusal>
+        ensures makes { MakesExpiry (after_moment self.old.core now) self.new.core result }
         ensures submits { SubmitsExpiry client.old now result client.new }
         ensures client { client.new ≡ record (with_done client.old (given.Expired now result)
             (rise_of_expiry result)) { reader = client.new.reader } }
@@ -236,6 +244,7 @@ impl<L: EngineName> State<L> {
     /// Hands in a moment and makes a step of expiry. Whatever the client is told of then is what
     /// the holding tells it.
     fn end(&mut self, client: &mut Client<L>, now: u64) -> Result<Expiry, Refusal>
+        ensures makes { MakesExpiry (after_moment self.old.core now) self.new.core result }
         ensures submits { (b : Bool) → (c : Caller) → IsTold b self.new.log client.old c
             → SubmitsExpiry client.old now result c }
         ensures client { client.new ≡ with_done client.old (given.Expired now result)
@@ -421,7 +430,10 @@ fn first_core(alloc: Global, feed: &Feed) -> Core
 }
 
 /// Whether what was done between these appended an operation of its own.
-fn has_appended(before: &Status, after: &Status) -> bool {
+fn has_appended(before: &Status, after: &Status) -> bool
+    ensures { result ≡ not (before.now.revision == after.now.revision
+        && before.now.compacted == after.now.compacted) }
+{
     before.revision != after.revision || before.compacted != after.compacted
 }
 

@@ -1,12 +1,14 @@
 //! Events of a run that nobody's request asks for: a moment by itself, what is kept with its
 //! certificate, and a trimming step that is told with one.
-ghost use Rattle.std.specs.Prelude.{◌≡◌, IfOk, IfErr, OnErr};
+ghost use Rattle.std.specs.Prelude.{◌≡◌, IfOk, IfErr, OnErr, OnOk};
 ghost use Rattle.kv_model.specs.declared.ids.Ids.{Ids as IdsOf};
 ghost use Rattle.kv_model.specs.declared.refusal.Refusal.TheVariants.{Memory};
 ghost use Rattle.kv_model.specs.Follows.Outcome.{said};
 ghost use Rattle.kv_model.specs.Wire.{WireTold};
 ghost use Rattle.kv_model.specs.Wire as events;
 ghost use Rattle.json_gateway.specs.Runs.{certified_outcome, trimmed_view};
+ghost use Rattle.request_core.specs.Commands.{TrimsOnce};
+ghost use Rattle.request_core.specs.State.{after_moment};
 ghost use Rattle.snapshot_feed.specs.States.{appended};
 ghost use Rattle.engine_lock.specs.Fits.{Fits};
 ghost use Rattle.engine_lock.specs.Orders.{Makes};
@@ -23,6 +25,8 @@ use std::sync::Wait;
 impl<L: EngineName> State<L> {
     /// Hands in a moment, and tells the clock.
     pub(crate) fn moment(&mut self, now: u64) -> u64
+        ensures core { self.new.core ≡ after_moment self.old.core now }
+        ensures clock { result ≡ self.new.core.store.clock }
         ensures makes { (ids : IdsOf) → Makes ids (events.WireEvent.moment now)
             (said (WireTold.clock result)) }
         ensures clients { self.new.clients ≡ self.old.clients }
@@ -44,6 +48,7 @@ impl<L: EngineName> State<L> {
         rt: &R,
         alloc: Global,
     ) -> Result<Trimmed, Refusal>
+        ensures trims { OnOk result ((t : _) × TrimsOnce self.old.core self.new.core t) }
         ensures makes { IfOk result (λ t. (ids : IdsOf)
             → Makes ids events.WireEvent.trim (said (trimmed_view t))) }
         ensures refused { IfErr result (λ e. e ≡ Memory) }
@@ -60,6 +65,8 @@ impl<L: EngineName> State<L> {
 /// readers are told of.
 fn clock_at(core: &mut Core, feed: &Feed, now: u64) -> u64
     requires { Fits core.old (appended feed.now) }
+    ensures core { core.new ≡ after_moment core.old now }
+    ensures clock { result ≡ core.new.store.clock }
     ensures makes { (ids : IdsOf) → Makes ids (events.WireEvent.moment now)
         (said (WireTold.clock result)) }
     ensures fits { Fits core.new (appended feed.now) }
@@ -82,6 +89,7 @@ fn certified(core: &Core, feed: &Feed) -> Result<Certified, AllocError>
 /// where the feed finds none, and then nothing has changed.
 fn trimmed_and_checked(alloc: Global, core: &mut Core, feed: &mut Feed) -> Result<Trimmed, Refusal>
     requires { Fits core.old (appended feed.old) }
+    ensures trims { OnOk result ((t : _) × TrimsOnce core.old core.new t) }
     ensures makes { IfOk result (λ t. (ids : IdsOf)
         → Makes ids events.WireEvent.trim (said (trimmed_view t))) }
     ensures fits { Fits core.new (appended feed.new) }

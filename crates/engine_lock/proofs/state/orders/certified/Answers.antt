@@ -7,6 +7,7 @@ returns c = λ ids. record {
   new = c.args.core.now;
   world = c.requires.world;
   stood = c.requires.stands;
+  reached = c.requires.reached;
   steps = certify_steps ids c.requires.world c.certified.result c.args.core.now c.requires.stands c.certified.ensures.dump
       c.certified.ensures.claims;
 }

@@ -9,6 +9,7 @@ returns-clause-makes c = λ ids.
       new = c.trimmed.new.core;
       world = c.requires.world;
       stood = c.requires.stands;
+      reached = c.requires.reached;
       steps = rw told (trim_steps ids c.requires.world c.in_ok-step.step certificate c.args.core.now c.trimmed.new.core
           c.in_ok-step.ensures.trims own c.requires.stands);
     }
