@@ -99,9 +99,10 @@ impl<L: EngineName> Engine<L> {
     /// moment stands where the command is refused, too; one before the clock leaves it.
     ///
     /// The outcome is `json_gateway::perform`'s, on a core that stood for a world to which events
-    /// lead from the opening one, and that had all changes that the client had made. Where the result says `published`, the client was told
-    /// of all that was published, which is what that world's history says, followed by the change
-    /// that the model makes there (`Submits`). Each later reading of the client begins with it.
+    /// lead from the opening one, and that had all changes that the client had made. Where the
+    /// result says `published`, the client was told of all that was published, which is what that
+    /// world's history says, followed by the change that the model makes there (`Submits`). Each
+    /// later reading of the client begins with it.
     ///
     /// The client's share rises by one where the outcome tells a new revision, also where its
     /// answer was lost, and else stays. It was given just that outcome, and its reading is left.

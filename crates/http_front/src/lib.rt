@@ -8,8 +8,8 @@
 //! (`specs/Engines.antt`). Both are the one loop of
 //! `http_loop`. [`pool`] accepts the connections of a listener and serves each on a thread of its
 //! own by [`work`], beside a thread that trims and one that ends leases; when all have ended it
-//! closes the engine and gives its core, which stands for some world of the model, or the fault is
-//! one of servers.
+//! closes the engine and gives its core, which stands for a world of the model to which events lead
+//! from the opening one, or the fault is one of servers.
 //!
 //! A [`Gate`] holds requests back for tests, is told where a request is waited for, and knows
 //! whether a client has left; a [`Clock`] tells the moments by which leases end. The gate and the

@@ -18,7 +18,8 @@ use std::thread::{JoinHandle, Scope, Threads};
 use std::{thread, time};
 
 /// Serves the connections that come in at a listener, and then closes the engine, and gives its
-/// core: it stands for some world of the model, with all changes that the connections made.
+/// core: it stands for a world of the model to which events lead from the opening one, with all
+/// changes that the connections made.
 ///
 /// It runs `workers` threads, each with one connection at a time, to that connection's end; one
 /// thread that trims; and one that ends leases. A worker accepts under a lock, which is free again
