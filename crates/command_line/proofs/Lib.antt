@@ -3,3 +3,4 @@ pub mod CommandLine
 pub mod FirstOutside
 pub mod Options
 pub mod ReadBack
+pub mod Recorded

@@ -2,7 +2,9 @@
 use Rattle.std.specs.Prelude.{◌≡◌, ◌≢◌, ⊤, ℕ, ◌+◌, ◌^◌, ◌<◌, ◌≤◌, List, ◌++◌, All, map, length, Some}
 use Rattle.std.specs.List.{before_first, concat}
 use Rattle.kv_model.specs.Wire.{WireEvent}
-use Rattle.recording.specs.Lines.{within_line, line_of}
+use Rattle.request_core.specs.State.{CoreState}
+use Rattle.recording.specs.Lines.{Written, all_of, within_line, line_of}
+use Rattle.engine_lock.specs.Written.{IsWritten}
 use Rattle.commands.specs.Script.{longest_line, is, event_of, line_events}
 
 -- a byte that the path of a line may have: no space, which ends the path, and no line feed, which ends the line
@@ -31,3 +33,8 @@ IsEachReadBack = (e : WireEvent) → IsRecordable e → event_of (before_first (
 abbrev pub AreReadBack : Type 0
 AreReadBack = (events : List WireEvent) (rest : List ℕ) → All IsRecordable events
     → line_events (concat (map line_of events) ++ rest) ≡ map (λ e. Some (as_read e)) events ++ line_events rest
+
+-- all that an engine has written down is read as the events that led to its core
+abbrev pub IsRecordingReadBack : Type 0
+IsRecordingReadBack = (l : Written) (core : CoreState) (w : IsWritten l core)
+    → line_events (all_of l) ≡ map (λ e. Some (as_read e)) w.events

@@ -208,7 +208,7 @@ where
     requires book { opening.book ≡ L.book }
     ensures { IfOk result IsOfCore }
 {
-    let engine = engine_of::<L>(alloc, opening, serve);
+    let engine = engine_of::<L>(alloc, opening, serve, lines.gate.is_recorded());
     let limits = Limits {
         workers: serve.workers,
         connections: connections_of(serve),

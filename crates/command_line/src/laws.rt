@@ -1,5 +1,5 @@
 //! Laws of a recording, each the contract of a function that does nothing.
-ghost use Rattle.command_line.specs.ReadBack.{IsEachReadBack, AreReadBack};
+ghost use Rattle.command_line.specs.ReadBack.{IsEachReadBack, AreReadBack, IsRecordingReadBack};
 
 /// The line of each event is read as that event.
 pub fn event_read_back()
@@ -10,4 +10,10 @@ pub fn event_read_back()
 /// recording that a failed write cut off, up to its last whole line.
 pub fn text_read_back()
     ensures { AreReadBack }
+{}
+
+/// All that an engine has written down under its lock, read as a script, asks for the very events
+/// that led to its core, in order: `IsWritten` of `engine_lock` says which these are.
+pub fn recording_read_back()
+    ensures { IsRecordingReadBack }
 {}

@@ -4,8 +4,8 @@ ghost use Rattle.std.specs.Io.KnownBytes.{Appends};
 ghost use Rattle.commands.specs.Writes.{AppendsFront};
 
 use commands::{Fault, write_bytes};
-use http_front::{Gate, Record};
-use recording::locked;
+use engine_lock::locked;
+use http_front::{Gate, Takes};
 use std::alloc::Global;
 use std::io;
 use std::io::{ErrorKind, Write};
@@ -35,7 +35,6 @@ struct Writing<W> {
 #[derive(Drop)]
 pub struct Recording<'x, R, W, T> {
     rt: &'x R,
-    record: Record,
     writing: Mutex<Writing<W>>,
     tells: T,
 }
@@ -45,7 +44,6 @@ impl<'x, R: Wait, W: Write, T: Tells> Recording<'x, R, W, T> {
     pub fn new(rt: &'x R, alloc: Global, out: W, tells: T) -> Self {
         Recording {
             rt,
-            record: Record::new(alloc),
             writing: Mutex::new(Writing {
                 out,
                 text: Vec::new(alloc),
@@ -56,12 +54,12 @@ impl<'x, R: Wait, W: Write, T: Tells> Recording<'x, R, W, T> {
     }
 
     /// Writes the lines that were not written yet.
-    fn write_on(&self) {
+    fn write_on<L: Takes>(&self, lines: &L) {
         let mut writing = locked(self.rt, &self.writing);
         if !writing.is_open {
             return;
         }
-        let is_all = self.record.take(self.rt, &mut writing.text);
+        let is_all = lines.take(&mut writing.text);
         if let Err(error) = writing.write(is_all) {
             writing.is_open = false;
             drop(writing);
@@ -95,11 +93,11 @@ impl<'x, R: Wait, W: Write, T: Tells> Gate for Recording<'x, R, W, T> {
 
     fn after(&self, _call: u64) {}
 
-    fn record(&self) -> Option<&Record> {
-        Some(&self.record)
+    fn is_recorded(&self) -> bool {
+        true
     }
 
-    fn recorded(&self) {
-        self.write_on();
+    fn recorded<L: Takes>(&self, lines: &L) {
+        self.write_on(lines);
     }
 }

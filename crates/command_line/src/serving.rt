@@ -75,7 +75,7 @@ pub fn serve_on<R: Wait + Threads + time::Clock + Sync, W: Write>(
     serve_by(rt, alloc, listener, args, &OpenGate, w)
 }
 
-/// The same, by a gate: where that has a record, the events of the server are written down. Fails as
+/// The same, by a gate: where that says so, the events of the server are written down. Fails as
 /// [`serve_on`] does.
 pub fn serve_by<G, R, W: Write>(
     rt: &R,
@@ -181,15 +181,17 @@ where
     ensures fault { IfErr result (λ fault. is_write fault ≡ false) }
     ensures kind { IfErr result IsOfRun }
 {
-    let engine = engine_of::<L>(alloc, opening, serve);
+    let engine = engine_of::<L>(alloc, opening, serve, gate.is_recorded());
     run_pool(rt, alloc, engine, listener, serve, gate)
 }
 
-/// An engine that answers by the ids of a server.
+/// An engine that answers by the ids of a server, and writes its events down where `is_recorded`
+/// says so.
 pub(crate) fn engine_of<L: EngineName>(
     alloc: Global,
     opening: Opening,
     serve: &Serve<'_>,
+    is_recorded: bool,
 ) -> Engine<L>
     requires name { opening.name ≡ L.Ledger.name }
     requires parts { opening.parts ≡ L.Ledger.parts }
@@ -197,7 +199,12 @@ pub(crate) fn engine_of<L: EngineName>(
     ensures cluster { result.cluster ≡ serve.now.cluster }
     ensures member { result.member ≡ serve.now.member }
 {
-    Engine::new(alloc, opening, ids_of(serve))
+    let ids = ids_of(serve);
+    if is_recorded {
+        Engine::recorded(alloc, opening, ids)
+    } else {
+        Engine::new(alloc, opening, ids)
+    }
 }
 
 /// The cluster and the member that answer.

@@ -24,9 +24,13 @@ use Rattle.json_gateway.specs.declared.outcome.Settled.TheVariants as settled
 use Rattle.json_gateway.specs.declared.outcome.Outcome.{Outcome}
 use Rattle.json_gateway.specs.Endings.{EndsAs}
 use Rattle.json_gateway.specs.Outcomes.{is_accepted}
+use Rattle.recording.specs.Lines.{Written, handed}
 use Rattle.engine_lock.specs.declared.past.Given.{Given}
+use Rattle.kv_model.specs.Commands.{call_of}
+use Rattle.engine_lock.specs.Asking.{Asking, IsAsked}
+use Rattle.engine_lock.specs.Notes.{NotesCommand, NotesExpiry}
 use Rattle.engine_lock.specs.Fits.{IsLocked, change_by, change_by_expiry}
-use Rattle.engine_lock.specs.Locked.{CatchesUp, Caller, Enters, IsTold, MakesExpiry, Performs, StaysOut, Submits, SubmitsExpiry, knowing, left, with_done}
+use Rattle.engine_lock.specs.Locked.{CatchesUp, Caller, Enters, IsTold, MakesExpiry, Performs, StaysOut, Submits, SubmitsExpiry, Writes, knowing, left, with_done}
 use Rattle.engine_lock.specs.Locked.{rise, rise_of_step, rise_of_expiry}
 
 -- the revision rose by so much
@@ -87,28 +91,33 @@ made (Err e) old new w h done refused = ap (λ (s : CoreState). s.store.revision
 
 -- ---- what a holding tells
 
-pub entered : (made now total : ℕ) (old mid : CoreState) (log : List Published) → IsLocked old log total → made ≤ total
+pub entered : (made now total : ℕ) (old mid : CoreState) (log : List Published) (lines : Written) → IsLocked old log total lines → made ≤ total
     → mid ≡ after_moment old now → ((w : World) → StandsFor old.store w → StandsFor mid.store (at_moment w now)) → Enters made now old
-entered made now total old mid log locked most same stands = record {
+entered made now total old mid log lines locked most same stands = record {
   world = locked.fits.world;
   stood = locked.fits.stands;
   reached = locked.fits.reached;
+  lines = lines;
+  written = locked.written;
   seen = omega (arith, most, locked.counted);
   moment = subst (λ (s : CoreState). StandsFor s.store (at_moment locked.fits.world now)) same (stands locked.fits.world locked.fits.stands);
 }
 
-pub submitted : (ids : Ids) (c : Caller) (now total : ℕ) (call : Call) (old mid new : CoreState) (log more : List Published) (o : Outcome)
-    → IsLocked old log total → c.made ≤ total → mid ≡ after_moment old now
-    → ((w : World) → StandsFor old.store w → StandsFor mid.store (at_moment w now)) → Performs ids call mid new o
-    → ((w : World) → StandsFor mid.store w → more ≡ log ++ change_by o.settled w call)
+pub submitted : (ids : Ids) (c : Caller) (now total : ℕ) (a : Asking) (old mid new : CoreState) (log more : List Published) (lines : Written)
+    (o : Outcome) → IsLocked old log total lines → c.made ≤ total → mid ≡ after_moment old now
+    → ((w : World) → StandsFor old.store w → StandsFor mid.store (at_moment w now)) → Performs ids (call_of a.command) mid new o
+    → ((w : World) → StandsFor mid.store w → more ≡ log ++ change_by o.settled w (call_of a.command))
+    → IsAsked a → Writes (handed lines now) (NotesCommand o.settled a.request) new
     → (b : Bool) (d : Caller) → IsTold b more c d
-    → Submits ids c now call (record { outcome = o; published = b; revision = new.store.revision }) d
+    → Submits ids c now a (record { outcome = o; published = b; revision = new.store.revision }) d
 unfolding entered
-submitted ids c now total call old mid new log more o locked most same stands performs told b d known = record {
+submitted ids c now total a old mid new log more lines o locked most same stands performs told asked writes b d known = record {
+  asked = asked;
+  writes = writes;
   old = old;
   new = new;
-  enters = entered c.made now total old mid log locked most same stands;
-  performs = subst (λ s. Performs ids call s new o) same performs;
+  enters = entered c.made now total old mid log lines locked most same stands;
+  performs = subst (λ s. Performs ids (call_of a.command) s new o) same performs;
   revision = refl;
   publishes = record {
     log = log;
@@ -118,14 +127,14 @@ submitted ids c now total call old mid new log more o locked most same stands pe
 }
 
 -- Nothing but the moment was handed in: what was appended says the world before it, and so the world at it.
-pub caught_up : (c : Caller) (now total : ℕ) (old mid : CoreState) (log : List Published)
-    → IsLocked old log total → c.made ≤ total → mid ≡ after_moment old now
+pub caught_up : (c : Caller) (now total : ℕ) (old mid : CoreState) (log : List Published) (lines : Written)
+    → IsLocked old log total lines → c.made ≤ total → mid ≡ after_moment old now
     → ((w : World) → StandsFor old.store w → StandsFor mid.store (at_moment w now))
     → (b : Bool) (d : Caller) → IsTold b log c d → CatchesUp c now b d
 unfolding entered
-caught_up c now total old mid log locked most same stands b d known = record {
+caught_up c now total old mid log lines locked most same stands b d known = record {
   old = old;
-  enters = entered c.made now total old mid log locked most same stands;
+  enters = entered c.made now total old mid log lines locked most same stands;
   publishes = record {
     log = log;
     said = locked.fits.said;
@@ -133,16 +142,17 @@ caught_up c now total old mid log locked most same stands b d known = record {
   };
 }
 
-pub submitted_expiry : (c : Caller) (now total : ℕ) (old mid new : CoreState) (log more : List Published) (r : Result Expiry Refusal)
-    → IsLocked old log total → c.made ≤ total → mid ≡ after_moment old now
+pub submitted_expiry : (c : Caller) (now total : ℕ) (old mid new : CoreState) (log more : List Published) (lines : Written)
+    (r : Result Expiry Refusal) → IsLocked old log total lines → c.made ≤ total → mid ≡ after_moment old now
     → ((w : World) → StandsFor old.store w → StandsFor mid.store (at_moment w now)) → MakesExpiry mid new r
-    → ((w : World) → StandsFor mid.store w → more ≡ log ++ change_by_expiry r w)
+    → ((w : World) → StandsFor mid.store w → more ≡ log ++ change_by_expiry r w) → Writes (handed lines now) (NotesExpiry r) new
     → (b : Bool) (d : Caller) → IsTold b more c d → SubmitsExpiry c now r d
 unfolding entered
-submitted_expiry c now total old mid new log more r locked most same stands makes told b d known = record {
+submitted_expiry c now total old mid new log more lines r locked most same stands makes told writes b d known = record {
+  writes = writes;
   old = old;
   new = new;
-  enters = entered c.made now total old mid log locked most same stands;
+  enters = entered c.made now total old mid log lines locked most same stands;
   makes = subst (λ s. MakesExpiry s new r) same makes;
   published = b;
   publishes = record {
@@ -177,8 +187,8 @@ pub untold : (b : Bool) (c out d : Caller) (now : ℕ) → out ≡ left c → d 
 untold true c out d now l e h = tt
 untold false c out d now l e h = e ∙ ap (knowing c) (h.publishes.told ∙ ap (λ (x : Caller). x.reader.known) l)
 
-pub revised : (ids : Ids) (c : Caller) (now : ℕ) (call : Call) (o : Outcome) (b : Bool) (r s : ℕ) (later : Caller) → r ≡ s
-    → Submits ids c now call (record { outcome = o; published = b; revision = s }) later
-    → Submits ids c now call (record { outcome = o; published = b; revision = r }) later
-revised ids c now call o b r s later e h =
-    subst (λ (n : ℕ). Submits ids c now call (record { outcome = o; published = b; revision = n }) later) (sym e) h
+pub revised : (ids : Ids) (c : Caller) (now : ℕ) (a : Asking) (o : Outcome) (b : Bool) (r s : ℕ) (later : Caller) → r ≡ s
+    → Submits ids c now a (record { outcome = o; published = b; revision = s }) later
+    → Submits ids c now a (record { outcome = o; published = b; revision = r }) later
+revised ids c now a o b r s later e h =
+    subst (λ (n : ℕ). Submits ids c now a (record { outcome = o; published = b; revision = n }) later) (sym e) h

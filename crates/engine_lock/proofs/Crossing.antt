@@ -25,6 +25,7 @@ use Rattle.request_core.specs.contracts.store.Core as Core
 use Rattle.request_core.specs.contracts.store.Core.TheInside as inside
 use Rattle.snapshot_feed.proofs.feed.Feed.TheSendSync as feed
 use Rattle.snapshot_feed.proofs.reader.SnapReader.TheSendSync as reader
+use Rattle.recording.proofs.Crossing.{lines_send}
 use Rattle.engine_lock.specs.declared.opening.EngineName as names
 use Rattle.engine_lock.specs.contracts.client.Client as Client
 use Rattle.engine_lock.specs.contracts.engine.Engine as Engine
@@ -65,7 +66,7 @@ module _ (T : RattleType) (n : names.Ghosts T.Denot) (g : ledger.Ghosts T.Denot)
             share.the_send T g,
             (
               plain_send _ _ _ _ _,
-              (plain_send _ _ _ _ _, (feed.the_send, tt)),
+              (plain_send _ _ _ _ _, (feed.the_send, (lines_send, tt))),
             ),
           ),
         ),

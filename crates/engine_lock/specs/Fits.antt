@@ -11,7 +11,9 @@ use Rattle.request_core.specs.declared.answer.Expiry.{Expiry}
 use Rattle.request_core.specs.State.{CoreState, tables_of}
 use Rattle.json_gateway.specs.declared.outcome.Settled.{Settled}
 use Rattle.json_gateway.specs.Outcomes.{is_accepted}
+use Rattle.recording.specs.Lines.{Written}
 use Rattle.engine_lock.specs.Reached.{IsReached}
+use Rattle.engine_lock.specs.Written.{IsWritten}
 
 -- the core stands for some world to which events lead from the opening one
 pub record IsStanding (core : CoreState) : Type 0 where
@@ -28,10 +30,12 @@ pub record Fits (core : CoreState) (log : List Published) : Type 0 where
   pub said : untrimmed_of log ≡ untrimmed world
   pub stored : store_of log ≡ tables_of core
 
--- whenever the lock is free: besides, the revision is 1 plus the changes that all clients made
-pub record IsLocked (core : CoreState) (log : List Published) (total : ℕ) : Type 0 where
+-- whenever the lock is free: besides, the revision is 1 plus the changes that all clients made, and what was written down of
+-- the events leads to the core
+pub record IsLocked (core : CoreState) (log : List Published) (total : ℕ) (lines : Written) : Type 0 where
   pub fits : Fits core log
   pub counted : core.store.revision ≡ 1 + total
+  pub written : IsWritten lines core
 
 -- what readers are told of a command that settled so: the model's change where it was accepted, and else nothing
 abbrev pub change_by : Settled → World → Call → List Published

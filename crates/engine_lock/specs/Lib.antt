@@ -1,6 +1,10 @@
+pub mod Asking
 pub mod Fits
 pub mod Locked
+pub mod Notes
 pub mod Orders
 pub mod PastViews
 pub mod Pasts
 pub mod Reached
+pub mod Takings
+pub mod Written

@@ -8,6 +8,7 @@ use Rattle.kv_model.specs.declared.ids.Ids.{Ids}
 use Rattle.kv_model.specs.declared.refusal.Refusal.{Refusal}
 use Rattle.kv_model.specs.Answers.{response_to}
 use Rattle.kv_model.specs.Calls.{Call}
+use Rattle.kv_model.specs.Commands.{call_of}
 use Rattle.kv_model.specs.Feed.{Published}
 use Rattle.kv_model.specs.Step.{made_in, perform}
 use Rattle.kv_model.specs.Wire.{IsChange, deliver, is_physical_call, wire_step}
@@ -17,6 +18,7 @@ use Rattle.store_laws.specs.Snapshots.{untrimmed_of}
 use Rattle.store_laws.specs.Stands.{StandsFor}
 use Rattle.snapshot_feed.specs.Seats.{Reads}
 use Rattle.trim_core.specs.declared.trimmer.Trim.{Trim}
+use Rattle.trim_core.specs.Told.{told_of}
 use Rattle.request_core.specs.declared.answer.Expiry.{Expiry}
 use Rattle.request_core.specs.declared.answer.Expiry.TheVariants as expiry
 use Rattle.request_core.specs.Commands.{Expires, RefusesExpiry, TrimsOnce}
@@ -24,14 +26,18 @@ use Rattle.request_core.specs.State.{CoreState, after_moment}
 use Rattle.json_gateway.specs.declared.outcome.Message.{Message}
 use Rattle.json_gateway.specs.declared.outcome.Message.TheVariants as message
 use Rattle.json_gateway.specs.declared.outcome.Outcome.{Outcome}
-use Rattle.json_gateway.specs.Endings.{Ends, IsCounted, KeepsAs, is_change}
+use Rattle.json_gateway.specs.Endings.{Ends, IsCounted, KeepsAs, is_change, is_done}
 use Rattle.json_gateway.specs.Outcomes.{IsBare, is_accepted}
 use Rattle.json_gateway.specs.Runs.{message_view}
 use Rattle.engine_lock.specs.declared.engine.Submitted.{Submitted}
 use Rattle.engine_lock.specs.declared.past.Given.{Given}
 use Rattle.engine_lock.specs.declared.past.Given.TheVariants as given
 use Rattle.engine_lock.specs.Fits.{IsStanding, change_by, change_by_expiry}
+use Rattle.recording.specs.Lines.{IsTrimNoted, Written, handed}
+use Rattle.engine_lock.specs.Asking.{Asking, IsAsked}
+use Rattle.engine_lock.specs.Notes.{NotesCommand, NotesEnding, NotesExpiry, NotesMessage}
 use Rattle.engine_lock.specs.Reached.{IsReached}
+use Rattle.engine_lock.specs.Written.{IsWritten}
 
 -- ---- what clauses see
 
@@ -48,12 +54,13 @@ pub record Caller : Type 0 where
   pub given : List Given
   pub reader : Reads
 
--- of what stands under the lock: the core, how many clients were made, and all that readers are told of, with what they
--- see from the next publication on
+-- of what stands under the lock: the core, how many clients were made, all that readers are told of, with what they see
+-- from the next publication on, and what was written down
 pub record LockState : Type 0 where
   pub core : CoreState
   pub clients : ℕ
   pub log : List Published
+  pub lines : Written
 
 -- a client that has left its reading
 abbrev pub left : Caller → Caller
@@ -155,26 +162,38 @@ pub record EndsWatch (number : ℕ) (old new : CoreState) (stood : Bool) : Type 
   pub stands : (w : World) → StandsFor old.store w
       → StandsFor new.store (record w { watches = without_watch number w.watches })
 
+-- what was noted behind these lines leads, with them, to the core that the holding left
+pub record Writes (lines : Written) (Notes : Written → Written → Type 0) (new : CoreState) : Type 0 where
+  pub later : Written
+  pub noted : Notes lines later
+  pub leads : IsWritten later new
+
 -- ---- one holding, by what it tells whoever has no lock
 
--- A moment was handed in, on a core that stood for a world to which events lead from the opening one, and that had all
--- the changes that the client had made: the core then stands for the world at that moment.
+-- A moment was handed in, on a core that stood for a world to which events lead from the opening one, that had all the
+-- changes that the client had made, and to which what was written down so far leads: the core then stands for the world at
+-- that moment.
 pub record Enters (made now : ℕ) (old : CoreState) : Type 0 where
   pub world : World
   pub stood : StandsFor old.store world
   pub reached : IsReached world
+  pub lines : Written
+  pub written : IsWritten lines old
   pub seen : 1 + made ≤ old.store.revision
   pub moment : StandsFor (after_moment old now).store (at_moment world now)
 
--- and then the command was done, in the same holding, which told the client what the model's change is in that world
-pub record Submits (ids : Ids) (c : Caller) (now : ℕ) (call : Call) (s : Submitted) (later : Caller) : Type 0 where
+-- and then the command was done, in the same holding, which told the client what the model's change is in that world, and
+-- wrote down the request for it, if there was one
+pub record Submits (ids : Ids) (c : Caller) (now : ℕ) (asking : Asking) (s : Submitted) (later : Caller) : Type 0 where
   pub old : CoreState
   pub new : CoreState
   pub enters : Enters c.made now old
-  pub performs : Performs ids call (after_moment old now) new s.outcome
+  pub performs : Performs ids (call_of asking.command) (after_moment old now) new s.outcome
   pub revision : s.revision ≡ new.store.revision
-  pub publishes : Publishes (at_moment enters.world now) (change_by s.outcome.settled (at_moment enters.world now) call)
+  pub publishes : Publishes (at_moment enters.world now) (change_by s.outcome.settled (at_moment enters.world now) (call_of asking.command))
       s.published c later
+  pub asked : IsAsked asking
+  pub writes : Writes (handed enters.lines now) (NotesCommand s.outcome.settled asking.request) new
 
 -- or the step of expiry was made
 pub record SubmitsExpiry (c : Caller) (now : ℕ) (r : Result Expiry Refusal) (later : Caller) : Type 0 where
@@ -184,6 +203,7 @@ pub record SubmitsExpiry (c : Caller) (now : ℕ) (r : Result Expiry Refusal) (l
   pub makes : MakesExpiry (after_moment old now) new r
   pub published : Bool
   pub publishes : Publishes (at_moment enters.world now) (change_by_expiry r (at_moment enters.world now)) published c later
+  pub writes : Writes (handed enters.lines now) (NotesExpiry r) new
 
 -- or nothing more was done, but the client was told of all that was
 pub record CatchesUp (c : Caller) (now : ℕ) (is_told : Bool) (later : Caller) : Type 0 where
@@ -209,29 +229,36 @@ pub record Drops (number : ℕ) (stood : Bool) : Type 0 where
   pub stands : IsStanding old
   pub ends : EndsWatch number old new stood
 
--- ---- and by a client that had made so many changes: the core had all of these
+-- ---- and by a client that had made so many changes: the core had all of these, and what was written down leads to it
 
-pub record Sees (made : ℕ) (old : CoreState) : Type 0 where
+pub record Sees (made : ℕ) (old : CoreState) (lines : Written) : Type 0 where
   pub stood : IsStanding old
   pub seen : 1 + made ≤ old.store.revision
+  pub written : IsWritten lines old
 
 -- the watch of this number was told so
 pub record TellsTo (ids : Ids) (made number : ℕ) (m : Message) : Type 0 where
   pub old : CoreState
   pub new : CoreState
-  pub sees : Sees made old
+  pub lines : Written
+  pub sees : Sees made old lines
   pub tells : TellsFrom ids number old new m
+  pub writes : Writes lines (NotesMessage number (Ok m)) new
 
 -- it was ended, if there was one
 pub record DropsFor (made number : ℕ) (stood : Bool) : Type 0 where
   pub old : CoreState
   pub new : CoreState
-  pub sees : Sees made old
+  pub lines : Written
+  pub sees : Sees made old lines
   pub ends : EndsWatch number old new stood
+  pub writes : Writes lines (NotesEnding number stood) new
 
 -- a trimming step tells so
 pub record TrimsFor (made : ℕ) (t : Trim) : Type 0 where
   pub old : CoreState
   pub new : CoreState
-  pub sees : Sees made old
+  pub lines : Written
+  pub sees : Sees made old lines
   pub trims : TrimsOnce old new t
+  pub writes : Writes lines (IsTrimNoted (is_done (told_of t))) new

@@ -1,7 +1,6 @@
 //! The engine: one event of the core for each holding of its lock.
 ghost use Rattle.std.specs.Prelude.{◌≡◌, ◌+◌, ◌<◌, is_ok, map, sum, length, IfOk, IfErr, OnErr};
-ghost use Rattle.std.specs.Prelude.{[], ◌∷◌, ◌++◌, MatchBool, ⊤};
-ghost use Rattle.kv_model.specs.Commands.{call_of};
+ghost use Rattle.std.specs.Prelude.{[], ◌∷◌, ◌++◌, MatchBool, None, ⊤};
 ghost use Rattle.kv_model.specs.declared.refusal.Refusal.TheVariants.{Memory, NoPlace, NoWatch};
 ghost use Rattle.engine_lock.specs.Fits.{IsStanding};
 ghost use Rattle.engine_lock.specs.Locked.{Drops, Submits, SubmitsExpiry, Tells, Trims};
@@ -11,7 +10,9 @@ ghost use Rattle.engine_lock.specs.Locked.{left, plus, rise, rise_of_expiry, tol
 ghost use Rattle.engine_lock.specs.declared.past.Given.TheVariants as given;
 
 mod orders;
+mod writing;
 
+use crate::asked::Asked;
 use crate::client::Client;
 use crate::closing::CloseFault;
 use crate::opening::{EngineName, Opening};
@@ -60,7 +61,7 @@ pub struct Submitted {
 
 impl<L: EngineName> Engine<L> {
     /// An engine over a new core, that answers by these ids. No client is made yet. The opening has
-    /// all the memory that it takes.
+    /// all the memory that it takes. Its events are not written down ([`Engine::recorded`]).
     ///
     /// `L` is the name that the opening has: where the function that is generic in it is called
     /// with `Brand`, the pick of its ghost members is the opening's `name`, `parts` and `book`.
@@ -73,7 +74,7 @@ impl<L: EngineName> Engine<L> {
         Engine {
             alloc,
             ids,
-            state: Mutex::new(State::new(alloc, opening)),
+            state: Mutex::new(State::new(alloc, opening, false)),
         }
     }
 
@@ -111,6 +112,9 @@ impl<L: EngineName> Engine<L> {
     /// the last publication. Where that finds no memory `published` is false, and the next
     /// publication tells of it. The text of the answer is made while the lock is held: the cost is
     /// that of `perform_to`, of waiting for the lock, and of `Feed::publish`.
+    ///
+    /// Where events are written down, no line is written from here on: the command is none of a
+    /// request ([`Engine::submit_request`]).
     pub fn submit<R: Wait>(
         &self,
         rt: &R,
@@ -118,14 +122,13 @@ impl<L: EngineName> Engine<L> {
         now: u64,
         command: &Command,
     ) -> Submitted
-        ensures submits { Submits self.now (left client.old) now (call_of command.now) result
-            client.new }
+        ensures submits { Submits self.now (left client.old) now
+            (record { command = command.now; request = None }) result client.new }
         ensures client { client.new ≡ record (with_done client.old
             (given.Done command.now now result.outcome) (rise result.outcome.raised))
             { reader = client.new.reader } }
     {
-        client.leave();
-        locked(rt, &self.state).submit(rt, self.alloc, &self.ids, client, now, command)
+        self.submit_request(rt, client, now, &Asked::of(command))
     }
 
     /// Hands in the moment `now`, in milliseconds, and tells the client of all that the engine has
@@ -274,7 +277,7 @@ impl<L: EngineName> Engine<L> {
 }
 
 /// What is under a lock. Most holdings are short, so a thread asks for a while before it sleeps.
-fn locked<'a, T, R: Wait>(rt: &R, mutex: &'a Mutex<T>) -> MutexGuard<'a, T> {
+pub fn locked<'a, T, R: Wait>(rt: &R, mutex: &'a Mutex<T>) -> MutexGuard<'a, T> {
     for _ in 0..ASKS {
         if let Some(guard) = mutex.try_lock() {
             return guard;

@@ -34,6 +34,10 @@
 //! of the empty tables what the core keeps. [`Engine::submit`] publishes what it appended, and tells
 //! its client of it, so that each later reading of that client begins with it.
 //!
+//! Where it is asked for, the events are written down under the lock ([`Engine::recorded`],
+//! [`Engine::take_lines`]), as the lines of a script, and the lock keeps that the core stands for the
+//! world which they lead to (`IsWritten` in `specs/Written.antt`).
+//!
 //! Which engine a client is of is told by its type: `L` names the ledger and the list of what was
 //! published ([`EngineName`]). It is picked where a function generic in `L` is called with `Brand`,
 //! and engine and clients live inside that function.
@@ -41,17 +45,20 @@
 //! The tests stand in the crate `engine_tests`.
 #![tactic(auto)]
 
+pub mod asked;
 mod client;
 mod closing;
 pub mod engine;
+mod noting;
 pub mod opening;
 pub mod past;
 mod state;
 mod steps;
 
+pub use asked::Asked;
 pub use client::Client;
 pub use closing::CloseFault;
-pub use engine::{Engine, Submitted};
+pub use engine::{Engine, Submitted, locked};
 pub use opening::{EngineName, Opening};
 pub use past::Given;
 

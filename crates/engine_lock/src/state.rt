@@ -2,7 +2,7 @@
 ghost use Rattle.std.specs.Prelude.{◌≡◌, ◌+◌, ◌≤◌, nat_le, is_ok, map, sum, length, ℕ, Bool};
 ghost use Rattle.std.specs.Prelude.{◌==◌, ◌&&◌, not};
 ghost use Rattle.std.specs.Prelude.{[], ◌∷◌, ◌++◌};
-ghost use Rattle.std.specs.Prelude.{IfOk, IfErr, OnOk, OnErr};
+ghost use Rattle.std.specs.Prelude.{IfOk, IfErr, Ok, OnOk, OnErr};
 ghost use Rattle.kv_model.specs.Commands.{call_of};
 ghost use Rattle.kv_model.specs.World.{opening as first_world};
 ghost use Rattle.kv_model.specs.declared.refusal.Refusal.TheVariants.{Memory, NoPlace, NoWatch};
@@ -10,7 +10,12 @@ ghost use Rattle.store_laws.specs.Stands.{StandsFor};
 ghost use Rattle.request_core.specs.Commands.{TrimsOnce};
 ghost use Rattle.request_core.specs.State.{after_moment};
 ghost use Rattle.snapshot_feed.specs.States.{appended};
+ghost use Rattle.trim_core.specs.Told.{told_of};
+ghost use Rattle.json_gateway.specs.Endings.{is_done};
+ghost use Rattle.recording.specs.Lines.{IsTrimNoted, blank};
 ghost use Rattle.engine_lock.specs.Fits.{Fits, IsStanding};
+ghost use Rattle.engine_lock.specs.Notes.{NotesEnding, NotesMessage};
+ghost use Rattle.engine_lock.specs.Written.{IsWritten};
 ghost use Rattle.engine_lock.specs.Locked.{CatchesUp, Caller, IsTold, StaysOut};
 ghost use Rattle.engine_lock.specs.Locked.{Drops, EndsWatch, MakesExpiry, Performs};
 ghost use Rattle.engine_lock.specs.Locked.{Submits, SubmitsExpiry, Tells, TellsFrom, Trims};
@@ -19,16 +24,19 @@ ghost use Rattle.engine_lock.specs.Locked.{plus, rise, rise_of_expiry, told_to, 
 ghost use Rattle.engine_lock.specs.declared.past.Given.TheVariants as given;
 
 mod orders;
+mod writing;
 
 use crate::MOST_CLIENTS;
+use crate::asked::Asked;
 use crate::client::{Client, published};
 use crate::engine::Submitted;
+use crate::noting::{first_lines, note_done, note_dropped, note_expired, note_told, note_trimmed};
 use crate::opening::{EngineName, Opening};
 use crate::steps::{
     audit, count_if, dropped, expired, has_raised, is_raised, moved, performed, told, trimmed,
 };
 use json_gateway::{Expiry, Ids, Message, Outcome, Refusal, Trim};
-use kv_model::call::Command;
+use recording::Lines;
 use request_core::answer::Status;
 use request_core::store::Core;
 use snapshot_feed::Feed;
@@ -43,7 +51,7 @@ const MOST_STEPS: u64 = 100;
 
 /// What stands under the lock. `rest` is what no client has of the ledger: a part for each client
 /// that may still be made, and no amount. `steps` counts the trimming steps since readers were last
-/// told of some.
+/// told of some. `lines` are what is written down of the events that led to the core.
 #[derive(Drop)]
 pub(crate) struct State<L: EngineName> {
     core: Core,
@@ -52,6 +60,7 @@ pub(crate) struct State<L: EngineName> {
     clients: u64,
     steps: u64,
     feed: Feed,
+    lines: Lines,
 }
 
 impl<L: EngineName> Model for State<L> {
@@ -62,22 +71,28 @@ impl<L: EngineName> Model for State<L> {
 
     ghost Value = { LockState };
 
-    ghost view = { λ s. record { core = s.core; clients = s.clients; log = appended s.feed } };
+    ghost view = { λ s. record {
+      core = s.core;
+      clients = s.clients;
+      log = appended s.feed;
+      lines = s.lines;
+    } };
 
-    ghost invariant = { λ s. IsLocked s.core (appended s.feed) s.book.total
+    ghost invariant = { λ s. IsLocked s.core (appended s.feed) s.book.total s.lines
         × (s.feed.book ≡ L.book) × (L.Ledger.parts ≡ 64)
         × (s.rest.parts + s.clients ≡ 64) × (s.rest.amount ≡ 0) };
 }
 
 impl<L: EngineName> State<L> {
-    /// A new core, and no client.
-    pub(crate) fn new(alloc: Global, opening: Opening) -> Self
+    /// A new core, and no client. The events are written down where `is_recorded` says so.
+    pub(crate) fn new(alloc: Global, opening: Opening, is_recorded: bool) -> Self
         requires name { opening.name ≡ L.Ledger.name }
         requires parts { opening.parts ≡ L.Ledger.parts }
         requires book { opening.book ≡ L.book }
         ensures core { StandsFor result.core.store first_world }
         ensures clients { result.clients ≡ 0 }
         ensures log { result.log ≡ [] }
+        ensures lines { result.lines ≡ blank (not is_recorded) }
     {
         let Opening { blank, feed } = opening;
         let (book, rest) = blank.open::<L>();
@@ -88,6 +103,7 @@ impl<L: EngineName> State<L> {
             clients: 0,
             steps: 0,
             feed,
+            lines: first_lines(alloc, is_recorded),
         }
     }
 
@@ -128,18 +144,18 @@ impl<L: EngineName> State<L> {
         ids: &Ids,
         client: &mut Client<L>,
         now: u64,
-        command: &Command,
+        asked: &Asked<'_>,
     ) -> Submitted
-        ensures performs { Performs ids.now (call_of command.now) (after_moment self.old.core now)
+        ensures performs { Performs ids.now (call_of asked.now.command) (after_moment self.old.core now)
             self.new.core result.outcome }
-        ensures submits { Submits ids.now client.old now (call_of command.now) result client.new }
+        ensures submits { Submits ids.now client.old now asked.now result client.new }
         ensures client { client.new ≡ record (with_done client.old
-            (given.Done command.now now result.outcome) (rise result.outcome.raised))
+            (given.Done asked.now.command now result.outcome) (rise result.outcome.raised))
             { reader = client.new.reader } }
         ensures clients { self.new.clients ≡ self.old.clients }
     {
         let before = self.status();
-        let outcome = self.make(alloc, ids, client, now, command);
+        let outcome = self.make(alloc, ids, client, now, asked);
         let after = self.status();
         let published = self.tell(rt, client, has_appended(&before, &after));
         Submitted {
@@ -157,26 +173,29 @@ impl<L: EngineName> State<L> {
         ids: &Ids,
         client: &mut Client<L>,
         now: u64,
-        command: &Command,
+        asked: &Asked<'_>,
     ) -> Outcome
-        ensures performs { Performs ids.now (call_of command.now) (after_moment self.old.core now)
+        ensures performs { Performs ids.now (call_of asked.now.command) (after_moment self.old.core now)
             self.new.core result }
         ensures submits { (b : Bool) → (c : Caller) → IsTold b self.new.log client.old c
-            → Submits ids.now client.old now (call_of command.now) (record {
+            → Submits ids.now client.old now asked.now (record {
               outcome = result;
               published = b;
               revision = self.new.core.store.revision;
             }) c }
-        ensures client { client.new ≡ with_done client.old (given.Done command.now now result)
+        ensures client { client.new ≡ with_done client.old (given.Done asked.now.command now result)
             (rise result.raised) }
         ensures clients { self.new.clients ≡ self.old.clients }
     {
         audit(&mut self.book, client);
         moved(&mut self.core, &self.feed, now);
+        self.lines.hand_in(now);
+        let command = asked.command();
         let outcome = performed(alloc, &mut self.core, &mut self.feed, command, ids);
         let raised = is_raised(&outcome);
         count_if(&self.core, &mut self.book, client, raised);
         client.note_done(command, now, &outcome);
+        note_done(&mut self.lines, asked, &outcome);
         outcome
     }
 
@@ -219,6 +238,7 @@ impl<L: EngineName> State<L> {
     {
         audit(&mut self.book, client);
         moved(&mut self.core, &self.feed, now);
+        self.lines.hand_in(now);
     }
 
     /// Hands in a moment and then makes a step of expiry; a change is the client's.
@@ -253,20 +273,29 @@ impl<L: EngineName> State<L> {
     {
         audit(&mut self.book, client);
         moved(&mut self.core, &self.feed, now);
+        self.lines.hand_in(now);
         let step = expired(&mut self.core, &mut self.feed);
         let raised = has_raised(&step);
         count_if(&self.core, &mut self.book, client, raised);
         client.note_expired(now, &step);
+        note_expired(&mut self.lines, &step);
         step
     }
 
     /// A client made at most as many changes as the core has seen. Does nothing.
     fn see(&mut self, client: &mut Client<L>)
-        ensures sees { Sees client.old.made self.old.core }
+        ensures sees { Sees client.old.made self.old.core self.old.lines }
         ensures same { client.new ≡ client.old }
         ensures unchanged { self.new ≡ self.old }
     {
         audit(&mut self.book, client);
+    }
+
+    /// What was written down leads to the core. Does nothing.
+    fn lead(&self)
+        ensures { IsWritten self.now.lines self.now.core }
+    {
+        let _ = &self.lines;
     }
 
     /// Tells a watch what it is told next.
@@ -279,10 +308,14 @@ impl<L: EngineName> State<L> {
         ensures told { IfOk result (λ m.
             TellsFrom ids.now number self.old.core self.new.core m) }
         ensures tells { IfOk result (λ m. Tells ids.now number m) }
+        ensures lines { IfOk result
+            (λ m. NotesMessage number (Ok m) self.old.lines self.new.lines) }
         ensures clients { self.new.clients ≡ self.old.clients }
         ensures unchanged { OnErr result (self.new ≡ self.old) }
     {
-        told(alloc, &mut self.core, &self.feed, number, ids)
+        let message = told(alloc, &mut self.core, &self.feed, number, ids);
+        note_told(&mut self.lines, number, &message);
+        message
     }
 
     /// The same, for a client.
@@ -303,6 +336,7 @@ impl<L: EngineName> State<L> {
     {
         self.see(client);
         let told = self.deliver(alloc, ids, number);
+        self.lead();
         client.note_told(number, &told);
         told
     }
@@ -312,10 +346,13 @@ impl<L: EngineName> State<L> {
         ensures ends { EndsWatch number self.old.core self.new.core (is_ok result) }
         ensures drops { Drops number (is_ok result) }
         ensures missing { IfErr result (λ e. e ≡ NoWatch) }
+        ensures lines { NotesEnding number (is_ok result) self.old.lines self.new.lines }
         ensures clients { self.new.clients ≡ self.old.clients }
         ensures unchanged { OnErr result (self.new ≡ self.old) }
     {
-        dropped(&mut self.core, &self.feed, number)
+        let ended = dropped(&mut self.core, &self.feed, number);
+        note_dropped(&mut self.lines, number, ended.is_ok());
+        ended
     }
 
     /// The same, for a client.
@@ -334,6 +371,7 @@ impl<L: EngineName> State<L> {
     {
         self.see(client);
         let ended = self.drop_watch(number);
+        self.lead();
         client.note_dropped(number, ended.is_ok());
         ended
     }
@@ -342,11 +380,14 @@ impl<L: EngineName> State<L> {
     pub(crate) fn trim<R: Wait>(&mut self, rt: &R) -> Result<Trim, Refusal>
         ensures trims { IfOk result (λ t. TrimsOnce self.old.core self.new.core t) }
         ensures may { IfOk result (λ t. Trims t) }
+        ensures lines { IfOk result
+            (λ t. IsTrimNoted (is_done (told_of t)) self.old.lines self.new.lines) }
         ensures refused { IfErr result (λ e. e ≡ Memory) }
         ensures clients { self.new.clients ≡ self.old.clients }
         ensures unchanged { OnErr result (self.new ≡ self.old) }
     {
         let step = trimmed(&mut self.core, &mut self.feed)?;
+        note_trimmed(&mut self.lines, &step);
         self.show(rt, matches!(step, Trim::Done(_)));
         Ok(step)
     }
@@ -368,6 +409,7 @@ impl<L: EngineName> State<L> {
     {
         self.see(client);
         let step = self.trim(rt)?;
+        self.lead();
         client.note_trimmed(&step);
         Ok(step)
     }

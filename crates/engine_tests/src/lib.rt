@@ -19,3 +19,5 @@ mod rows;
 mod texts;
 #[cfg(test)]
 mod threads;
+#[cfg(test)]
+mod written;

@@ -12,7 +12,8 @@ use Rattle.http_loop.specs.Answered.{AreMessages, Conn, IsAnswered, IsStream, Is
 use Rattle.http_loop.specs.Turned.{NotBegun, Serves, progress}
 use Rattle.kv_model.specs.declared.call.Command.{Command}
 use Rattle.engine_lock.specs.declared.engine.Submitted.{Submitted}
-use Rattle.http_front.specs.Engines.{Answers, AreTrimmed, Awaits, Begins, Does, Finishes, Looks, Starts, Submits, Tells}
+use Rattle.engine_lock.specs.Asking.{Asking}
+use Rattle.http_front.specs.Engines.{Answers, AreTrimmed, Awaits, Begins, Does, Finishes, Looks, Starts, Submits, Tells, asking_by}
 
 -- ---- one call
 
@@ -27,8 +28,8 @@ awaits s _ c _ (Awaits.at_once h) = refl
 awaits s _ c c' (Awaits.behind h t) = trimmed 0 true c c' t
 awaits s _ c c' (Awaits.lost h t) = trimmed 0 false c c' t
 
-does : (ids : Ids) (c c' : Caller) (command : Command) (o : Outcome) → Does ids c command o c' → c.made ≤ c'.made
-does ids c c' command o d =
+does : (ids : Ids) (c c' : Caller) (asking : Asking) (o : Outcome) → Does ids c asking o c' → c.made ≤ c'.made
+does ids c c' asking o d =
     let first = awaits d.submitted o d.told c' d.awaits in
     let e = ap (λ (c : Caller). c.made) d.given_is in
     omega (arith, first, e)
@@ -41,18 +42,18 @@ begins : (s : Bool) (c from : Caller) → Begins s c from → from.made ≡ c.ma
 begins true c from h = ap (λ (c : Caller). c.made) h
 begins false c from h = ap (λ (c : Caller). c.made) h.same
 
-done : (ids : Ids) (c c' : Caller) (command : Command) (o : Outcome) → Submits ids c command o c' ⊎ Looks ids c command o c' → c.made ≤ c'.made
-done ids c c' command o (inl s) =
-    let first = starts command c s.from s.starts in
-    let rest = does ids s.from c' command o s.does in
+done : (ids : Ids) (c c' : Caller) (asking : Asking) (command : Command) (o : Outcome) → Submits ids c asking o c' ⊎ Looks ids c command o c' → c.made ≤ c'.made
+done ids c c' asking command o (inl s) =
+    let first = starts asking.command c s.from s.starts in
+    let rest = does ids s.from c' asking o s.does in
     omega (arith, first, rest)
-done ids c c' command o (inr l) =
+done ids c c' asking command o (inr l) =
     let first = begins l.query.serializable c l.looks.from l.looks.begins in
     let rest = ap (λ (c : Caller). c.made) l.looks.reads.client in
     omega (arith, first, rest)
 
 answers : (ids : Ids) (c c' : Caller) (a : Asked) (o : Outcome) → Answers ids c a o c' → c.made ≤ c'.made
-answers ids c c' a o (inl did) = done ids c c' did.command o did.does
+answers ids c c' a o (inl did) = done ids c c' (asking_by a did.command) did.command o did.does
 answers ids c c' a o (inr refused) = let e = ap (λ (c : Caller). c.made) refused.same in omega (arith, e)
 
 tells : (ids : Ids) (c c' : Caller) (n : ℕ) (x : Told) → Tells ids c n x c' → c'.made ≡ c.made

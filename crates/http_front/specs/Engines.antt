@@ -15,6 +15,7 @@ use Rattle.kv_model.specs.History.{end_of}
 use Rattle.kv_model.specs.Ranges as ranges
 use Rattle.kv_model.specs.Requests.{request_of}
 use Rattle.kv_model.specs.Told as model
+use Rattle.kv_model.specs.Wire.{WireEvent}
 use Rattle.store_laws.specs.Snapshots.{Untrimmed, untrimmed_of}
 use Rattle.trim_core.specs.declared.trimmer.Trim.{Trim}
 use Rattle.trim_core.specs.Told.{told_of}
@@ -31,6 +32,7 @@ use Rattle.json_gateway.specs.Endings.{Refuses, fault_of_reading, is_done, is_wa
 use Rattle.json_gateway.specs.Outcomes.{response_of}
 use Rattle.engine_lock.specs.Locked.{Caller, knowing, left, plus, rise, with_done}
 use Rattle.engine_lock.specs.Locked as lock
+use Rattle.engine_lock.specs.Asking.{Asking}
 use Rattle.engine_lock.specs.declared.engine.Submitted.{Submitted}
 use Rattle.engine_lock.specs.declared.past.Given.TheVariants as given
 use Rattle.http_loop.specs.declared.answering.Told.{Told}
@@ -61,13 +63,14 @@ pub data Awaits : Submitted → Outcome → Caller → Caller → Type 0 where
 
 -- ---- a command
 
--- It was submitted once, for that client, at some moment; where its answer waits for trimming, that was done behind it.
-pub record Does (ids : Ids) (c : Caller) (command : Command) (o : Outcome) (c' : Caller) : Type 0 where
+-- It was submitted once, for that client, at some moment, with the request for it; where its answer waits for trimming, that
+-- was done behind it.
+pub record Does (ids : Ids) (c : Caller) (asking : Asking) (o : Outcome) (c' : Caller) : Type 0 where
   pub now : ℕ
   pub submitted : Submitted
   pub told : Caller
-  pub submits : lock.Submits ids (left c) now (call_of command) submitted told
-  pub given_is : told ≡ record (with_done (left c) (given.Done command now submitted.outcome) (rise submitted.outcome.raised))
+  pub submits : lock.Submits ids (left c) now asking submitted told
+  pub given_is : told ≡ record (with_done (left c) (given.Done asking.command now submitted.outcome) (rise submitted.outcome.raised))
       { reader = told.reader }
   pub awaits : Awaits submitted o told c'
 
@@ -124,10 +127,10 @@ abbrev pub Starts : Command → Caller → Caller → Type 0
 Starts command c from = (left from ≡ left c) ⊎ ((query : RangeQuery) × (command ≡ commands.Range query) × CatchesUp c from)
 
 -- It was submitted.
-pub record Submits (ids : Ids) (c : Caller) (command : Command) (o : Outcome) (c' : Caller) : Type 0 where
+pub record Submits (ids : Ids) (c : Caller) (asking : Asking) (o : Outcome) (c' : Caller) : Type 0 where
   pub from : Caller
-  pub starts : Starts command c from
-  pub does : Does ids from command o c'
+  pub starts : Starts asking.command c from
+  pub does : Does ids from asking o c'
 
 -- It is a Range, and it was read beside the engine.
 pub record Looks (ids : Ids) (c : Caller) (command : Command) (o : Outcome) (c' : Caller) : Type 0 where
@@ -137,11 +140,15 @@ pub record Looks (ids : Ids) (c : Caller) (command : Command) (o : Outcome) (c' 
 
 -- ---- a request
 
+-- a command that was read from this request
+abbrev pub asking_by : Asked → Command → Asking
+asking_by a command = record { command = command; request = Some (WireEvent.post (path_asked a) a.body) }
+
 -- A request asked for a command, which was done.
 pub record Did (ids : Ids) (c : Caller) (a : Asked) (o : Outcome) (c' : Caller) : Type 0 where
   pub command : Command
   pub is : request_of (path_asked a) a.body ≡ Ok (call_of command)
-  pub does : Submits ids c command o c' ⊎ Looks ids c command o c'
+  pub does : Submits ids c (asking_by a command) o c' ⊎ Looks ids c command o c'
 
 -- A request asked for none, and is refused in the words of its fault; the engine gave nothing.
 pub record Refused (c : Caller) (a : Asked) (o : Outcome) (c' : Caller) : Type 0 where

@@ -5,12 +5,11 @@ ghost use Rattle.http_front.specs.Engines as engines;
 ghost use Rattle.http_front.specs.Engines.{AreTrimmed, Awaits, Does, Looks, Submits, lost_answer};
 
 use crate::beside::looked;
-use engine_lock::{Client, EngineName, Submitted};
+use engine_lock::{Asked, Client, EngineName, Submitted};
 use http_input::Request;
 use http_loop::{Answering, Told, command_path};
 use http_peer::{Clock, Gate};
-use json_gateway::{Bad, Message, Outcome, Settled, Trim, WireEvent, dismissed, read};
-use kv_model::call::Command;
+use json_gateway::{Bad, Message, Outcome, Settled, Trim, dismissed, read};
 use recorded_engine::Recorded;
 use std::alloc::Global;
 use std::sync::Wait;
@@ -56,9 +55,8 @@ where
         match read(alloc, path, request.body) {
             Ok(command) => {
                 let now = self.clock.now();
-                let body = request.body;
-                let event = WireEvent::Post { path, body };
-                done(&self.events, alloc, state, now, &command, &event)
+                let asked = Asked::by(&command, path, request.body);
+                done(&self.events, alloc, state, now, &asked)
             }
             Err(bad) => refused(alloc, bad),
         }
@@ -110,16 +108,15 @@ fn done<L: EngineName, G: Gate, R: Wait>(
     alloc: Global,
     client: &mut Client<L>,
     now: u64,
-    command: &Command,
-    event: &WireEvent<'_>,
+    asked: &Asked<'_>,
 ) -> Outcome
-    ensures { Submits events.now.engine.now client.old command.now result client.new
-        ⊎ Looks events.now.engine.now client.old command.now result client.new }
+    ensures { Submits events.now.engine.now client.old asked.now result client.new
+        ⊎ Looks events.now.engine.now client.old asked.now.command result client.new }
 {
-    if let Some(outcome) = looked(events, alloc, client, now, command) {
+    if let Some(outcome) = looked(events, alloc, client, now, asked.command()) {
         return outcome;
     }
-    performed(events, client, now, command, event)
+    performed(events, client, now, asked)
 }
 
 /// Submits a command, and does the trimming that its answer waits for.
@@ -127,12 +124,11 @@ fn performed<L: EngineName, G: Gate, R: Wait>(
     events: &Recorded<'_, L, G, R>,
     client: &mut Client<L>,
     now: u64,
-    command: &Command,
-    event: &WireEvent<'_>,
+    asked: &Asked<'_>,
 ) -> Outcome
-    ensures { Does events.now.engine.now client.old command.now result client.new }
+    ensures { Does events.now.engine.now client.old asked.now result client.new }
 {
-    let submitted = events.submit(client, now, command, event);
+    let submitted = events.submit(client, now, asked);
     awaited(events, client, submitted)
 }
 

@@ -35,9 +35,9 @@ use std::time;
 ///
 /// `call` is the number of the connection, which the gate is told of before the first byte of each
 /// request, before the request is handed to the engine, and after its reply. The clock is read for
-/// each request. Each event is written down where the gate has a record; then only a serializable
-/// Range is read beside the engine. A watch rests for 20 ms where it is told nothing, and ends where the gate says
-/// then that its client has left.
+/// each request. The gate is told of each event; where it has them written down, only a serializable
+/// Range is read beside the engine. A watch rests for 20 ms where it is told nothing, and ends where
+/// the gate says then that its client has left.
 ///
 /// Fails and costs as [`serve_all`] does, which it is over an engine.
 pub fn work<L, G, C, R, In, Out>(

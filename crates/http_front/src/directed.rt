@@ -61,8 +61,8 @@ impl Clock for Standing {
 /// the engine is closed. The director may return after `connections` have come and gone, too: no
 /// further one is let in, and the server still ends when it returns.
 ///
-/// What the gate asks for is as by `pool`; it is for the director to have its events written down
-/// where the gate has a record ([`Recorded`](crate::Recorded)).
+/// What the gate asks for is as by `pool`; it is for the director to tell the gate of its own events,
+/// as [`Recorded`](crate::Recorded) does.
 ///
 /// Fails as [`pool`](crate::pool) does; where a list or a thread is wanting at the start, the
 /// director is not called.

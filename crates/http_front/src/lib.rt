@@ -19,8 +19,8 @@
 //! [`pool_directed`] serves without the two threads beside the connections, until somebody ends it
 //! ([`Directing`]).
 //!
-//! Where the gate has a [`Record`], each event of the engine is written down there, as the line of a
-//! script, in the order in which the events are made ([`Recorded`]).
+//! Where the gate says so, the engine writes its events down as the lines of a script, and the gate is
+//! told behind each event, and may take them ([`Recorded`], [`Takes`]).
 //!
 //! Each thread is started in a small function of its own (`threads.rt`): what a thread asks of its
 //! closure, that it may cross, is proved where little else is known.
@@ -42,8 +42,7 @@ pub use directed::{Directing, Limits, pool_directed};
 pub use http_head::Head;
 pub use http_input::{Input, Request, next_request};
 pub use http_loop::serve_alone;
-pub use http_peer::{Clock, Gate, MOST_CONNECTIONS, OpenGate};
+pub use http_peer::{Clock, Gate, MOST_CONNECTIONS, OpenGate, Takes};
 pub use http_reply::{Counted, Front, ReplyBuffer, write_chunk, write_reply};
 pub use recorded_engine::Recorded;
-pub use recording::Record;
 pub use threads::pool;

@@ -1,7 +1,5 @@
 //! What a server asks of whoever runs it: when a request may go on, what time it is, and whether a
-//! client has left; and where its events are written down.
-
-use recording::Record;
+//! client has left; and whether its events are written down.
 
 /// Is told of each request of a server. A test holds requests back by it.
 pub trait Gate {
@@ -20,15 +18,22 @@ pub trait Gate {
         false
     }
 
-    /// Where the events are written down that the server makes; `None` where they are not. It is the
-    /// same record at each call.
-    fn record(&self) -> Option<&Record> {
-        None
+    /// Whether the events are to be written down that the server makes. It says the same at each
+    /// call.
+    fn is_recorded(&self) -> bool {
+        false
     }
 
-    /// Comes behind each event that may have been written down, when the record is held no more, and
+    /// Comes behind each event that may have been written down, when the engine is held no more, and
     /// before the event's reply: the lines may be taken.
-    fn recorded(&self) {}
+    fn recorded<T: Takes>(&self, _lines: &T) {}
+}
+
+/// Has the lines of the events that a server has made.
+pub trait Takes {
+    /// Puts the lines that were not taken yet in place of what a list had. Says whether they are all:
+    /// where they are not, none will come.
+    fn take(&self, text: &mut Vec<u8>) -> bool;
 }
 
 /// Holds no request back.

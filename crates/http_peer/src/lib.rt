@@ -1,7 +1,7 @@
 //! The clients of a server, as it sees them, and what it asks of whoever runs it.
 //!
 //! A [`Gate`] holds requests back for tests, is told where a request is waited for, and knows
-//! whether a client has left, and where events are written down; a [`Clock`] tells the moments by
+//! whether a client has left, and whether events are written down; a [`Clock`] tells the moments by
 //! which leases end. A [`Door`] lets connections in one at a time, counts them, and keeps one that
 //! came while every worker was taken. A [`Peer`] is the client at the other end of a connection:
 //! [`Coming`] and [`Going`] read and write for it, and [`PeerGate`] is a gate that looks at it, so
@@ -25,5 +25,5 @@ mod gate;
 mod peer;
 
 pub use door::{Door, MOST_CONNECTIONS};
-pub use gate::{Clock, Gate, OpenGate};
+pub use gate::{Clock, Gate, OpenGate, Takes};
 pub use peer::{Coming, Going, Peer, PeerGate};

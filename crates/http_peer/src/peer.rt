@@ -3,8 +3,7 @@
 ghost use Rattle.std.specs.Io.{ReadsAtMost};
 
 use crate::door::Door;
-use crate::gate::Gate;
-use recording::Record;
+use crate::gate::{Gate, Takes};
 use std::io;
 use std::io::{ErrorKind, Read, Write};
 use std::net::{TcpListener, TcpStream};
@@ -163,12 +162,12 @@ impl<'p, 's, G: Gate> Gate for PeerGate<'p, 's, G> {
         self.peer.is_ending() || self.peer.has_left() || self.gate.has_left(call)
     }
 
-    fn record(&self) -> Option<&Record> {
-        self.gate.record()
+    fn is_recorded(&self) -> bool {
+        self.gate.is_recorded()
     }
 
-    fn recorded(&self) {
-        self.gate.recorded();
+    fn recorded<T: Takes>(&self, lines: &T) {
+        self.gate.recorded(lines);
     }
 }
 

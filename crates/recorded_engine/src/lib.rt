@@ -1,18 +1,17 @@
-//! An engine whose events are written down, in the order in which they are made, where somebody
-//! wants them.
+//! An engine, and the gate of a server, which is told of each of its events.
 //!
 //! Each call of [`Recorded`] makes the event that the engine's call of that name makes, and has its
-//! contract, word for word. Where the gate has a record, the event's line is noted there
-//! ([`recording::Record`]) while the record is held, so that lines and events have one order; what
-//! changes nothing but the clock has no line. For example, of a command on behalf of a client:
+//! contract, word for word. Then the gate is told, which may take the lines of the events where the
+//! engine writes them down ([`engine_lock::Engine::recorded`]); whoever has an engine and its gate
+//! makes events by this alone, so that no line waits for long. For example, of a command on behalf of
+//! a client:
 //!
 //! ```text
 //! let events = Recorded { rt, engine, gate };
-//! let submitted = events.submit(&mut client, now, &command, &WireEvent::Post { path, body });
+//! let submitted = events.submit(&mut client, now, &Asked::by(&command, path, body));
 //! ```
 //!
-//! The contract is that of each event by itself. That the lines, read as a script, lead to what the
-//! engine holds is tested alone, in `tests/recorded`.
+//! The contract is that of each event by itself. What the lines are is said in `engine_lock`.
 #![tactic(auto)]
 
 mod recorded;

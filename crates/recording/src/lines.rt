@@ -1,17 +1,22 @@
 //! Lines of a script, for events as they are made.
-ghost use Rattle.std.specs.Prelude.{◌≡◌, ◌++◌, ◌∷◌, [], ◌&&◌, MatchBool, OnErr, OnOk, false, true, map, max, decimal};
+ghost use Rattle.std.specs.Prelude.{◌≡◌, ◌++◌, ◌∷◌, [], ◌&&◌, MatchBool, OnErr, OnOk, false, true, map, decimal};
 ghost use Rattle.json_gateway.specs.Runs.{event_view};
 ghost use Rattle.kv_model.specs.Wire as kv_model_events;
-ghost use Rattle.recording.specs.Lines.{IsNoted, IsTrimNoted, line_of, lines_of, moment_line, within_line};
+ghost use Rattle.recording.specs.Lines.{IsNoted, IsTrimNoted, blank, handed, line_of, lines_of};
+ghost use Rattle.recording.specs.Lines.{moment_line, within_line};
 
+use crate::taken::Taken;
 use itoa::Buffer;
 use json_gateway::WireEvent;
 use std::alloc::{AllocError, Global};
+use std::marker::Model;
 
 /// The lines of the events so far that were not taken yet.
 #[derive(Drop)]
 pub struct Lines {
     text: Vec<u8>,
+    /// What was taken before, for clauses alone.
+    taken: Taken,
     /// Room for the line that is written next.
     line: Vec<u8>,
     /// The greatest moment that was handed in, in milliseconds.
@@ -24,31 +29,63 @@ pub struct Lines {
     is_lost: bool,
 }
 
+impl Model for Lines {
+    ghost use Rattle.recording.specs.Lines.{Written};
+
+    ghost Value = { Written };
+
+    ghost view = { λ l. record {
+      taken = l.taken;
+      text = l.text.items;
+      clock = l.clock;
+      told = l.told;
+      is_trimmed = l.is_trimmed;
+      is_lost = l.is_lost;
+    } };
+}
+
 impl Lines {
-    /// No event was made, at the moment 0.
-    pub(crate) fn new(alloc: Global) -> Self
-        ensures text { result.text.items ≡ [] }
-        ensures clock { result.clock ≡ 0 }
-        ensures told { result.told ≡ 0 }
-        ensures trimmed { result.is_trimmed ≡ false }
-        ensures lost { result.is_lost ≡ false }
+    /// No event was made, at the moment 0. Takes no memory.
+    pub fn new(alloc: Global) -> Self
+        ensures { result ≡ blank false }
+    {
+        Lines::blank(alloc, false)
+    }
+
+    /// The same, of events that are not to be written down: no line ever is.
+    pub fn none(alloc: Global) -> Self
+        ensures { result ≡ blank true }
+    {
+        Lines::blank(alloc, true)
+    }
+
+    fn blank(alloc: Global, is_lost: bool) -> Self
+        ensures { result ≡ blank is_lost }
     {
         Lines {
             text: Vec::new(alloc),
+            taken: Taken::new(),
             line: Vec::new(alloc),
             clock: 0,
             told: 0,
             is_trimmed: false,
-            is_lost: false,
+            is_lost,
         }
     }
 
     /// Takes the moment that is handed in with the next event, in milliseconds; one before an
     /// earlier one leaves the clock.
-    pub(crate) fn hand_in(&mut self, now: u64)
-        ensures { self.new ≡ record self.old { clock = max self.old.clock now } }
+    pub fn hand_in(&mut self, now: u64)
+        ensures { self.new ≡ handed self.old now }
     {
         self.clock = self.clock.max(now);
+    }
+
+    /// An event was made that has no line: none is written any more.
+    pub fn lose(&mut self)
+        ensures { self.new ≡ record self.old { is_lost = true } }
+    {
+        self.is_lost = true;
     }
 
     /// Writes down an event, which has just been made: its line, and before it `AT` and the clock
@@ -73,11 +110,10 @@ impl Lines {
 
     /// Appends the line of an event, and before it that of the clock where it has moved.
     fn add(&mut self, event: &WireEvent<'_>) -> Result<(), AllocError>
-        ensures added { OnOk result (self.new.text.items ≡ self.old.text.items
-            ++ lines_of self.old.told self.old.clock (event_view event.now)) }
-        ensures same { OnErr result (self.new.text.items ≡ self.old.text.items) }
-        ensures others { self.new
-            ≡ record self.old { text = self.new.text; line = self.new.line } }
+        ensures added { OnOk result (self.new.text
+            ≡ self.old.text ++ lines_of self.old.told self.old.clock (event_view event.now)) }
+        ensures same { OnErr result (self.new.text ≡ self.old.text) }
+        ensures others { self.new ≡ record self.old { text = self.new.text } }
     {
         self.line.clear();
         append(&mut self.line, self.told, self.clock, event)?;
@@ -93,6 +129,13 @@ impl Lines {
             return;
         }
         self.note(&WireEvent::Trim);
+        self.mark(is_done);
+    }
+
+    /// The last line is that of a trimming step, which said Done or not.
+    fn mark(&mut self, is_done: bool)
+        ensures { self.new ≡ record self.old { is_trimmed = is_done } }
+    {
         self.is_trimmed = is_done;
     }
 
@@ -104,15 +147,16 @@ impl Lines {
     }
 
     /// Puts the text in place of what a list had, and is left with none. Says whether it is all of
-    /// it: no event's line was lost for want of memory.
-    pub(crate) fn take(&mut self, text: &mut Vec<u8>) -> bool
-        ensures text { text.new.items ≡ self.old.text.items }
-        ensures left { self.new ≡ record self.old { text = self.new.text } }
-        ensures none { self.new.text.items ≡ [] }
+    /// it: no event's line was lost for want of memory. Constant time.
+    pub fn take(&mut self, text: &mut Vec<u8>) -> bool
+        ensures text { text.new.items ≡ self.old.text }
+        ensures left { self.new
+            ≡ record self.old { taken = self.old.taken ++ self.old.text ∷ []; text = [] } }
         ensures all { MatchBool result (self.old.is_lost ≡ false) (self.old.is_lost ≡ true) }
     {
         text.clear();
         std::mem::swap(&mut self.text, text);
+        self.taken.add(text);
         !self.is_lost
     }
 }

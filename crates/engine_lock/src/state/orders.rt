@@ -7,6 +7,8 @@ ghost use Rattle.kv_model.specs.Follows.Outcome.{said};
 ghost use Rattle.kv_model.specs.Wire.{WireTold};
 ghost use Rattle.kv_model.specs.Wire as events;
 ghost use Rattle.json_gateway.specs.Runs.{certified_outcome, trimmed_view};
+ghost use Rattle.kv_model.specs.World.{World, at_moment};
+ghost use Rattle.store_laws.specs.Stands.{StandsFor};
 ghost use Rattle.request_core.specs.Commands.{TrimsOnce};
 ghost use Rattle.request_core.specs.State.{after_moment};
 ghost use Rattle.snapshot_feed.specs.States.{appended};
@@ -14,6 +16,7 @@ ghost use Rattle.engine_lock.specs.Fits.{Fits};
 ghost use Rattle.engine_lock.specs.Orders.{Makes};
 
 use super::State;
+use crate::noting::note_checked;
 use crate::opening::EngineName;
 use crate::steps::trimmed;
 use json_gateway::{Certified, Refusal, Trimmed, certifying};
@@ -31,6 +34,7 @@ impl<L: EngineName> State<L> {
             (said (WireTold.clock result)) }
         ensures clients { self.new.clients ≡ self.old.clients }
     {
+        self.lines.hand_in(now);
         clock_at(&mut self.core, &self.feed, now)
     }
 
@@ -56,6 +60,7 @@ impl<L: EngineName> State<L> {
         ensures unchanged { OnErr result (self.new ≡ self.old) }
     {
         let step = trimmed_and_checked(alloc, &mut self.core, &mut self.feed)?;
+        note_checked(&mut self.lines, &step);
         self.show(rt, matches!(step, Trimmed::Done { .. }));
         Ok(step)
     }
@@ -66,6 +71,8 @@ impl<L: EngineName> State<L> {
 fn clock_at(core: &mut Core, feed: &Feed, now: u64) -> u64
     requires { Fits core.old (appended feed.now) }
     ensures core { core.new ≡ after_moment core.old now }
+    ensures stands { (w : World) → StandsFor core.old.store w
+        → StandsFor core.new.store (at_moment w now) }
     ensures clock { result ≡ core.new.store.clock }
     ensures makes { (ids : IdsOf) → Makes ids (events.WireEvent.moment now)
         (said (WireTold.clock result)) }

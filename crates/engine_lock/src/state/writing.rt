@@ -1,0 +1,16 @@
+//! The lines under the lock are taken.
+ghost use Rattle.std.specs.Prelude.{◌≡◌};
+ghost use Rattle.engine_lock.specs.Takings.{Takes};
+
+use super::State;
+use crate::opening::EngineName;
+
+impl<L: EngineName> State<L> {
+    /// Puts the lines that were not taken yet in place of what a list had. Says whether they are all.
+    pub(crate) fn take_lines(&mut self, text: &mut Vec<u8>) -> bool
+        ensures takes { Takes text.new.items result }
+        ensures same { self.new ≡ record self.old { lines = self.new.lines } }
+    {
+        self.lines.take(text)
+    }
+}
