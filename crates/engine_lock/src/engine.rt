@@ -25,12 +25,16 @@ use std::hint::spin_loop;
 use std::marker::Model;
 use std::sync::ledger::Ledger;
 use std::sync::{Mutex, MutexGuard, Wait};
+use std::thread::yield_now;
 
-/// How often the lock is asked for before a thread sleeps for it.
-const ASKS: u64 = 60;
+/// How often the lock is asked for with pauses between, which are about as long as most holdings.
+const ASKS: u64 = 3;
 
-/// How long a thread spins between two of these.
-const SPINS: u64 = 20;
+/// How long each of these pauses is.
+const PAUSES: u64 = 20;
+
+/// How often it is asked for then, with other threads let run between, before a thread sleeps.
+const TURNS: u64 = 200;
 
 /// A core that any number of threads share. Clauses see of it by which ids it answers.
 #[derive(Drop)]
@@ -276,15 +280,23 @@ impl<L: EngineName> Engine<L> {
     }
 }
 
-/// What is under a lock. Most holdings are short, so a thread asks for a while before it sleeps.
+/// What is under a lock. Most holdings are short, so a thread asks a few times. Then the one that has
+/// the lock may be waiting for a core, so this thread gives way to others between two asks; it sleeps
+/// for the lock only where all that did not do.
 pub fn locked<'a, T, R: Wait>(rt: &R, mutex: &'a Mutex<T>) -> MutexGuard<'a, T> {
     for _ in 0..ASKS {
         if let Some(guard) = mutex.try_lock() {
             return guard;
         }
-        for _ in 0..SPINS {
+        for _ in 0..PAUSES {
             spin_loop();
         }
+    }
+    for _ in 0..TURNS {
+        if let Some(guard) = mutex.try_lock() {
+            return guard;
+        }
+        yield_now();
     }
     mutex.lock(rt)
 }
