@@ -1,4 +1,4 @@
--- Versions in pages: each page has 256 places, filled one after another.
+-- Versions in pages: each page has 512 places, filled one after another.
 use Rattle.std.specs.Prelude.{◌≡◌, ℕ, suc, zero, ◌<◌, ◌≤◌, ◌+◌, ◌-◌, List, [], ◌∷◌, ◌++◌, Bool, true, false}
 use Rattle.std.specs.Prelude.{Option, None, Some, if◌then◌else◌, length, nat_lt}
 use Rattle.std.specs.List.{AllByRecursion, flat_map, slice_get, remove}
@@ -29,9 +29,9 @@ flat ps = flat_map versions_in ps
 abbrev pub HaveVersions : List Places → Type 0
 HaveVersions ps = AllByRecursion (λ (p : Places). 0 < length p.versions) ps
 
--- each page has no more versions than places that were ever used, and no more of these than 256
+-- each page has no more versions than places that were ever used, and no more of these than 512
 abbrev pub Fit : List Places → Type 0
-Fit ps = AllByRecursion (λ (p : Places). (length p.versions ≤ p.used) × (p.used ≤ 256)) ps
+Fit ps = AllByRecursion (λ (p : Places). (length p.versions ≤ p.used) × (p.used ≤ 512)) ps
 
 -- the pages of a table, and the number of their versions
 pub record ArePages (ps : List Places) (n : ℕ) : Type 0 where
@@ -70,7 +70,7 @@ place_of p (Some q) = p.main - q.main
 
 abbrev pub room_in : Option Places → Bool
 room_in None = false
-room_in (Some p) = nat_lt p.used 256
+room_in (Some p) = nat_lt p.used 512
 
 -- the last page has a place that was never used
 abbrev pub has_room : List Places → Bool

@@ -53,10 +53,10 @@ impl VersionTable {
     }
 
     /// The number of pages: never more than there are versions, since one without versions is
-    /// freed, and never fewer than the versions fill, 256 to a page. Constant time.
+    /// freed, and never fewer than the versions fill, 512 to a page. Constant time.
     pub fn pages(&self) -> usize
         ensures most { result ≤ length self.now }
-        ensures least { length self.now ≤ 256 * result }
+        ensures least { length self.now ≤ 512 * result }
     {
         self.pages.len()
     }
