@@ -339,6 +339,17 @@ fn drop_first(revisions: &mut VecDeque<Rev>)
     ensures { revisions.new.items ≡ drop 1 revisions.old.items }
 {
     let _ = revisions.pop_front();
+    lighten(revisions);
+}
+
+/// Gives room back where seven of eight places stand empty, and keeps twice that of what is left: so
+/// a key that was put often does not keep the room of all that went.
+fn lighten(revisions: &mut VecDeque<Rev>)
+    ensures { revisions.new.items ≡ revisions.old.items }
+{
+    if revisions.len() <= revisions.capacity() / 8 {
+        revisions.shrink_to(revisions.len() * 2);
+    }
 }
 
 /// Drops a revision: the oldest at once, another by a walk over all.
