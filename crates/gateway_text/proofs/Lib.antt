@@ -1,3 +1,4 @@
 pub mod Objects
 pub mod Responses
 pub mod Rooms
+pub mod Bare

@@ -1,3 +1,4 @@
 pub mod Tokens
 pub mod Views
 pub mod Rooms
+pub mod Bare

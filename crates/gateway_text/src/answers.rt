@@ -9,11 +9,11 @@ ghost use Rattle.kv_model.specs.Told as told;
 ghost use Rattle.kv_model.specs.Answers as texts;
 ghost use Rattle.kv_model.specs.Answers.{success_response};
 ghost use Rattle.range_view.specs.Replies.{kv_view, reply_view};
-ghost use Rattle.gateway_text.specs.Rooms.{most_of_kvs, most_or};
+ghost use Rattle.gateway_text.specs.Rooms.{most_of_kv, most_of_kvs};
 ghost use Rattle.gateway_text.specs.Tokens.{data_tokens};
 ghost use Rattle.gateway_text.specs.Views.{header_data};
 
-use crate::header::{Header, digits, room_of_header};
+use crate::header::{Header, bare_text, digits, room_of_header};
 use crate::json_text::JsonText;
 use crate::key_value::room_of_kv;
 use kv_model::ids::Ids;
@@ -31,11 +31,8 @@ pub(crate) const ANSWER_NAMES: usize = 44;
 /// The bytes that say that the limit cut some, which are among those names.
 const MORE: usize = 12;
 
-/// The same of a Put's answer, where no key-value before it is told.
-const PUT: usize = 12;
-
-/// The bytes of the name of the key-value before a Put.
-const PREVIOUS: usize = 11;
+/// The same of a Put's answer that tells the key-value before it.
+const PUT: usize = 23;
 
 /// The body of a Range's answer. Its header has the reply's revision.
 #[tactic(auto, using(crate::proofs::Objects::written), unfolding(kv_model::specs::Answers::reply_text))]
@@ -68,10 +65,15 @@ pub fn put_text(
           revision = revision;
         })).body) }
 {
-    let room = room_of_put(ids, revision, previous);
-    let mut out = JsonText::with_capacity(alloc, room)?;
-    write_put(&mut out, &Header::Whole(*ids, revision), previous)?;
-    Ok(out.into_bytes())
+    match previous {
+        None => bare_text(alloc, ids, revision),
+        Some(held) => {
+            let room = room_of_put(ids, revision, &held);
+            let mut out = JsonText::with_capacity(alloc, room)?;
+            write_put(&mut out, &Header::Whole(*ids, revision), Some(held))?;
+            Ok(out.into_bytes())
+        }
+    }
 }
 
 /// The body of a DeleteRange's answer, with the revision after it, the number of keys that it
@@ -153,15 +155,11 @@ pub(crate) fn frame_of(ids: &Ids, revision: u64, count: u64) -> usize
     room_of_header(ids, revision) + ANSWER_NAMES + digits(count)
 }
 
-/// Room for the text of a Put's answer.
-fn room_of_put(ids: &Ids, revision: u64, previous: Option<KvRef<'_>>) -> usize
-    ensures { result ≤ 148 + most_or 0 (option_map kv_view previous.entry) }
+/// Room for the text of a Put's answer that tells what was held before.
+fn room_of_put(ids: &Ids, revision: u64, held: &KvRef<'_>) -> usize
+    ensures { result ≤ 148 + most_of_kv (kv_view held.now) }
 {
-    let frame = room_of_header(ids, revision) + PUT;
-    match &previous {
-        Some(kv) => room_of_kv(kv).saturating_add(frame + PREVIOUS),
-        None => frame,
-    }
+    room_of_kv(held).saturating_add(room_of_header(ids, revision) + PUT)
 }
 
 /// So much room, and room for these key-values.

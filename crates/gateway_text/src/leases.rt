@@ -12,7 +12,7 @@ ghost use Rattle.gateway_text.specs.Views.{header_data, lease_data, leases_data}
 ghost use Rattle.gateway_text.specs.Views.{seconds_view, time_left_data};
 
 use crate::answers::FRAME;
-use crate::header::Header;
+use crate::header::{Header, bare_text};
 use crate::json_text::{JsonText, WriteJson};
 use kv_model::ids::Ids;
 use std::alloc::{AllocError, Global};
@@ -44,9 +44,7 @@ pub fn revoked_text(alloc: Global, revision: u64, ids: &Ids) -> Result<Vec<u8>, 
     ensures { IfOk result (λ v. v.items ≡ (success_response ids.now
         (record { reply = told.Reply.revoke; revision = revision })).body) }
 {
-    let mut out = JsonText::with_capacity(alloc, FRAME)?;
-    write_header_alone(&mut out, &Header::Whole(*ids, revision))?;
-    Ok(out.into_bytes())
+    bare_text(alloc, ids, revision)
 }
 
 /// The body of a LeaseKeepAlive's answer, with the revision of the store, and the lease's ID and
@@ -111,15 +109,6 @@ pub fn leases_text(
     let mut out = JsonText::with_capacity(alloc, room_for_leases(leases))?;
     write_leases(&mut out, &Header::Whole(*ids, revision), leases)?;
     Ok(out.into_bytes())
-}
-
-fn write_header_alone(out: &mut JsonText, header: &Header) -> Result<(), AllocError>
-    ensures { OnOk result (out.new ≡ out.old ++ data_tokens
-        (texts.header_alone (header_data header.now))) }
-{
-    out.begin_object()?;
-    out.member("header", header)?;
-    out.end_object()
 }
 
 fn write_lease(out: &mut JsonText, header: &Header, id: i64, ttl: u64) -> Result<(), AllocError>
