@@ -96,6 +96,6 @@ pub(crate) fn append(alloc: Global, tables: &mut Tables, version: Version) {
     let mut versions = Vec::new(alloc);
     let _ = versions.push(version);
     if tables.takes(&versions) {
-        let _ = tables.append(versions);
+        let _ = tables.append(&versions);
     }
 }

@@ -8,7 +8,6 @@ ghost use Rattle.lease_keys.specs.Pairs.{AreAdded, AreRemoved, HaveKeys, keys_at
 use crate::set::KeySet;
 use bytes::Bytes;
 use kv_model::version::{Body, Version};
-use range_view::Versions;
 use std::alloc::{AllocError, Global};
 use std::collections::BTreeMap;
 use std::marker::Model;
@@ -48,12 +47,11 @@ impl LeaseKeys {
     /// The error is want of memory, and the pairs of some of the versions are then added. The time
     /// is, for each of the versions, logarithmic in the number of leases and in that of the lease's
     /// keys.
-    pub fn add_all(&mut self, versions: Versions<'_>) -> Result<(), AllocError>
-        ensures ok { OnOk result (ArePut versions.entry self.old self.new) }
-        ensures err { OnErr result (ArePartlyPut versions.entry self.old self.new) }
+    pub fn add_all(&mut self, versions: &[Version]) -> Result<(), AllocError>
+        ensures ok { OnOk result (ArePut versions.now self.old self.new) }
+        ensures err { OnErr result (ArePartlyPut versions.now self.old self.new) }
     {
-        let mut versions = versions;
-        while let Some(version) = versions.next() {
+        for version in versions {
             if let Err(full) = self.add_version(version) {
                 return Err(full);
             }
@@ -81,7 +79,7 @@ impl LeaseKeys {
     }
 
     /// Whether there is no pair. Takes no memory, and constant time.
-    pub(crate) fn is_empty(&self) -> bool
+    pub fn is_empty(&self) -> bool
         ensures { result ≡ is_empty self.now }
     {
         self.leases.is_empty()

@@ -1,9 +1,10 @@
 -- How the versions that are kept grow by those of a revision, and lose them again.
-use Rattle.std.proofs.Common.{◌≡◌, ◌≤◌, ◌<◌, ◌+◌, ◌-◌, ◌==◌, ℕ, List, [], ◌∷◌, ◌++◌, true, false, ◌&&◌, cond, nat_lt}
+use Rattle.std.proofs.Common.{◌≡◌, ◌≤◌, ◌<◌, ◌+◌, ◌-◌, ◌==◌, ℕ, List, [], ◌∷◌, ◌++◌, take, drop, true, false, ◌&&◌, cond, nat_lt}
 use Rattle.std.proofs.Common.{length, sym, ◌∙◌, ap, subst, arith, append_assoc, eq-eqb, None, Some}
 use Rattle.std.proofs.lemmas.Bool.Decides.{nat_tests}
 use Rattle.std.specs.List.{AllByRecursion}
-use Rattle.std.proofs.lemmas.List.{append-nil, nil_from_length}
+use Rattle.std.proofs.Math.ListN.{get_or}
+use Rattle.std.proofs.lemmas.List.{append-nil, take_more, take-append-drop}
 use Rattle.std.proofs.lemmas.Bool.{and_parts, eqb-true, ltb-true}
 use Rattle.kv_model.specs.declared.version.Rev.{Rev}
 use Rattle.kv_model.specs.declared.version.Version.{Version}
@@ -148,8 +149,13 @@ retracted_to-appended s (v ∷ vs) st h = ap (λ b. cond b (record s { versions 
 
 -- ---- one version after another
 
-pub all-yielded : {X : Type 0} (done rest all : List X) (n : ℕ) → done ++ rest ≡ all → n ≡ length rest → n ≡ 0 → done ≡ all
-all-yielded done rest all n e len none = sym (append-nil done) ∙ ap (λ xs. done ++ xs) (sym (nil_from_length rest (sym len ∙ none))) ∙ e
+-- those before an index, the one at it, and those behind it
+pub split_at : {X : Type 0} (us : List X) (i : ℕ) (v : X) → i < length us → v ≡ get_or us i v → take i us ++ (v ∷ drop (i + 1) us) ≡ us
+split_at us i v less is =
+    sym (append_assoc (take i us) (v ∷ []) (drop (i + 1) us))
+    ∙ ap (λ xs. (take i us ++ xs ∷ []) ++ drop (i + 1) us) is
+    ∙ ap (λ xs. xs ++ drop (i + 1) us) (sym (take_more us i v less))
+    ∙ take-append-drop (i + 1) us
 
 -- the next one stands behind what was kept and what was added before it
 pub ready : (vs us done rest : List Version) (v : Version) → IsRising (vs ++ us) → done ++ (v ∷ rest) ≡ us → IsBehind v.rev (vs ++ done)

@@ -1,5 +1,5 @@
 //! How a table of versions and its index grow together, and shrink again where the growth fails.
-ghost use Rattle.std.specs.Prelude.{◌≡◌, ◌++◌, ◌∷◌, [], OnOk, OnErr};
+ghost use Rattle.std.specs.Prelude.{◌≡◌, ◌++◌, ◌∷◌, [], IfOk, OnOk, OnErr};
 ghost use Rattle.version_table.specs.Rising.{IsBehind, IsRising, retracted};
 ghost use Rattle.key_index.specs.Agrees.{Agrees};
 ghost use Rattle.range_view.specs.Stored.{IsUpTo, IsBelow, AreOf, AreTied};
@@ -37,26 +37,31 @@ pub fn take_back(table: &mut VersionTable, index: &mut KeyIndex, main: u64)
     table.retract(main);
 }
 
+/// The version once more, with its key and value shared by count.
+fn copy_of(version: &Version) -> Result<Version, AllocError>
+    ensures { IfOk result (λ v. v ≡ version.now) }
+{
+    version.clone()
+}
+
 /// Adds a version to the table and its revision to the index, or to none of the two. To the index
 /// it is the same whether the version is a put or a tombstone.
 pub fn add(
     table: &mut VersionTable,
     index: &mut KeyIndex,
-    version: Version,
+    version: &Version,
 ) -> Result<(), AllocError>
-    requires behind { IsBehind version.rev table.old }
+    requires behind { IsBehind version.now.rev table.old }
     requires tied { AreTied index.old table.old }
-    ensures ok { OnOk result (table.new ≡ table.old ++ version ∷ []) }
+    ensures ok { OnOk result (table.new ≡ table.old ++ version.now ∷ []) }
     ensures err { OnErr result (table.new ≡ table.old) }
     ensures tied { AreTied index.new table.new }
 {
-    let key = version.key.clone()?;
-    let rev = version.rev;
-    table.push(version)?;
-    match index.put(&key, rev) {
+    table.push(copy_of(version)?)?;
+    match index.put(&version.key, version.rev) {
         Ok(()) => Ok(()),
         Err(error) => {
-            table.remove(rev);
+            table.remove(version.rev);
             Err(error)
         }
     }
@@ -67,13 +72,13 @@ pub fn add_all(
     table: &mut VersionTable,
     index: &mut KeyIndex,
     main: u64,
-    versions: Vec<Version>,
+    versions: &[Version],
 ) -> Result<(), AllocError>
-    requires rising { IsRising (table.old ++ versions.items) }
+    requires rising { IsRising (table.old ++ versions.now) }
     requires older { IsBelow main table.old }
-    requires newest { AreOf main versions.items }
+    requires newest { AreOf main versions.now }
     requires tied { AreTied index.old table.old }
-    ensures ok { OnOk result (table.new ≡ table.old ++ versions.items) }
+    ensures ok { OnOk result (table.new ≡ table.old ++ versions.now) }
     ensures err { OnErr result (table.new ≡ table.old) }
     ensures tied { AreTied index.new table.new }
 {

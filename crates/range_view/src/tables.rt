@@ -218,22 +218,22 @@ impl Tables {
     ///
     /// The error is want of memory, and what is kept is then as it was. The time is logarithmic in
     /// the number of keys for each of the versions, but for the growth of a list.
-    pub fn append(&mut self, versions: Vec<Version>) -> Result<(), AllocError>
-        requires { is_next self.old.revision versions.items ≡ true }
-        ensures ok { OnOk result (self.new ≡ appended self.old versions.items) }
+    pub fn append(&mut self, versions: &[Version]) -> Result<(), AllocError>
+        requires { is_next self.old.revision versions.now ≡ true }
+        ensures ok { OnOk result (self.new ≡ appended self.old versions.now) }
         ensures err { OnErr result (self.new ≡ self.old) }
     {
-        match main_of(&versions) {
+        match main_of(versions) {
             Some(main) => self.append_all(main, versions),
             None => Ok(()),
         }
     }
 
     /// Adds the versions of a revision, of which there are some.
-    fn append_all(&mut self, main: u64, versions: Vec<Version>) -> Result<(), AllocError>
-        requires next { is_next self.old.revision versions.items ≡ true }
-        requires first { first_main_of versions.items ≡ Some main }
-        ensures ok { OnOk result (self.new ≡ appended self.old versions.items) }
+    fn append_all(&mut self, main: u64, versions: &[Version]) -> Result<(), AllocError>
+        requires next { is_next self.old.revision versions.now ≡ true }
+        requires first { first_main_of versions.now ≡ Some main }
+        ensures ok { OnOk result (self.new ≡ appended self.old versions.now) }
         ensures err { OnErr result (self.new ≡ self.old) }
     {
         match add_all(&mut self.table, &mut self.index, main, versions) {

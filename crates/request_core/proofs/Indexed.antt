@@ -47,13 +47,14 @@ module _ (t : Stored) (vs : List Version) (stored : IsStored t) (sound : IsSound
       ∙ value_at-by t.versions (end_of t.revision) k (all-reached t stored sound)
 
   -- where they are taken back, the index has just what it had
-  taken-back-just : (old mid new : Pairs) → AreJust old (value_now t.versions) → ArePartlyPut (newest whole) old mid
+  taken-back-just : (old mid new : Pairs) → AreJust old (value_now t.versions) → ArePartlyPut vs old mid
       → AreTakenBack (newest whole) (value_at whole.versions (end_of (whole.revision - 1))) mid new
       → AreJust new (value_now t.versions)
   taken-back-just old mid new just partly back =
       let seen : List ℕ → Option KeyValue = value_at whole.versions (end_of (whole.revision - 1)) in
       just-same new seen (value_now t.versions) before
-      (just-taken_back (newest whole) seen old mid new (just-same old (value_now t.versions) seen (λ k. sym (before k)) just) partly back)
+      (just-taken_back (newest whole) seen old mid new (just-same old (value_now t.versions) seen (λ k. sym (before k)) just)
+      (subst (λ us. ArePartlyPut us old mid) (sym newest-is) partly) back)
 
   settled-same : (us : List Version) (f g p q : List ℕ → Option KeyValue) (mid new : Pairs) → ((k : List ℕ) → f k ≡ g k)
       → ((k : List ℕ) → p k ≡ q k) → AreSettled us f p mid new → AreSettled us g q mid new
@@ -63,13 +64,13 @@ module _ (t : Stored) (vs : List Version) (stored : IsStored t) (sound : IsSound
 
   -- where they stand, and what they replaced is gone, it has just what the keys hold now
   settled-just : (old mid new : Pairs) → t.revision < last_main → IsStored whole → AreJust old (value_now t.versions)
-      → ArePut (newest whole) old mid
+      → ArePut vs old mid
       → AreSettled (newest whole) (value_at whole.versions (end_of (whole.revision - 1))) (value_at whole.versions (end_of whole.revision)) mid new
       → AreJust new (value_now whole.versions)
   settled-just old mid new room risen-stored just put settled =
       let now = λ (k : List ℕ). value_at-by whole.versions (end_of whole.revision) k
       (all-reached whole risen-stored (sound-appended t vs sound room next)) in
-      just-settled t.versions vs old mid new just (subst (λ us. ArePut us old mid) newest-is put)
+      just-settled t.versions vs old mid new just put
       (settled-same vs (value_at whole.versions (end_of (whole.revision - 1))) (value_now t.versions)
       (value_at whole.versions (end_of whole.revision)) (value_now whole.versions) mid new before now
       (subst (λ us. AreSettled us (value_at whole.versions (end_of (whole.revision - 1))) (value_at whole.versions (end_of whole.revision)) mid new)
@@ -84,20 +85,20 @@ pub record IsGrown (t : Stored) (vs : List Version) (old : Pairs) (held : List �
 
 -- in the form that an append cites where the sink takes nothing
 pub taken-grown : (t : Stored) (vs : List Version) (u : Stored) (old mid new : Pairs) → IsGrown t vs old (value_now t.versions)
-    → u ≡ appended t vs → ArePartlyPut (newest u) old mid
+    → u ≡ appended t vs → ArePartlyPut vs old mid
     → AreTakenBack (newest u) (value_at u.versions (end_of (u.revision - 1))) mid new → AreJust new (value_now t.versions)
 taken-grown t vs u old mid new grown e partly back =
     taken-back-just t vs grown.stored grown.sound grown.next old mid new grown.just
-    (subst (λ (s : Stored). ArePartlyPut (newest s) old mid) e partly)
+    partly
     (subst (λ (s : Stored). AreTakenBack (newest s) (value_at s.versions (end_of (s.revision - 1))) mid new) e back)
 
 -- and where it has taken them
 pub settled-grown : (t : Stored) (vs : List Version) (u : Stored) (old mid new : Pairs) → IsGrown t vs old (value_now t.versions)
-    → t.revision < last_main → u ≡ appended t vs → IsStored u → ArePut (newest u) old mid
+    → t.revision < last_main → u ≡ appended t vs → IsStored u → ArePut vs old mid
     → AreSettled (newest u) (value_at u.versions (end_of (u.revision - 1))) (value_at u.versions (end_of u.revision)) mid new
     → AreJust new (value_now u.versions)
 settled-grown t vs u old mid new grown room e stored put settled =
     subst (λ (s : Stored). AreJust new (value_now s.versions)) (sym e)
     (settled-just t vs grown.stored grown.sound grown.next old mid new room (subst IsStored e stored) grown.just
-    (subst (λ (s : Stored). ArePut (newest s) old mid) e put)
+    put
     (subst (λ (s : Stored). AreSettled (newest s) (value_at s.versions (end_of (s.revision - 1))) (value_at s.versions (end_of s.revision)) mid new) e settled))

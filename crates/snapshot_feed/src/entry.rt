@@ -1,11 +1,10 @@
 //! What the writer logs, and the tables that take it in.
-ghost use Rattle.std.specs.Prelude.{◌≡◌, take, OnOk, OnErr, IfOk};
+ghost use Rattle.std.specs.Prelude.{◌≡◌, OnOk, OnErr};
 ghost use Rattle.kv_model.specs.Feed.{published};
 ghost use Rattle.store_laws.specs.Snapshots.{absorb, blank};
 
 use feed_book::Front;
 use kv_model::feed::Op;
-use kv_model::version::Version;
 use left_right::Absorb;
 use range_view::Tables;
 use std::alloc::{AllocError, Global};
@@ -21,7 +20,6 @@ pub enum Entry {
 /// A copy of the tables, with the front of the operations that are in it.
 #[derive(Drop)]
 pub struct ReadTables {
-    pub alloc: Global,
     pub tables: Tables,
     pub front: Front,
 }
@@ -33,27 +31,15 @@ impl ReadTables {
         ensures front { result.front ≡ front }
     {
         ReadTables {
-            alloc,
             tables: Tables::new(alloc),
             front,
         }
     }
 }
 
-/// The versions once more, with keys and values shared by count.
-fn copies(alloc: Global, versions: &[Version]) -> Result<Vec<Version>, AllocError>
-    ensures { IfOk result (λ v. v.items ≡ versions.now) }
-{
-    let mut list = Vec::with_capacity(alloc, versions.len())?;
-    for version in versions {
-        list.push(version.clone()?)?;
-    }
-    Ok(list)
-}
-
 /// Takes an operation into the tables. `AllocError` comes where a growth found no memory, or a
 /// batch is not of the next revision, and the tables are then as they were.
-fn take_in(alloc: Global, tables: &mut Tables, op: &Op) -> Result<(), AllocError>
+fn take_in(tables: &mut Tables, op: &Op) -> Result<(), AllocError>
     ensures ok { OnOk result (tables.new ≡ absorb tables.old (published op.now)) }
     ensures err { OnErr result (tables.new ≡ tables.old) }
 {
@@ -62,7 +48,7 @@ fn take_in(alloc: Global, tables: &mut Tables, op: &Op) -> Result<(), AllocError
             if !tables.takes(versions) {
                 return Err(AllocError);
             }
-            tables.append(copies(alloc, versions)?)
+            tables.append(versions)
         }
         Op::Floor(revision) => {
             tables.compact(*revision);
@@ -85,13 +71,9 @@ impl Absorb<Entry> for ReadTables {
     ghost applied = { after };
 
     fn absorb_first(&mut self, operation: &Entry, _other: &Self) -> Result<(), AllocError> {
-        let ReadTables {
-            alloc,
-            tables,
-            front,
-        } = self;
+        let ReadTables { tables, front } = self;
         match operation {
-            Entry::Change(op) => take_in(*alloc, tables, op),
+            Entry::Change(op) => take_in(tables, op),
             Entry::Mark(mark) => {
                 *front = mark.again();
                 Ok(())

@@ -48,22 +48,17 @@ fn version(main: u64, sub: u64, change: Change) -> Version {
     }
 }
 
-/// Appends the changes as the next revision of the tables.
-fn append(alloc: Global, tables: &mut Tables, changes: &[Change]) {
+/// Appends the changes as the next revision of the tables, and gives their versions.
+fn append(alloc: Global, tables: &mut Tables, changes: &[Change]) -> Vec<Version> {
     let main = tables.revision().saturating_add(1);
     let mut versions = Vec::new(alloc);
     for (sub, change) in changes.iter().copied().enumerate() {
         let _ = versions.push(version(main, sub as u64, change));
     }
     if tables.takes(&versions) {
-        let _ = tables.append(versions);
+        let _ = tables.append(&versions);
     }
-}
-
-fn add(index: &mut LeaseKeys, tables: &Tables) -> bool {
-    index
-        .add_all(tables.versions_from(tables.revision()))
-        .is_ok()
+    versions
 }
 
 fn settle(index: &mut LeaseKeys, tables: &Tables) {
@@ -96,14 +91,14 @@ enum Row {
 fn is_so(alloc: Global, index: &mut LeaseKeys, tables: &mut Tables, row: Row) -> bool {
     match row {
         Row::Stands(changes) => {
-            append(alloc, tables, changes);
-            let added = add(index, tables);
+            let versions = append(alloc, tables, changes);
+            let added = index.add_all(&versions).is_ok();
             settle(index, tables);
             added
         }
         Row::Goes(changes) => {
-            append(alloc, tables, changes);
-            let added = add(index, tables);
+            let versions = append(alloc, tables, changes);
+            let added = index.add_all(&versions).is_ok();
             take_back(index, tables);
             added
         }

@@ -2,6 +2,7 @@
 ghost use Rattle.std.specs.Prelude.{◌≡◌, ◌⊎◌, ◌+◌, ◌<◌, ◌≤◌, Some, None, [], map, is_ok, is_some};
 ghost use Rattle.std.specs.Prelude.{option_map, IfOk, IfErr, OnOk, OnErr};
 ghost use Rattle.kv_model.specs.declared.refusal.Refusal.TheVariants.{Memory, NoWatch};
+ghost use Rattle.kv_model.specs.Lists.{is_empty};
 ghost use Rattle.store_laws.specs.Stands.{noted};
 ghost use Rattle.kv_model.specs.Step.{last_main, start_of, watched_range};
 ghost use Rattle.store_laws.specs.Stores.{refusal_of_watch, tracked_made};
@@ -74,6 +75,13 @@ impl WatchHub {
             entries: Entries::new(alloc),
             made: 0,
         }
+    }
+
+    /// Whether no watch stands. Takes no memory, and constant time.
+    pub fn is_empty(&self) -> bool
+        ensures { result ≡ is_empty self.now.watches }
+    {
+        self.entries.len() == 0
     }
 
     /// Makes a watch of what is kept, and answers its number: one more than the last one made, from

@@ -1,5 +1,5 @@
 //! How a core grows: versions of the next revision go to a sink, are kept, and noted by watches.
-ghost use Rattle.kv_model.specs.Feed.{Published, published};
+ghost use Rattle.kv_model.specs.Feed.{Published};
 ghost use Rattle.store_laws.specs.Stands.{noted};
 ghost use Rattle.range_view.specs.Stored.{AreOf, IsUpTo};
 ghost use Rattle.kv_model.specs.Step.{last_main};
@@ -8,7 +8,7 @@ ghost use Rattle.kv_model.specs.History.{end_of, value_at};
 ghost use Rattle.lease_keys.specs.Holding.{ArePut, ArePartlyPut, AreSettled, AreTakenBack};
 ghost use Rattle.range_view.specs.Stored.{IsStored};
 ghost use Rattle.request_core.specs.State.{newest};
-ghost use Rattle.std.specs.Prelude.{◌≡◌, ◌≢◌, ◌+◌, ◌-◌, ◌<◌, [], map, IfOk, OnOk, OnErr};
+ghost use Rattle.std.specs.Prelude.{◌≡◌, ◌≢◌, ◌+◌, ◌-◌, ◌<◌, [], map, OnOk, OnErr};
 
 use super::Core;
 use kv_model::feed::{Op, Sink};
@@ -17,7 +17,7 @@ use lease_keys::LeaseKeys;
 use range_view::Versions;
 use range_view::revision::end_of;
 use range_view::tables::Tables;
-use std::alloc::{AllocError, Global};
+use std::alloc::AllocError;
 use watch_hub::WatchHub;
 
 impl Core {
@@ -80,9 +80,8 @@ impl Core {
         ensures err { OnErr result ((self.new ≡ self.old) × (sink.new ≡ sink.old)) }
     {
         let main = self.tables.revision() + 1;
-        let batch = batch_of(self.alloc, &versions)?;
-        self.tables.append(versions)?;
-        if let Err(full) = take_newest(&mut self.keys, &self.tables, batch, sink) {
+        self.tables.append(&versions)?;
+        if let Err(full) = take_newest(&mut self.keys, versions, sink) {
             take_back(&mut self.keys, &self.tables);
             self.tables.retract(main);
             return Err(full);
@@ -105,6 +104,9 @@ impl Core {
         requires { before + 1 ≡ self.old.store.revision }
         ensures { self.new ≡ noted_above before self.old }
     {
+        if self.hub.is_empty() {
+            return;
+        }
         let now = self.tables.revision();
         note_all(&mut self.hub, self.tables.versions_from(now), before, now);
     }
@@ -114,19 +116,18 @@ impl Core {
 /// sink take their batch.
 fn take_newest<S: Sink>(
     keys: &mut LeaseKeys,
-    tables: &Tables,
-    batch: Op,
+    versions: Vec<Version>,
     sink: &mut S,
 ) -> Result<(), AllocError>
-    ensures ok { OnOk result (ArePut (newest tables.now) keys.old keys.new) }
-    ensures told { OnOk result (S.takes sink.old (published batch) sink.new) }
+    ensures ok { OnOk result (ArePut versions.items keys.old keys.new) }
+    ensures told { OnOk result (S.takes sink.old (Published.batch versions.items) sink.new) }
     ensures err { OnErr result
-        (ArePartlyPut (newest tables.now) keys.old keys.new × (sink.new ≡ sink.old)) }
+        (ArePartlyPut versions.items keys.old keys.new × (sink.new ≡ sink.old)) }
 {
-    if let Err(full) = keys.add_all(tables.versions_from(tables.revision())) {
+    if let Err(full) = keys.add_all(&versions) {
         return Err(full);
     }
-    sink.take(batch)
+    sink.take(Op::Batch(versions))
 }
 
 /// The index of leases loses what it has only for versions of the present revision, which are to
@@ -148,6 +149,9 @@ fn settle(keys: &mut LeaseKeys, tables: &Tables)
     ensures stored { IsStored tables.now }
 {
     let revision = tables.revision();
+    if keys.is_empty() {
+        return;
+    }
     let place = end_of(revision.saturating_sub(1));
     keys.settle(
         &tables.view_at(place),
@@ -170,11 +174,4 @@ fn note_all(hub: &mut WatchHub, versions: Versions<'_>, before: u64, now: u64)
         hub.note(slice, before);
     }
     hub.note(&[], now);
-}
-
-/// The batch of versions, which are cloned.
-fn batch_of(alloc: Global, versions: &[Version]) -> Result<Op, AllocError>
-    ensures { IfOk result (λ op. published op ≡ Published.batch versions.now) }
-{
-    Ok(Op::Batch(Vec::from_clones(alloc, versions)?))
 }

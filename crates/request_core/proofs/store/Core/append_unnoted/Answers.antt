@@ -1,4 +1,4 @@
-use Rattle.std.proofs.Common.{◌+◌, ◌<◌, sym, ◌∙◌, ap, subst}
+use Rattle.std.proofs.Common.{◌≡◌, ◌+◌, ◌<◌, sym, ◌∙◌, ap, subst}
 use Rattle.kv_model.specs.History.{value_now}
 use Rattle.kv_model.specs.Step.{last_main}
 use Rattle.lease_keys.specs.Holding.{AreJust}
@@ -14,8 +14,9 @@ pub invariant_of-self-in-Err : goal.invariant_of-self-in-Err
 invariant_of-self-in-Err g c =
     let t = c.self.inside.tables in
     let vs = c.args.versions.items in
+    let grew : c.append.new.self ≡ appended t vs = c.in_ok-append.ensures.ok ∙ ap (appended t) c.deref.ensures.value in
     let next = subst (λ r. AreNext r vs) (sym (ap (λ (s : CoreState). s.store.revision) c.self.view_is)) c.requires.next in
-    let back = c.retract.ensures ∙ ap (retracted_to (c.revision-main.result + 1)) c.in_ok-append.ensures.ok
+    let back = c.retract.ensures ∙ ap (retracted_to (c.revision-main.result + 1)) grew
     ∙ ap (λ n. retracted_to (n + 1) (appended t vs)) c.revision-main.ensures.value ∙ retracted_to-appended t vs c.revision-main.ensures.stored next.next in
     let grown : IsGrown t vs c.self.inside.keys (value_now t.versions) = record {
       stored = c.revision-main.ensures.stored;
@@ -26,15 +27,16 @@ invariant_of-self-in-Err g c =
       subst IsSound (sym back) c.self.invariant.0,
       subst (λ (u : Stored). AreJust c.take_back.new.keys (value_now u.versions)) (sym back)
           (taken-grown t vs c.append.new.self c.self.inside.keys c.take_newest.new.keys c.take_back.new.keys grown
-          c.in_ok-append.ensures.ok c.in-Err.ensures.err.0 c.take_back.ensures),
+          grew c.in-Err.ensures.err.0 c.take_back.ensures),
     )
 
 pub returns-in-Err-clause-err : goal.returns-in-Err-clause-err
 returns-in-Err-clause-err g c =
     let t = c.self.inside.tables in
     let vs = c.args.versions.items in
+    let grew : c.append.new.self ≡ appended t vs = c.in_ok-append.ensures.ok ∙ ap (appended t) c.deref.ensures.value in
     let next = subst (λ r. AreNext r vs) (sym (ap (λ (s : CoreState). s.store.revision) c.self.view_is)) c.requires.next in
-    let back = c.retract.ensures ∙ ap (retracted_to (c.revision-main.result + 1)) c.in_ok-append.ensures.ok
+    let back = c.retract.ensures ∙ ap (retracted_to (c.revision-main.result + 1)) grew
     ∙ ap (λ n. retracted_to (n + 1) (appended t vs)) c.revision-main.ensures.value ∙ retracted_to-appended t vs c.revision-main.ensures.stored next.next in
     (ap (λ (u : Stored). core_state u c.self.inside.book c.self.inside.hub c.self.inside.stamp) back ∙ c.self.view_is, c.in-Err.ensures.err.1)
 
@@ -42,6 +44,7 @@ pub invariant_of-self-2 : goal.invariant_of-self-2
 invariant_of-self-2 g c =
     let t = c.self.inside.tables in
     let vs = c.args.versions.items in
+    let grew : c.append.new.self ≡ appended t vs = c.in_ok-append.ensures.ok ∙ ap (appended t) c.deref.ensures.value in
     let same = ap (λ (s : CoreState). s.store.revision) c.self.view_is in
     let next = subst (λ r. AreNext r vs) (sym same) c.requires.next in
     let room = subst (λ r. r < last_main) (sym same) c.requires.room in
@@ -51,15 +54,16 @@ invariant_of-self-2 g c =
       next = next;
       just = c.self.invariant.1;
     } in (
-      subst IsSound (sym c.in_ok-append.ensures.ok) (sound-appended t vs c.self.invariant.0 room next),
+      subst IsSound (sym grew) (sound-appended t vs c.self.invariant.0 room next),
       settled-grown t vs c.append.new.self c.self.inside.keys c.take_newest.new.keys c.settle.new.keys grown room
-          c.in_ok-append.ensures.ok c.settle.ensures.stored c.in_default.ensures.ok c.settle.ensures.settled,
+          grew c.settle.ensures.stored c.in_default.ensures.ok c.settle.ensures.settled,
     )
 
 pub returns-clause-ok : goal.returns-clause-ok
 returns-clause-ok g c =
     let t = c.self.inside.tables in
     let vs = c.args.versions.items in
+    let grew : c.append.new.self ≡ appended t vs = c.in_ok-append.ensures.ok ∙ ap (appended t) c.deref.ensures.value in
     let next = subst (λ r. AreNext r vs) (sym (ap (λ (s : CoreState). s.store.revision) c.self.view_is)) c.requires.next in
-    ap (λ (u : Stored). core_state u c.self.inside.book c.self.inside.hub c.self.inside.stamp) c.in_ok-append.ensures.ok
+    ap (λ (u : Stored). core_state u c.self.inside.book c.self.inside.hub c.self.inside.stamp) grew
     ∙ grown-state t c.self.inside.book c.self.inside.hub vs c.self.inside.stamp next ∙ ap (λ (s : CoreState). with_unnoted s vs) c.self.view_is
