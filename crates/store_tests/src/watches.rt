@@ -103,6 +103,8 @@ enum Row {
     Note,
     /// What a watch waits for.
     First(u64, Waiting),
+    /// Whether no watch stands.
+    Empty(bool),
     /// The second watch was told of all up to revision 3.
     Advance,
     Cancel(u64, Result<(), Refusal>),
@@ -118,6 +120,7 @@ fn is_so(alloc: Global, hub: &mut WatchHub, tables: &Tables, row: Row) -> bool {
             true
         }
         Row::First(number, expected) => first(hub, number) == expected,
+        Row::Empty(expected) => hub.is_empty() == expected,
         Row::Advance => {
             hub.advance(tables, 2, 3);
             true
@@ -147,8 +150,10 @@ fn first_wrong_of_fresh(alloc: Global, rows: &[Row]) -> Option<usize> {
     wrong
 }
 
-const WAITING: [Row; 16] = [
+const WAITING: [Row; 18] = [
+    Row::Empty(true),
     Row::Watch(0, Ok(1)),
+    Row::Empty(false),
     Row::Watch(3, Ok(2)),
     Row::Watch(6, Ok(3)),
     Row::Note,

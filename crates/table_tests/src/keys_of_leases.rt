@@ -86,6 +86,8 @@ enum Row {
     /// A revision that is taken back.
     Goes(&'static [Change]),
     Keys(i64, Keys),
+    /// Whether the index has no pair.
+    Empty(bool),
 }
 
 fn is_so(alloc: Global, index: &mut LeaseKeys, tables: &mut Tables, row: Row) -> bool {
@@ -103,6 +105,7 @@ fn is_so(alloc: Global, index: &mut LeaseKeys, tables: &mut Tables, row: Row) ->
             added
         }
         Row::Keys(lease, expected) => seen(index, lease) == expected,
+        Row::Empty(expected) => index.is_empty() == expected,
     }
 }
 
@@ -130,8 +133,10 @@ fn first_wrong_of_fresh(alloc: Global, rows: &[Row]) -> Option<usize> {
     wrong
 }
 
-static ROWS: [Row; 23] = [
+static ROWS: [Row; 26] = [
+    Row::Empty(true),
     Row::Stands(&[(b"c", Some(5)), (b"b", Some(-2)), (b"a", Some(0))]),
+    Row::Empty(false),
     Row::Keys(5, Ok((1, Some(99)))),
     Row::Keys(-2, Ok((1, Some(98)))),
     Row::Keys(0, Ok((0, None))),
@@ -163,6 +168,7 @@ static ROWS: [Row; 23] = [
     Row::Keys(-3, Ok((1, Some(97)))),
     Row::Stands(&[(b"a", None)]),
     Row::Keys(-3, Ok((0, None))),
+    Row::Empty(true),
 ];
 
 #[test]
