@@ -211,8 +211,8 @@ impl<L: EngineName> Engine<L> {
     /// Makes a trimming step, as `Core::trim_step` does, of which the feed is told before it is
     /// made. `Memory` comes where the feed finds none for that, and then nothing has changed.
     ///
-    /// What was appended is published where the step says Done, and after 1,000 steps that were
-    /// not told of; that waits for readings, as [`Engine::submit`] does.
+    /// What was appended is published where the step says Done, and after 100 steps that were not
+    /// told of; that waits for readings, as [`Engine::submit`] does.
     pub fn trim_once<R: Wait>(&self, rt: &R) -> Result<Trim, Refusal>
         ensures trims { IfOk result (λ t. Trims t) }
         ensures refused { IfErr result (λ e. e ≡ Memory) }

@@ -216,8 +216,9 @@ impl Tables {
     /// Adds the versions of the revision after the present one, which becomes the present one. No
     /// versions change nothing.
     ///
-    /// The error is want of memory, and what is kept is then as it was. The time is logarithmic in
-    /// the number of keys for each of the versions, but for the growth of a list.
+    /// Each version is copied; its key and its value are shared by count. The error is want of memory,
+    /// and what is kept is then as it was. The time is logarithmic in the number of keys for each of
+    /// the versions, but for the growth of a list.
     pub fn append(&mut self, versions: &[Version]) -> Result<(), AllocError>
         requires { is_next self.old.revision versions.now ≡ true }
         ensures ok { OnOk result (self.new ≡ appended self.old versions.now) }
