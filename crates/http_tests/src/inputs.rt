@@ -88,8 +88,8 @@ fn begun(alloc: Global, first: &[u8], fails: bool) -> (Told, u64, u64) {
     outcome(alloc, Cut { first, then, fails })
 }
 
-/// The first number of bytes at which a beginning of a request comes out otherwise than the papers
-/// say.
+/// The first number of bytes at which a beginning of a request is answered otherwise than an input
+/// that ends, or fails, within a request.
 fn first_wrong_beginning(alloc: Global, bytes: &[u8]) -> Option<usize> {
     for count in 1..bytes.len() {
         let ends = begun(alloc, &bytes[..count], false) == (Told::Fails(Front::End), 2, 0);
