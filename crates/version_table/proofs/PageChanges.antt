@@ -95,7 +95,7 @@ held-freed f (suc i) (p ∷ ps) h = by (is_void (slice_get (change_at f i ps) i)
 
 -- a page that fits still does with fewer versions
 fit-freed : (f : Places → Places) (i : ℕ) (ps : List Places)
-    → ((p : Places) → (length p.versions ≤ p.used) × (p.used ≤ 512) → (length (versions_in (f p)) ≤ used_in (f p)) × (used_in (f p) ≤ 512))
+    → ((p : Places) → (length p.versions ≤ p.used) × (p.used ≤ 256) → (length (versions_in (f p)) ≤ used_in (f p)) × (used_in (f p) ≤ 256))
     → Fit ps → Fit (freed i (change_at f i ps))
 fit-freed f i [] g h = tt
 fit-freed f zero (p ∷ ps) g h = by (is_empty (versions_in (f p)))
@@ -176,11 +176,11 @@ pub room-some : (ps : List Places) → has_room ps ≡ true → 0 < length ps
 room-some [] h = cc
 room-some (p ∷ ps) h = omega arith
 
-room-number : (n : ℕ) → nat_lt n 512 ≡ true → n < 512
+room-number : (n : ℕ) → nat_lt n 256 ≡ true → n < 256
 room-number n h = grind (arith, nat_tests)
 
 -- the last page has room
-pub room-last : (ps : List Places) (d : Places) → has_room ps ≡ true → used_in (get_or ps (length ps - 1) d) < 512
+pub room-last : (ps : List Places) (d : Places) → has_room ps ≡ true → used_in (get_or ps (length ps - 1) d) < 256
 room-last ps d h =
     let some : 0 < length ps = room-some ps h in
     let last : Some (get_or ps (length ps - 1) d) ≡ newest ps =
@@ -205,7 +205,7 @@ held-pushed v ps h = by (has_room ps)
 fit-grown : (v : Version) (p : Places) (ps : List Places) → room_in (newest (p ∷ ps)) ≡ true → Fit (p ∷ ps)
     → Fit (change_at (with_version v) (length ps) (p ∷ ps))
 fit-grown v p [] e h =
-    let less : p.used < 512 = room-number p.used e in
+    let less : p.used < 256 = room-number p.used e in
     ((omega (arith, h.0.0, length_push p.versions v), omega arith), tt)
 fit-grown v p (q ∷ qs) e h = (h.0, fit-grown v q qs (ap room_in (newest-cons p q qs) ∙ e) h.1)
 
@@ -221,4 +221,4 @@ fit-pushed v ps h = by (has_room ps) refl
     by : (b : Bool) → has_room ps ≡ b → Fit (cond b (change_at (with_version v) (length ps - 1) ps) (ps ++ fresh v ∷ []))
     by true e = fit-last v ps e h
     by false e =
-        each-append (λ (p : Places). (length p.versions ≤ p.used) × (p.used ≤ 512)) ps (fresh v ∷ []) h ((omega arith, omega arith), tt)
+        each-append (λ (p : Places). (length p.versions ≤ p.used) × (p.used ≤ 256)) ps (fresh v ∷ []) h ((omega arith, omega arith), tt)

@@ -327,8 +327,8 @@ pages-fit (p ∷ ps) h = let rest : length ps ≤ length (flat ps) = pages-fit p
         longer (u ∷ us) = let m : length (flat ps) ≤ length (us ++ flat ps) = longer us in omega arith
 
 -- and no fewer than the versions fill
-pub pages-filled : (ps : List Places) → Fit ps → length (flat ps) ≤ 512 * length ps
+pub pages-filled : (ps : List Places) → Fit ps → length (flat ps) ≤ 256 * length ps
 pages-filled [] h = omega arith
 pages-filled (p ∷ ps) h =
-    let rest : length (flat ps) ≤ 512 * length ps = pages-filled ps h.1 in
+    let rest : length (flat ps) ≤ 256 * length ps = pages-filled ps h.1 in
     omega (arith, rest, h.0.0, h.0.1, length-append p.versions (flat ps))

@@ -1,6 +1,6 @@
--- Versions in pages: each page has 512 places, filled one after another.
+-- Versions in pages: each page has 256 places, filled one after another.
 use Rattle.std.specs.Prelude.{◌≡◌, ℕ, suc, zero, ◌<◌, ◌≤◌, ◌+◌, ◌-◌, List, [], ◌∷◌, ◌++◌, Bool, true, false}
-use Rattle.std.specs.Prelude.{Option, None, Some, if◌then◌else◌, length, nat_lt}
+use Rattle.std.specs.Prelude.{Option, None, Some, IfSome, if◌then◌else◌, length, nat_lt}
 use Rattle.std.specs.List.{AllByRecursion, flat_map, slice_get, remove}
 use Rattle.kv_model.specs.Lists.{is_empty, last_that}
 use Rattle.kv_model.specs.History.{without_rev}
@@ -29,15 +29,27 @@ flat ps = flat_map versions_in ps
 abbrev pub HaveVersions : List Places → Type 0
 HaveVersions ps = AllByRecursion (λ (p : Places). 0 < length p.versions) ps
 
--- each page has no more versions than places that were ever used, and no more of these than 512
+-- each page has no more versions than places that were ever used, and no more of these than 256
 abbrev pub Fit : List Places → Type 0
-Fit ps = AllByRecursion (λ (p : Places). (length p.versions ≤ p.used) × (p.used ≤ 512)) ps
+Fit ps = AllByRecursion (λ (p : Places). (length p.versions ≤ p.used) × (p.used ≤ 256)) ps
 
--- the pages of a table, and the number of their versions
-pub record ArePages (ps : List Places) (n : ℕ) : Type 0 where
+-- a page some of whose places were never used has the memory of them all
+abbrev pub HasRoom : ℕ → ℕ → Type 0
+HasRoom used room = used < 256 → 256 ≤ room
+
+-- a page of which no place was ever used
+abbrev pub blank : Places
+blank = record { used = 0; versions = [] }
+
+abbrev pub IsSpare : Option Places → Type 0
+IsSpare o = IfSome o (λ p. p ≡ blank)
+
+-- the pages of a table, the spare one, and the number of their versions
+pub record ArePages (ps : List Places) (o : Option Places) (n : ℕ) : Type 0 where
   pub rising : IsRising (flat ps)
   pub held : HaveVersions ps
   pub fit : Fit ps
+  pub spare : IsSpare o
   pub counted : n ≡ length (flat ps)
 
 -- the last version, if there is one, stands before a place
@@ -70,7 +82,7 @@ place_of p (Some q) = p.main - q.main
 
 abbrev pub room_in : Option Places → Bool
 room_in None = false
-room_in (Some p) = nat_lt p.used 512
+room_in (Some p) = nat_lt p.used 256
 
 -- the last page has a place that was never used
 abbrev pub has_room : List Places → Bool

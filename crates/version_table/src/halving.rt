@@ -1,6 +1,6 @@
 //! Rising slices of versions, as a page has one: what stands at a place, found by halving.
 ghost use Rattle.std.specs.Prelude.{◌≡◌, ◌<◌, ◌≤◌, ◌+◌, length, drop, filter, not, option_and_then};
-ghost use Rattle.std.specs.Prelude.{IfSome, option_map, option_copied, Some};
+ghost use Rattle.std.specs.Prelude.{IfSome, option_map, option_copied, Some, vec_capacity};
 ghost use Rattle.std.specs.List.{find, slice_get};
 ghost use Rattle.kv_model.specs.History.{rev_lt, is_at, without_rev};
 ghost use Rattle.version_table.specs.Rising.{IsRising, newest, count_before, without_index};
@@ -80,11 +80,12 @@ fn index_of(versions: &[Version], rev: Rev) -> Option<usize>
     }
 }
 
-/// Takes out the version at a revision, and tells how many went.
+/// Takes out the version at a revision, and tells how many went. The room stays.
 pub(crate) fn remove_at(versions: &mut Vec<Version>, rev: Rev) -> usize
     requires { IsRising versions.old.items }
     ensures value { versions.new.items ≡ without_rev (Some rev) versions.old.items }
     ensures count { result + length versions.new.items ≡ length versions.old.items }
+    ensures room { vec_capacity versions.new ≡ vec_capacity versions.old }
 {
     match index_of(versions, rev) {
         Some(index) => {

@@ -6,7 +6,7 @@
 //! revision, and each call is a function on such lists. `range_view` keeps a table and an index of
 //! its keys, and `trim_core` takes versions out of both.
 //!
-//! The versions stand in pages of 512 places. What is taken out moves the versions behind it on its
+//! The versions stand in pages of 256 places. What is taken out moves the versions behind it on its
 //! own page alone, its place is not used again, and a page that has no version left is freed. For
 //! example, with a revision written as main.sub, a page in brackets, and four places to a page:
 //!

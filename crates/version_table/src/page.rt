@@ -1,7 +1,7 @@
 //! A page of a table: so many places, and the versions that stand in them.
 ghost use Rattle.std.specs.Prelude.{◌≡◌, ◌↔◌, ◌+◌, ◌<◌, [], length, nat_lt};
-ghost use Rattle.std.specs.Prelude.{IfOk, OnOk, OnErr, IsTrue};
-ghost use Rattle.version_table.specs.Paged.{fresh, is_past, with_version, without_version};
+ghost use Rattle.std.specs.Prelude.{IfOk, IsOk, OnOk, OnErr, IsTrue};
+ghost use Rattle.version_table.specs.Paged.{blank, is_past, with_version, without_version};
 ghost use Rattle.version_table.specs.Rising.{IsRising};
 
 use crate::halving::{is_before, newest, remove_at};
@@ -9,13 +9,12 @@ use kv_model::version::{Rev, Version};
 use std::alloc::{AllocError, Global};
 use std::marker::Model;
 
-/// How many places a page has. Each takes 128 bytes, so the block of a page that is freed is one of
-/// those at which the C library joins the small blocks that were freed before it: a few at a time.
-/// With 256 it did so twice in a million, and 25 milliseconds long.
-pub(crate) const PLACES: usize = 512;
+/// How many places a page has.
+pub(crate) const PLACES: usize = 256;
 
 /// Versions side by side, and how many places of the page were ever used: the place of a version
-/// that was taken out is not used again.
+/// that was taken out is not used again. While some place was never used the page has the memory of
+/// all of them (the invariant of `Page`).
 #[derive(Drop)]
 pub(crate) struct Page {
     used: usize,
@@ -23,25 +22,25 @@ pub(crate) struct Page {
 }
 
 impl Model for Page {
-    ghost use Rattle.std.specs.Prelude.{◌≤◌, length};
-    ghost use Rattle.version_table.specs.Paged.{Places};
+    ghost use Rattle.std.specs.Prelude.{◌≤◌, length, vec_capacity};
+    ghost use Rattle.version_table.specs.Paged.{HasRoom, Places};
 
     ghost Value = { Places };
 
     ghost view = { λ p. record { used = p.used; versions = p.versions.items } };
 
-    ghost invariant = { λ p. (length p.versions.items ≤ p.used) × (p.used ≤ 512) };
+    ghost invariant = { λ p. (length p.versions.items ≤ p.used) × (p.used ≤ 256)
+        × HasRoom p.used (vec_capacity p.versions) };
 }
 
 impl Page {
-    /// A page whose first place has a version, and the others none. It takes the memory of all its
-    /// places at once: a page that grew would leave holes behind. The error is want of memory.
-    pub(crate) fn of(alloc: Global, version: Version) -> Result<Page, AllocError>
-        ensures { IfOk result (λ p. p ≡ fresh version) }
+    /// A page of which no place was ever used. It takes the memory of all its places at once: a page
+    /// that grew would leave holes behind. The error is want of memory.
+    pub(crate) fn blank(alloc: Global) -> Result<Page, AllocError>
+        ensures { IfOk result (λ p. p ≡ blank) }
     {
-        let mut versions = Vec::with_capacity(alloc, PLACES)?;
-        versions.push(version)?;
-        Ok(Page { used: 1, versions })
+        let versions = Vec::with_capacity(alloc, PLACES)?;
+        Ok(Page { used: 0, versions })
     }
 
     /// The versions, lent.
@@ -60,7 +59,7 @@ impl Page {
 
     /// Whether some place was never used.
     pub(crate) fn has_room(&self) -> bool
-        ensures { result ≡ nat_lt self.now.used 512 }
+        ensures { result ≡ nat_lt self.now.used 256 }
     {
         self.used < PLACES
     }
@@ -75,12 +74,13 @@ impl Page {
         }
     }
 
-    /// Puts a version into the first place that was never used. The error is want of memory, and
-    /// the page is then as it was.
+    /// Puts a version into the first place that was never used. It never fails, for the page has
+    /// the memory of all its places, and takes none.
     pub(crate) fn push(&mut self, version: Version) -> Result<(), AllocError>
-        requires { self.old.used < 512 }
+        requires { self.old.used < 256 }
         ensures ok { OnOk result (self.new ≡ with_version version self.old) }
         ensures err { OnErr result (self.new ≡ self.old) }
+        ensures room { IsOk result }
     {
         self.versions.push(version)?;
         self.used += 1;

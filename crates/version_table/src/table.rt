@@ -13,11 +13,13 @@ use kv_model::version::{Rev, Version};
 use std::alloc::{AllocError, Global};
 use std::marker::Model;
 
-/// The versions of all keys, one list that rises by revision.
+/// The versions of all keys, one list that rises by revision. Beside its pages it may have the
+/// memory of one more.
 #[derive(Drop)]
 pub struct VersionTable {
     alloc: Global,
     pages: Vec<Page>,
+    spare: Option<Page>,
     len: usize,
 }
 
@@ -30,7 +32,7 @@ impl Model for VersionTable {
 
     ghost view = { λ t. flat t.pages.items };
 
-    ghost invariant = { λ t. ArePages t.pages.items t.len };
+    ghost invariant = { λ t. ArePages t.pages.items t.spare t.len };
 }
 
 impl VersionTable {
@@ -41,6 +43,7 @@ impl VersionTable {
         VersionTable {
             alloc,
             pages: Vec::new(alloc),
+            spare: None,
             len: 0,
         }
     }
@@ -53,18 +56,19 @@ impl VersionTable {
     }
 
     /// The number of pages: never more than there are versions, since one without versions is
-    /// freed, and never fewer than the versions fill, 512 to a page. Constant time.
+    /// freed, and never fewer than the versions fill, 256 to a page. Constant time.
     pub fn pages(&self) -> usize
         ensures most { result ≤ length self.now }
-        ensures least { length self.now ≤ 512 * result }
+        ensures least { length self.now ≤ 256 * result }
     {
         self.pages.len()
     }
 
     /// Adds a version at the end. Its revision is above each one in the table.
     ///
-    /// The error is want of memory, and the table is then as it was. Constant time, but for the
-    /// growth of a page, and for that of the list of pages.
+    /// The error is want of memory, and the table is then as it was. Memory is taken for a new page
+    /// alone, for two pages of 256 versions at once. Constant time, but for the growth of the list
+    /// of pages.
     pub fn push(&mut self, version: Version) -> Result<(), AllocError>
         requires { IsBehind version.rev self.old }
         ensures ok { OnOk result (self.new ≡ self.old ++ version ∷ []) }
@@ -74,7 +78,7 @@ impl VersionTable {
         let Some(len) = self.len.checked_add(1) else {
             return Err(AllocError);
         };
-        growth::push(&mut self.pages, self.alloc, version)?;
+        growth::push(&mut self.pages, &mut self.spare, self.alloc, version)?;
         self.len = len;
         Ok(())
     }

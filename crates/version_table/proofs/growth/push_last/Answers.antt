@@ -9,8 +9,8 @@ push-requires c =
     let ps = c.args.pages.now.items in
     let q = c.index_mut.result.now in
     let same : c.len-last.result ≡ length ps = search rules in
-    subst (λ (p : Places). p.used < 512) (sym c.index_mut.ensures.value)
-    (subst (λ n. used_in (get_or ps (n - 1) q) < 512) (sym same) (room-last ps q c.requires))
+    subst (λ (p : Places). p.used < 256) (sym c.index_mut.ensures.value)
+    (subst (λ n. used_in (get_or ps (n - 1) q) < 256) (sym same) (room-last ps q c.requires))
 
 pub returns-clause-ok : goal.returns-clause-ok
 returns-clause-ok c =

@@ -1,4 +1,4 @@
--- Each page has a version, and room for 512.
+-- Each page has a version, and room for 256.
 use Rattle.std.proofs.Common.{◌≡◌, ◌≤◌, ◌*◌, List, length, sym, subst, rules}
 use Rattle.kv_model.specs.declared.version.Version.{Version}
 use Rattle.version_table.specs.Paged.{flat}
@@ -16,5 +16,5 @@ pub returns-clause-least : goal.returns-clause-least
 returns-clause-least c =
     let ps = c.self.inside.pages.items in
     let same : c.len.result ≡ length c.self.inside.pages.items = search rules in
-    subst (λ (vs : List Version). length vs ≤ 512 * c.len.result) c.self.view_is
-    (subst (λ n. length (flat ps) ≤ 512 * n) (sym same) (pages-filled ps c.self.invariant.fit))
+    subst (λ (vs : List Version). length vs ≤ 256 * c.len.result) c.self.view_is
+    (subst (λ n. length (flat ps) ≤ 256 * n) (sym same) (pages-filled ps c.self.invariant.fit))

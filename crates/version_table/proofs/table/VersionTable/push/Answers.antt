@@ -19,6 +19,7 @@ invariant_of-self-2 c =
       rising = subst IsRising (sym whole) (rising-push rev_of (flat ps) v c.self.invariant.rising behind);
       held = subst HaveVersions (sym c.in_ok-push.ensures.ok) (held-pushed v ps c.self.invariant.held);
       fit = subst Fit (sym c.in_ok-push.ensures.ok) (fit-pushed v ps c.self.invariant.fit);
+      spare = c.in_ok-push.ensures.spare;
       counted = omega (arith, longer, c.in-Some.ensures.1, c.self.invariant.counted);
     }
 

@@ -12,5 +12,6 @@ invariant_of-self c = record {
       (rising-filter rev_of (λ v. not (is_at c.args.rev v)) (flat c.self.inside.pages.items) c.self.invariant.rising);
   held = c.remove-gone.ensures.held;
   fit = c.remove-gone.ensures.fit;
+  spare = c.self.invariant.spare;
   counted = omega (arith, c.remove-gone.ensures.count, c.self.invariant.counted);
 }
