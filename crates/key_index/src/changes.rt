@@ -1,5 +1,5 @@
 //! Changes of the map from each key to its revisions. A key without revisions does not stay in it.
-ghost use Rattle.std.specs.Prelude.{◌≡◌, OnOk, OnErr};
+ghost use Rattle.std.specs.Prelude.{◌≡◌, max, OnOk, OnErr};
 ghost use Rattle.key_index.specs.KeyRevisions.{IsBehind};
 ghost use Rattle.key_index.specs.Index.{revisions, undone_at};
 ghost use Rattle.key_index.specs.Index.{with_revision, without_front, without_revision};
@@ -11,7 +11,7 @@ use std::alloc::{AllocError, Global};
 use std::collections::BTreeMap;
 
 /// Adds a revision of a key, which is above those that the key has.
-pub(crate) fn add(
+fn add(
     alloc: Global,
     keys: &mut BTreeMap<Bytes, Revisions>,
     key: &Bytes,
@@ -25,6 +25,26 @@ pub(crate) fn add(
         return revisions.push(alloc, rev);
     }
     keys.insert(key.clone()?, Revisions::one(rev))?;
+    Ok(())
+}
+
+/// Adds a revision of a key, and raises the newest main revision to that of the added one, where it
+/// is later, and to no other.
+pub(crate) fn put(
+    alloc: Global,
+    keys: &mut BTreeMap<Bytes, Revisions>,
+    newest: &mut u64,
+    key: &Bytes,
+    rev: Rev,
+) -> Result<(), AllocError>
+    requires { IsBehind rev (revisions key.now keys.old.entries) }
+    ensures ok { OnOk result (keys.new.entries ≡ with_revision key.now rev keys.old.entries) }
+    ensures err { OnErr result (keys.new.entries ≡ keys.old.entries) }
+    ensures newest { OnOk result (newest.new ≡ max newest.old rev.main) }
+    ensures unraised { OnErr result (newest.new ≡ newest.old) }
+{
+    add(alloc, keys, key, rev)?;
+    *newest = (*newest).max(rev.main);
     Ok(())
 }
 

@@ -66,8 +66,7 @@ impl KeyIndex {
         ensures ok { OnOk result (self.new ≡ with_revision key.now rev self.old) }
         ensures err { OnErr result (self.new ≡ self.old) }
     {
-        changes::add(self.alloc, &mut self.keys, key, rev)?;
-        self.newest = self.newest.max(rev.main);
+        changes::put(self.alloc, &mut self.keys, &mut self.newest, key, rev)?;
         Ok(())
     }
 

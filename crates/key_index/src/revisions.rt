@@ -3,6 +3,7 @@ ghost use Rattle.std.specs.Prelude.{◌≡◌, List, [], ◌∷◌, ◌++◌, dr
 ghost use Rattle.std.specs.Prelude.{◌<◌, ◌≤◌, ◌-◌, ◌^◌, length, IfOk, IfSome, OnOk, OnErr};
 ghost use Rattle.std.specs.Prelude.{MatchOption};
 ghost use Rattle.std.specs.List.{slice_get};
+ghost use Rattle.std.specs.VecDeque.{deque_capacity};
 ghost use Rattle.kv_model.specs.Lists.{is_empty};
 ghost use Rattle.kv_model.specs.History.{rev_lt, rev_le};
 ghost use Rattle.key_index.specs.KeyRevisions.{IsBehind, IsRising, after_place, at_place};
@@ -272,7 +273,8 @@ impl Held {
 
 /// A list of two revisions, with room for two more.
 fn two(alloc: Global, first: Rev, second: Rev) -> Result<VecDeque<Rev>, AllocError>
-    ensures { IfOk result (λ revisions. revisions.items ≡ first ∷ second ∷ []) }
+    ensures items { IfOk result (λ revisions. revisions.items ≡ first ∷ second ∷ []) }
+    ensures room { IfOk result (λ revisions. deque_capacity revisions ≡ 4) }
 {
     let mut revisions = VecDeque::with_capacity(alloc, 4)?;
     revisions.push_back(first)?;
