@@ -22,3 +22,13 @@ pub mod ids;
 pub mod refusal;
 pub mod span;
 pub mod version;
+
+pub use call::{
+    Command, Compare, DeleteRequest, Operand, Operation, PutRequest, RangeQuery, Relation,
+    SortOrder, SortTarget, Txn, Watched,
+};
+pub use feed::{NoSink, Op, Sink};
+pub use ids::Ids;
+pub use refusal::Refusal;
+pub use span::Span;
+pub use version::{Body, KeyRange, Rev, Version};

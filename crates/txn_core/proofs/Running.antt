@@ -21,7 +21,7 @@ use Rattle.kv_model.specs.Leases.{Lease}
 use Rattle.kv_model.specs.Txns.{Path, path_of, holds}
 use Rattle.range_view.specs.Stored.{Viewed}
 use Rattle.txn_core.specs.declared.step.Step.{Step}
-use Rattle.txn_core.specs.Planning.{made, refusal_of, is_memory, IsRefusal, path_in, versions_made_in, refusal_in}
+use Rattle.txn_core.specs.Planning.{made, refusal_of, is_memory, IsFault, IsRefusal, path_in, versions_made_in, refusal_in}
 use Rattle.txn_core.specs.Steps.{in_row, step_view}
 use Rattle.txn_core.proofs.Walking.{or-nothing, txn_view-out, op_view-Range, op_view-Put, op_view-Delete}
 use Rattle.txn_core.proofs.Elements.{At, from-here}
@@ -34,6 +34,10 @@ refused-as e a h = by (is_memory e)
     by : (m : Bool) → MatchBool m ⊤ (a ≡ Some e)
     by true = tt
     by false = h
+
+pub refused-by : (e : Refusal) (a : Option Refusal) → IsFault e a → IsRefusal e a
+refused-by e a (inl h) = refused-as e a h
+refused-by e a (inr h) = subst (λ r. IsRefusal r a) (sym h.1) tt
 
 pub memory-or : (e : Refusal) (a : Option Refusal) → IsRefusal e a → (e ≡ Memory) ⊎ (a ≡ Some e)
 memory-or e a h = by (is_memory e) refl h

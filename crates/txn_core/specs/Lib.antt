@@ -1,3 +1,4 @@
+pub mod Checking
 pub mod Emptied
 pub mod Graves
 pub mod KeyWrites

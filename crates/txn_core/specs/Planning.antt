@@ -1,6 +1,6 @@
 -- The versions that a transaction makes, and its first refusal, told from what is seen at a place before it.
-use Rattle.std.specs.Prelude.{◌≡◌, ℕ, ℤ, List, [], ◌∷◌, ◌++◌, length, filter, Bool, true, false, ◌&&◌, if◌then◌else◌}
-use Rattle.std.specs.Prelude.{Option, None, Some, is_some, MatchBool, ⊤}
+use Rattle.std.specs.Prelude.{◌≡◌, ◌⊎◌, ℕ, ℤ, List, [], ◌∷◌, ◌++◌, length, filter, Bool, true, false, ◌&&◌}
+use Rattle.std.specs.Prelude.{if◌then◌else◌, Option, None, Some, is_some, MatchBool, ⊤}
 use Rattle.std.specs.Option.{option_or}
 use Rattle.std.specs.List.{list_any}
 use Rattle.std.specs.Borrow.{Bor}
@@ -71,6 +71,14 @@ is_memory _ = false
 -- a refusal is the first one, but for want of memory, which may come in its place
 abbrev pub IsRefusal : Refusal → Option Refusal → Type 0
 IsRefusal e first = MatchBool (is_memory e) ⊤ (first ≡ Some e)
+
+-- a refusal is this fault, which is found before memory is asked for: want of memory comes only where there is no fault
+abbrev pub IsFault : Refusal → Option Refusal → Type 0
+IsFault e fault = (fault ≡ Some e) ⊎ ((fault ≡ None) × (e ≡ Memory))
+
+-- a refusal is the fault that is found before memory is asked for, and where there is none, the first one or want of memory
+abbrev pub IsFirst : Refusal → Option Refusal → Option Refusal → Type 0
+IsFirst e fault first = (fault ≡ Some e) ⊎ ((fault ≡ None) × IsRefusal e first)
 
 -- ---- the same, on a view
 

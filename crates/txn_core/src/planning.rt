@@ -240,8 +240,7 @@ fn run_range(view: &View<'_>, query: &RangeQuery) -> Result<(), Refusal>
     ensures fine { OnOk result
         (ranges.revision_refusal view.now.compacted view.now.revision query.now.revision ≡ None) }
     ensures refused { IfErr result (λ e.
-        planning.IsRefusal e
-        (ranges.revision_refusal view.now.compacted view.now.revision query.now.revision)) }
+        ranges.revision_refusal view.now.compacted view.now.revision query.now.revision ≡ Some e) }
 {
     match revision_refusal(view.compacted(), view.revision(), query) {
         Some(refusal) => Err(refusal),
@@ -264,7 +263,7 @@ fn run_put<'a>(
     ensures fine { OnOk result
         (writes.held_refusal (is_granted leases.now.leases) request.now
         (history.value_at view.now.versions view.now.place request.now.key) ≡ None) }
-    ensures refused { IfErr result (λ e. planning.IsRefusal e
+    ensures refused { IfErr result (λ e. planning.IsFault e
         (writes.held_refusal (is_granted leases.now.leases) request.now
         (history.value_at view.now.versions view.now.place request.now.key))) }
 {

@@ -12,7 +12,7 @@ use Rattle.kv_model.specs.Txns.{holds}
 use Rattle.txn_core.specs.KeyWrites.{held_refusal}
 use Rattle.txn_core.specs.Planning.{made, refusal_of, IsRefusal, path_in, versions_made_in, refusal_in}
 use Rattle.txn_core.specs.Steps.{in_row, step_view, steps_view}
-use Rattle.txn_core.proofs.Running.{refused-first, none-first, path-range, path-put, path-delete, path-inner, refused-inner, branch_of, ran}
+use Rattle.txn_core.proofs.Running.{refused-as, refused-by, refused-first, none-first, path-range, path-put, path-delete, path-inner, refused-inner, branch_of, ran}
 use Rattle.txn_core.proofs.Running.{not_run, row-split, row-end, in_row-more}
 use Rattle.txn_core.proofs.Elements.{At}
 use Rattle.txn_core.proofs.Buried.{gone-still}
@@ -48,7 +48,7 @@ run_operation-returns-in-Err-clause-refused t c = λ rest.
     subst (λ q. IsRefusal c.in-Err.refusal (refusal_in v ls q))
     (sym (ap (λ o. path_in v (then (op_view o) rest)) c.in-Range.is ∙ path-range v c.in-Range.query rest))
     (refused-first c.in-Err.refusal (revision_refusal v.compacted v.revision c.in-Range.query.revision)
-    (refusal_in v ls (path_in v rest)) c.in-Err.ensures.refused)
+    (refusal_in v ls (path_in v rest)) (refused-as c.in-Err.refusal _ c.in-Err.ensures.refused))
 
 -- ---- a put
 
@@ -85,7 +85,7 @@ run_operation-returns-in-Err-run_put-clause-refused t c = λ rest.
     subst (λ q. IsRefusal c.in-Err-run_put.refusal (refusal_in v ls q))
     (sym (ap (λ o. path_in v (then (op_view o) rest)) c.in-Put.is ∙ path-put v p rest))
     (refused-first c.in-Err-run_put.refusal (held_refusal (is_granted ls) p (value_at v.versions v.place p.key))
-    (refusal_in v ls (path_in v rest)) c.in-Err-run_put.ensures.refused)
+    (refusal_in v ls (path_in v rest)) (refused-by c.in-Err-run_put.refusal _ c.in-Err-run_put.ensures.refused))
 
 -- ---- a delete
 
