@@ -1,5 +1,5 @@
 -- Bytes in base64: which text bytes are read from.
-use Rattle.std.proofs.Common.{◌≡◌, ℕ, ◌+◌, ◌*◌, ◌/◌, ◌%◌, ◌<◌, zero, suc, List, [], ◌∷◌, ◌++◌, length, get_or, true, cond, nat_lt, None, Some, option_and_then, Result, Ok, Err, refl, sym, ap, subst, ◌∙◌, arith}
+use Rattle.std.proofs.Common.{◌≡◌, ℕ, ◌+◌, ◌*◌, ◌/◌, ◌%◌, ◌<◌, zero, suc, List, [], ◌∷◌, ◌++◌, length, get_or, true, cond, nat_lt, None, Some, option_and_then, Result, Ok, Err, IfOk, IfErr, Vec, Global, refl, sym, ap, subst, ◌∙◌, arith}
 use Rattle.std.specs.Prelude.{replicate}
 use Rattle.std.specs.List.{list_all, AllByRecursion}
 use Rattle.std.specs.Result.{result_ok}
@@ -8,10 +8,15 @@ use Rattle.std.proofs.lemmas.List.Sums.{AllPass-from_list_all}
 use Rattle.std.proofs.lemmas.Option.{cond_some}
 use Rattle.std.proofs.lemmas.Bool.{and_parts, and_from}
 use Rattle.base64.specs.Engines.{standard}
-use Rattle.base64.specs.GeneralPurpose.{decode_of, decoded_of, encode_of, IsBytes, IsStrict}
+use Rattle.base64.specs.GeneralPurpose.{decode_of, decoded_of, encode_of, IsBytes, IsStrict, IsDecodeFailure}
 use Rattle.base64.specs.Rfc4648.{encode_symbols, padding_len}
 use Rattle.base64.specs.declared.decode.DecodeError.{DecodeError}
+use Rattle.base64.specs.declared.decode.DecodeAllocError.{DecodeAllocError}
+use Rattle.base64.specs.declared.decode.DecodeAllocError.TheVariants as failure
 use Rattle.base64.proofs.EngineFacts.{IsAscii-encode_of, decode_of_strict, decode_of-encode_of}
+use Rattle.certificate_text.specs.declared.fields.Unfit.{Unfit}
+use Rattle.certificate_text.specs.declared.fields.Unfit.TheVariants as unfit
+use Rattle.certificate_text.specs.Outcomes.{FailsIn, IsDecoded}
 use Rattle.certificate_text.specs.Texts.{base64_text, bytes_field}
 use Rattle.certificate_text.specs.Reading.{is_byte, if_bytes, decoded, bytes_of}
 use Rattle.certificate_text.proofs.Digits.{then_some}
@@ -113,6 +118,22 @@ unfolding decoded decoded_of
 decoded_none symbols error given e =
     ap (λ o. option_and_then if_bytes (option_and_then (decoded_of standard) o)) (if_bytes_same symbols given)
     ∙ ap (λ r. option_and_then if_bytes (result_ok r)) e
+
+pub form_ok : (symbols : List ℕ) (made : Result (Vec ℕ Global) DecodeAllocError) (v : Vec ℕ Global) → IsBytes symbols
+    → IfOk made (λ w. decode_of standard symbols ≡ Ok w.items) → IfOk made (λ w. IsBytes w.items) → IsDecoded made (Ok v)
+    → decoded symbols ≡ Some v.items
+form_ok symbols (Ok w) v given e found same =
+    let one : v ≡ w = cc in rw one (decoded_ok symbols w.items given found e)
+form_ok symbols (Err (failure.DecodeError d)) v given e found same = cc
+form_ok symbols (Err failure.OutOfMemory) v given e found same = cc
+
+pub form_fails : (symbols : List ℕ) (made : Result (Vec ℕ Global) DecodeAllocError) (e : Unfit) → IsBytes symbols
+    → IfErr made (λ d. IsDecodeFailure standard symbols d) → IsDecoded made (Err e) → FailsIn e (decoded symbols)
+form_fails symbols (Ok w) e given failed same = cc
+form_fails symbols (Err (failure.DecodeError d)) e given failed same =
+    let one : e ≡ unfit.Form = cc in rw one (decoded_none symbols d given failed)
+form_fails symbols (Err failure.OutOfMemory) e given failed same =
+    let one : e ≡ unfit.Memory = cc in rw one tt
 
 -- ---- behind a colon
 

@@ -1,6 +1,10 @@
 -- What the results of the program's readers say of the readings.
-use Rattle.std.specs.Prelude.{◌≡◌, ⊤, ℕ, List, [], ◌∷◌, Option, None, Some, Result, Ok, Err}
+use Rattle.std.specs.Prelude.{◌≡◌, ⊤, ℕ, ◌+◌, ◌-◌, List, [], ◌∷◌, length, Option, None, Some, Result, Ok, Err}
+use Rattle.std.specs.Prelude.{Vec}
 use Rattle.std.specs.Borrow.{Bor}
+use Rattle.std.specs.declared.alloc.Global.{Global}
+use Rattle.base64.specs.declared.decode.DecodeAllocError.{DecodeAllocError}
+use Rattle.base64.specs.declared.decode.DecodeAllocError.TheVariants as failure
 use Rattle.certificate_text.specs.declared.fields.Unfit.{Unfit}
 use Rattle.certificate_text.specs.declared.fields.Unfit.TheVariants as unfit
 use Rattle.certificate_text.specs.declared.stop.Stop.{Stop}
@@ -26,6 +30,26 @@ abbrev pub Takes : {X : Type 0} → Result X Unfit → List (List ℕ) → Optio
 Takes (Ok x) rest r = r ≡ Some (x, rest)
 Takes (Err e) rest r = FailsIn e r
 
+-- ---- where no memory is taken: want of it is never told
+
+abbrev pub IsForm : Unfit → Type 0
+IsForm unfit.Form = ⊤
+IsForm unfit.Memory = ⊥
+
+-- What decoding base64 came to: symbols that are none are of no form, and want of memory is told where the decoder told it.
+abbrev pub IsDecoded : Result (Vec ℕ Global) DecodeAllocError → Result (Vec ℕ Global) Unfit → Type 0
+IsDecoded (Ok v) r = r ≡ Ok v
+IsDecoded (Err (failure.DecodeError e)) r = r ≡ Err unfit.Form
+IsDecoded (Err failure.OutOfMemory) r = r ≡ Err unfit.Memory
+
+abbrev pub Tells : {X Y : Type 0} → (X → Y) → Result X Unfit → Option Y → Type 0
+Tells view (Ok x) r = r ≡ Some (view x)
+Tells view (Err e) r = FailsIn e r × IsForm e
+
+abbrev pub TakesPlainly : {X : Type 0} → Result X Unfit → List (List ℕ) → Option (X × List (List ℕ)) → Type 0
+TakesPlainly (Ok x) rest r = r ≡ Some (x, rest)
+TakesPlainly (Err e) rest r = FailsIn e r × IsForm e
+
 -- the next field, and the fields behind it
 abbrev pub IsNext : Result (Bor (List ℕ)) Unfit → List (List ℕ) → List (List ℕ) → Type 0
 IsNext (Ok field) old new = old ≡ field.now ∷ new
@@ -42,6 +66,15 @@ abbrev pub Reads : {X Y : Type 0} → (X → Y) → Result (X × Bor (List ℕ))
 Reads view (Ok x) r = r ≡ Ok (view x.0, lines_of x.1.now)
 Reads view (Err e) r = FailsAt e r
 
+abbrev pub IsAt : Stop → Type 0
+IsAt (stop.At rest) = ⊤
+IsAt stop.Memory = ⊥
+
+-- the same, where no memory is taken
+abbrev pub ReadsPlainly : {X Y : Type 0} → (X → Y) → Result (X × Bor (List ℕ)) Stop → Read Y → Type 0
+ReadsPlainly view (Ok x) r = r ≡ Ok (view x.0, lines_of x.1.now)
+ReadsPlainly view (Err e) r = FailsAt e r × IsAt e
+
 -- the same, of a whole text
 abbrev pub ReadsAll : {X Y : Type 0} → (X → Y) → Result X Stop → Result Y (List (List ℕ)) → Type 0
 ReadsAll view (Ok x) r = r ≡ Ok (view x)
@@ -51,6 +84,13 @@ ReadsAll view (Err e) r = FailsAt e r
 abbrev pub stopped : Bor (List ℕ) → Unfit → Stop
 stopped text unfit.Form = stop.At text
 stopped text unfit.Memory = stop.Memory
+
+-- What reading a text came to, as it is told: the number of the line at which it stopped, or want of memory where
+-- memory was wanting.
+abbrev pub IsToldAs : List ℕ → Result (Dump × List Claim) Stop → Result (Dump × List Claim) Unreadable → Type 0
+IsToldAs text (Ok found) r = r ≡ Ok found
+IsToldAs text (Err (stop.At rest)) r = r ≡ Err (unreadable.Line (length (lines_of text) - length (lines_of rest.now) + 1))
+IsToldAs text (Err stop.Memory) r = r ≡ Err unreadable.Memory
 
 -- what a refusal says of a text
 abbrev pub IsUnreadable : List ℕ → Unreadable → Type 0

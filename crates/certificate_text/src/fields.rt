@@ -3,7 +3,7 @@ ghost use Rattle.std.specs.Prelude.{◌≡◌, ◌<◌, ⊤, ◌∷◌, length, 
 ghost use Rattle.std.specs.List.{slice_split};
 ghost use Rattle.certificate_text.specs.Fields.{parts_left};
 ghost use Rattle.certificate_text.specs.Lines.{is};
-ghost use Rattle.certificate_text.specs.Outcomes.{Gives, IsNext, Takes};
+ghost use Rattle.certificate_text.specs.Outcomes.{Gives, IsDecoded, IsNext, Takes, TakesPlainly, Tells};
 ghost use Rattle.certificate_text.specs.Reading as reading;
 
 use crate::numbers::{lease_of, number_of};
@@ -86,7 +86,7 @@ impl<'a> Fields<'a> {
     /// The next field, as a revision or a number of versions.
     #[tactic(auto, unfolding(crate::specs::Reading::revision_at))]
     pub(crate) fn revision(&mut self) -> Result<u64, Unfit>
-        ensures { Takes result self.new (reading.revision_at self.old) }
+        ensures { TakesPlainly result self.new (reading.revision_at self.old) }
     {
         let field = self.next()?;
         number_of(MOST_REVISION, field).ok_or(Unfit::Form)
@@ -95,7 +95,7 @@ impl<'a> Fields<'a> {
     /// The next field, as the number of a change within a revision.
     #[tactic(auto, unfolding(crate::specs::Reading::sub_at))]
     fn sub(&mut self) -> Result<u64, Unfit>
-        ensures { Takes result self.new (reading.sub_at self.old) }
+        ensures { TakesPlainly result self.new (reading.sub_at self.old) }
     {
         let field = self.next()?;
         number_of(u64::MAX, field).ok_or(Unfit::Form)
@@ -104,7 +104,7 @@ impl<'a> Fields<'a> {
     /// The next two fields, as where a version stands.
     #[tactic(auto, unfolding(crate::specs::Reading::rev_at))]
     pub(crate) fn rev(&mut self) -> Result<Rev, Unfit>
-        ensures { Takes result self.new (reading.rev_at self.old) }
+        ensures { TakesPlainly result self.new (reading.rev_at self.old) }
     {
         let main = self.revision()?;
         let sub = self.sub()?;
@@ -114,7 +114,7 @@ impl<'a> Fields<'a> {
     /// The next field, as a lease's ID.
     #[tactic(auto, unfolding(crate::specs::Reading::lease_at))]
     pub(crate) fn lease(&mut self) -> Result<i64, Unfit>
-        ensures { Takes result self.new (reading.lease_at self.old) }
+        ensures { TakesPlainly result self.new (reading.lease_at self.old) }
     {
         let field = self.next()?;
         lease_of(field).ok_or(Unfit::Form)
@@ -135,7 +135,7 @@ impl<'a> Fields<'a> {
     /// Says whether no field is left.
     #[tactic(auto, unfolding(crate::specs::Reading::end_at))]
     pub(crate) fn end(&self) -> Result<(), Unfit>
-        ensures { Gives (λ u. u) result (reading.end_at self.now) }
+        ensures { Tells (λ u. u) result (reading.end_at self.now) }
     {
         match self.rest {
             Some(_) => Err(Unfit::Form),
@@ -150,8 +150,19 @@ impl<'a> Fields<'a> {
 fn decoded(alloc: Global, symbols: &[u8]) -> Result<Bytes, Unfit>
     ensures { Gives (λ bytes. bytes) result (reading.decoded symbols.now) }
 {
-    match STANDARD.decode(alloc, symbols) {
+    match by_form(STANDARD.decode(alloc, symbols)) {
         Ok(bytes) => Ok(Bytes::from_vec(bytes)?),
+        Err(unfit) => Err(unfit),
+    }
+}
+
+/// What decoding came to: symbols that are no base64 are of no form that stands there, and memory
+/// was wanting where the decoder says so. Takes no memory.
+fn by_form(made: Result<Vec<u8>, DecodeAllocError>) -> Result<Vec<u8>, Unfit>
+    ensures { IsDecoded made result }
+{
+    match made {
+        Ok(bytes) => Ok(bytes),
         Err(DecodeAllocError::DecodeError(_)) => Err(Unfit::Form),
         Err(DecodeAllocError::OutOfMemory) => Err(Unfit::Memory),
     }

@@ -1,6 +1,6 @@
 //! What a line says.
 ghost use Rattle.std.specs.Prelude.{◌≡◌};
-ghost use Rattle.certificate_text.specs.Outcomes.{Gives};
+ghost use Rattle.certificate_text.specs.Outcomes.{Gives, Tells};
 ghost use Rattle.certificate_text.specs.Reading as reading;
 ghost use Rattle.kv_model.specs.Certificates.{Need as SeenNeed};
 
@@ -59,7 +59,7 @@ fn gone_of(alloc: Global, fields: &mut Fields<'_>) -> Result<Version, Unfit>
 /// The claim of a line `range MAIN SUB R`, `watch MAIN SUB R` or `prev MAIN SUB R`.
 #[tactic(auto, unfolding(crate::specs::Reading::claim_of))]
 fn claim_of(line: &[u8]) -> Result<Claim, Unfit>
-    ensures { Gives (λ c. c) result (reading.claim_of line.now) }
+    ensures { Tells (λ c. c) result (reading.claim_of line.now) }
 {
     let mut fields = Fields::new(line);
     let word = fields.next()?;
@@ -76,7 +76,7 @@ fn claim_of(line: &[u8]) -> Result<Claim, Unfit>
 
 #[tactic(auto, unfolding(crate::specs::Reading::claim_by))]
 fn range_of(fields: &mut Fields<'_>) -> Result<Claim, Unfit>
-    ensures { Gives (λ c. c) result (reading.claim_by SeenNeed.range fields.old) }
+    ensures { Tells (λ c. c) result (reading.claim_by SeenNeed.range fields.old) }
 {
     let rev = fields.rev()?;
     let revision = fields.revision()?;
@@ -87,7 +87,7 @@ fn range_of(fields: &mut Fields<'_>) -> Result<Claim, Unfit>
 
 #[tactic(auto, unfolding(crate::specs::Reading::claim_by))]
 fn watch_of(fields: &mut Fields<'_>) -> Result<Claim, Unfit>
-    ensures { Gives (λ c. c) result (reading.claim_by SeenNeed.watch fields.old) }
+    ensures { Tells (λ c. c) result (reading.claim_by SeenNeed.watch fields.old) }
 {
     let rev = fields.rev()?;
     let revision = fields.revision()?;
@@ -98,7 +98,7 @@ fn watch_of(fields: &mut Fields<'_>) -> Result<Claim, Unfit>
 
 #[tactic(auto, unfolding(crate::specs::Reading::claim_by))]
 fn prev_of(fields: &mut Fields<'_>) -> Result<Claim, Unfit>
-    ensures { Gives (λ c. c) result (reading.claim_by SeenNeed.prev fields.old) }
+    ensures { Tells (λ c. c) result (reading.claim_by SeenNeed.prev fields.old) }
 {
     let rev = fields.rev()?;
     let revision = fields.revision()?;
@@ -110,7 +110,7 @@ fn prev_of(fields: &mut Fields<'_>) -> Result<Claim, Unfit>
 /// The claim of a line in a format. The first format has no line `prev MAIN SUB R`.
 #[tactic(auto, unfolding(crate::specs::Reading::claim_in))]
 pub(crate) fn claim_in(is_first: bool, line: &[u8]) -> Result<Claim, Unfit>
-    ensures { Gives (λ c. c) result (reading.claim_in is_first line.now) }
+    ensures { Tells (λ c. c) result (reading.claim_in is_first line.now) }
 {
     let claim = claim_of(line)?;
     match claim.need {
@@ -122,7 +122,7 @@ pub(crate) fn claim_in(is_first: bool, line: &[u8]) -> Result<Claim, Unfit>
 /// The number behind this word, alone on a line.
 #[tactic(auto, unfolding(crate::specs::Reading::numbered, crate::specs::Reading::alone))]
 pub(crate) fn numbered(word: &[u8], line: &[u8]) -> Result<u64, Unfit>
-    ensures { Gives (λ n. n) result (reading.numbered word.now line.now) }
+    ensures { Tells (λ n. n) result (reading.numbered word.now line.now) }
 {
     let mut fields = Fields::new(line);
     let first = fields.next()?;

@@ -3,8 +3,8 @@ ghost use Rattle.std.specs.Prelude.{◌≡◌, ◌+◌, ◌-◌, ◌<◌, ◌≤
 ghost use Rattle.std.specs.Prelude.{MatchOption, IfOk, IfErr};
 ghost use Rattle.kv_model.specs.Certificates.{Dump as SeenDump, Claim as SeenClaim};
 ghost use Rattle.certificate_text.specs.Lines.{lines_of, IsTextOf};
-ghost use Rattle.certificate_text.specs.Outcomes.{IsUnreadable, Reads, ReadsAll, ReadsBack};
-ghost use Rattle.certificate_text.specs.Outcomes.{stopped};
+ghost use Rattle.certificate_text.specs.Outcomes.{IsToldAs, IsUnreadable, Reads, ReadsAll, ReadsBack};
+ghost use Rattle.certificate_text.specs.Outcomes.{ReadsPlainly, stopped};
 ghost use Rattle.certificate_text.specs.Reading as reading;
 ghost use Rattle.certificate_text.specs.Texts as texts;
 ghost use Rattle.certificate_text.specs.Texts.{AreInLimits};
@@ -45,7 +45,17 @@ pub fn read(alloc: Global, text: &[u8]) -> Result<(Dump, Certificate), Unreadabl
     ensures whole { (d : SeenDump) (claims : List SeenClaim) → AreInLimits d claims
         → IsTextOf text.now d claims → ReadsBack result d claims }
 {
-    match text_read(alloc, text) {
+    told(text, text_read(alloc, text))
+}
+
+/// What reading a text came to, with the number of the line at which it stopped. Takes no memory.
+fn told(
+    text: &[u8],
+    made: Result<(Dump, Certificate), Stop<'_>>,
+) -> Result<(Dump, Certificate), Unreadable>
+    ensures { IsToldAs text.now made.entry result }
+{
+    match made {
         Ok(found) => Ok(found),
         Err(Stop::At(rest)) => Err(Unreadable::Line(number_of_line(text, rest))),
         Err(Stop::Memory) => Err(Unreadable::Memory),
@@ -142,9 +152,9 @@ fn needs_head(is_first: bool) -> &'static [u8]
     if is_first { b"needs 1" } else { b"needs 2" }
 }
 
-/// Passes over this very line.
+/// Passes over this very line. Takes no memory.
 fn expect<'a>(known: &[u8], text: &'a [u8]) -> Result<((), &'a [u8]), Stop<'a>>
-    ensures { Reads (λ x. x) result
+    ensures { ReadsPlainly (λ x. x) result
         (walking.line_by (walking.exactly known.now) (lines_of text.now)) }
 {
     let Some((line, rest)) = first_line(text) else {
@@ -157,9 +167,9 @@ fn expect<'a>(known: &[u8], text: &'a [u8]) -> Result<((), &'a [u8]), Stop<'a>>
     }
 }
 
-/// A line of a word and a number.
+/// A line of a word and a number. Takes no memory.
 fn number_line<'a>(word: &[u8], text: &'a [u8]) -> Result<(u64, &'a [u8]), Stop<'a>>
-    ensures { Reads (λ x. x) result
+    ensures { ReadsPlainly (λ x. x) result
         (walking.line_by (reading.numbered word.now) (lines_of text.now)) }
 {
     let Some((line, rest)) = first_line(text) else {

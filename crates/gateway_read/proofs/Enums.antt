@@ -5,7 +5,7 @@ use Rattle.serde_json.specs.Data.{unsigned, negative, float, Data, null, boolean
 use Rattle.kv_model.specs.Requests.{Read, enum_of, field, given, some_or, bad_field, or_default}
 use Rattle.gateway_read.specs.declared.bad.Bad.{Bad}
 use Rattle.gateway_read.specs.declared.bad.Bad.TheVariants.{NotJson, BadField, BadBase64, NoPath, TooLong, Memory}
-use Rattle.gateway_read.specs.Reading.{Fails, Gives}
+use Rattle.gateway_read.specs.Reading.{Fails, Tells}
 use Rattle.gateway_read.proofs.Readings.{named_value-map}
 
 -- a table under f
@@ -53,10 +53,10 @@ fails_mapped f NoPath m h = ap (read_map f) h
 fails_mapped f TooLong m h = ap (read_map f) h
 fails_mapped f Memory m h = tt
 
-mapped : {A B : Type 0} (f : A → B) (r : Result A Bad) (m : Read A) → Gives (λ x. x) r m → Gives f r (read_map f m)
+mapped : {A B : Type 0} (f : A → B) (r : Result A Bad) (m : Read A) → Tells (λ x. x) r m → Tells f r (read_map f m)
 mapped f (Ok x) m h = ap (read_map f) h
-mapped f (Err e) m h = fails_mapped f e m h
+mapped f (Err e) m h = (fails_mapped f e m h.0, h.1)
 
 pub field_under : {A B : Type 0} (f : A → B) (x : A) (table : List (List ℕ × A)) (name : List ℕ) (ms : Members) (r : Result A Bad)
-    → Gives (λ y. y) r (field x (enum_of table) name ms) → Gives f r (field (f x) (enum_of (under f table)) name ms)
+    → Tells (λ y. y) r (field x (enum_of table) name ms) → Tells f r (field (f x) (enum_of (under f table)) name ms)
 field_under f x table name ms r h = rw (or_default-under f x table name (given name ms)) (mapped f r _ h)

@@ -1,5 +1,5 @@
 -- Parts of the model's readings, for the functions that read them.
-use Rattle.std.specs.Prelude.{Ok}
+use Rattle.std.specs.Prelude.{Ok, Bool, true, false}
 use Rattle.serde_json.specs.Data.{Members}
 use Rattle.kv_model.specs.declared.call.RangeQuery.{RangeQuery}
 use Rattle.kv_model.specs.Calls.{Call, as_call}
@@ -28,3 +28,13 @@ call_read Revoke ms = id_request Call.revoke ms
 call_read KeepAlive ms = id_request Call.keep_alive ms
 call_read TimeToLive ms = time_to_live_request ms
 call_read Leases ms = Ok Call.leases
+
+-- whether reading them takes memory: those of a compaction and of what is asked of leases are numbers and truth values
+abbrev pub takes_memory : Request → Bool
+takes_memory Compact = false
+takes_memory Grant = false
+takes_memory Revoke = false
+takes_memory KeepAlive = false
+takes_memory TimeToLive = false
+takes_memory Leases = false
+takes_memory _ = true

@@ -2,11 +2,12 @@
 ghost use Rattle.std.specs.Prelude.{◌≡◌, ◌<◌, length, Err};
 ghost use Rattle.serde_json.specs.View.{view, members_view};
 ghost use Rattle.kv_model.specs.Requests as requests;
-ghost use Rattle.gateway_read.specs.Reading.{Gives};
-ghost use Rattle.gateway_read.specs.declared.bad.Bad.TheVariants.{TooLong};
+ghost use Rattle.gateway_read.specs.Reading.{Gives, IsParsed, Tells};
+ghost use Rattle.gateway_read.specs.declared.bad.Bad.TheVariants.{NotJson, TooLong};
+ghost use Rattle.std.specs.Str.{IsUtf8};
 
 use crate::bad::Bad;
-use serde_json::{Map, Value};
+use serde_json::{Error, Map, Value};
 use std::alloc::Global;
 use std::str;
 
@@ -27,14 +28,24 @@ pub(crate) fn object_of(alloc: Global, body: &[u8]) -> Result<Map<String, Value>
     members_of(value_of(alloc, body)?)
 }
 
-/// The value of a JSON text (RFC 8259), which is UTF-8.
+/// The value of a JSON text (RFC 8259), which is UTF-8. Bytes that are not take no memory.
 fn value_of(alloc: Global, text: &[u8]) -> Result<Value, Bad>
-    ensures { Gives view result (requests.some_or requests.not_json (requests.json_of text.now)) }
+    ensures gives { Gives view result
+        (requests.some_or requests.not_json (requests.json_of text.now)) }
+    ensures not_text { (IsUtf8 text.now → ⊥) → result ≡ Err NotJson }
 {
-    let Ok(text) = str::from_utf8(text) else {
-        return Err(Bad::NotJson);
-    };
-    match Value::from_str(alloc, text) {
+    match str::from_utf8(text) {
+        Ok(text) => parsed(Value::from_str(alloc, text)),
+        Err(_) => Err(Bad::NotJson),
+    }
+}
+
+/// What a parse came to: the value, or `Memory` where the parse found none, or `NotJson`. Takes no
+/// memory.
+fn parsed(made: Result<Value, Error>) -> Result<Value, Bad>
+    ensures { IsParsed made result }
+{
+    match made {
         Ok(value) => Ok(value),
         Err(refused) => {
             if refused.is_memory() {
@@ -46,8 +57,9 @@ fn value_of(alloc: Global, text: &[u8]) -> Result<Value, Bad>
     }
 }
 
+/// The members of a value that is an object. Takes no memory.
 fn members_of(value: Value) -> Result<Map<String, Value>, Bad>
-    ensures { Gives (λ members. members_view members.entries) result
+    ensures { Tells (λ members. members_view members.entries) result
         (requests.some_or requests.not_json (requests.members_of (view value))) }
 {
     match value {

@@ -6,7 +6,7 @@ ghost use Rattle.kv_model.specs.Requests as requests;
 ghost use Rattle.gateway_read.specs.Compares.{target_of, operand_read, compared};
 ghost use Rattle.gateway_read.specs.Fields.{snake_of};
 ghost use Rattle.gateway_read.specs.Objects.{seen};
-ghost use Rattle.gateway_read.specs.Reading.{Gives};
+ghost use Rattle.gateway_read.specs.Reading.{Gives, Tells};
 
 use crate::bad::Bad;
 use crate::field::Field;
@@ -60,7 +60,7 @@ const TARGETS: [(&str, Target); 5] = [
 
 /// What the compare looks at: the version, where it does not say.
 fn target_field(object: &Object<'_>) -> Result<Target, Bad>
-    ensures { Gives target_of result
+    ensures { Tells target_of result
         (requests.field requests.Target.to_version (requests.enum_of requests.targets)
         (snake_of Field.Target) (seen object.now)) }
 {

@@ -3,7 +3,7 @@ ghost use Rattle.kv_model.specs.Calls.{Call};
 ghost use Rattle.kv_model.specs.Commands.{call_of};
 ghost use Rattle.kv_model.specs.Requests as requests;
 ghost use Rattle.gateway_read.specs.Objects.{seen};
-ghost use Rattle.gateway_read.specs.Reading.{Gives};
+ghost use Rattle.gateway_read.specs.Reading.{Tells};
 
 use crate::bad::Bad;
 use crate::field::Field;
@@ -15,7 +15,7 @@ use kv_model::call::Command;
 /// first fault counts: `BadField`.
 #[tactic(auto, unfolding(kv_model::specs::Requests::grant_request, crate::specs::Fields::snake_of))]
 pub(crate) fn grant_request(object: &Object<'_>) -> Result<Command, Bad>
-    ensures { Gives call_of result (requests.grant_request (seen object.now)) }
+    ensures { Tells call_of result (requests.grant_request (seen object.now)) }
 {
     let ttl = integer_field(object, Field::Ttl)?;
     let id = integer_field(object, Field::Id)?;
@@ -25,7 +25,7 @@ pub(crate) fn grant_request(object: &Object<'_>) -> Result<Command, Bad>
 /// Reads the field `ID` of a LeaseRevoke. Its fault is `BadField`.
 #[tactic(auto, unfolding(crate::specs::Fields::snake_of))]
 pub(crate) fn revoke_request(object: &Object<'_>) -> Result<Command, Bad>
-    ensures { Gives call_of result
+    ensures { Tells call_of result
         (requests.id_request Call.revoke (seen object.now)) }
 {
     let id = integer_field(object, Field::Id)?;
@@ -35,7 +35,7 @@ pub(crate) fn revoke_request(object: &Object<'_>) -> Result<Command, Bad>
 /// Reads the field `ID` of a LeaseKeepAlive. Its fault is `BadField`.
 #[tactic(auto, unfolding(crate::specs::Fields::snake_of))]
 pub(crate) fn keep_alive_request(object: &Object<'_>) -> Result<Command, Bad>
-    ensures { Gives call_of result
+    ensures { Tells call_of result
         (requests.id_request Call.keep_alive (seen object.now)) }
 {
     let id = integer_field(object, Field::Id)?;
@@ -46,7 +46,7 @@ pub(crate) fn keep_alive_request(object: &Object<'_>) -> Result<Command, Bad>
 /// LeaseTimeToLiveRequest). The first fault counts: `BadField`.
 #[tactic(auto, unfolding(kv_model::specs::Requests::time_to_live_request, crate::specs::Fields::snake_of))]
 pub(crate) fn time_to_live_request(object: &Object<'_>) -> Result<Command, Bad>
-    ensures { Gives call_of result
+    ensures { Tells call_of result
         (requests.time_to_live_request (seen object.now)) }
 {
     let id = integer_field(object, Field::Id)?;

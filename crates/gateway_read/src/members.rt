@@ -5,7 +5,7 @@ ghost use Rattle.serde_json.specs.View.{view, items_view};
 ghost use Rattle.kv_model.specs.Requests as requests;
 ghost use Rattle.gateway_read.specs.Fields.{snake_of};
 ghost use Rattle.gateway_read.specs.Objects.{seen};
-ghost use Rattle.gateway_read.specs.Reading.{Gives};
+ghost use Rattle.gateway_read.specs.Reading.{Gives, Tells};
 ghost use Rattle.gateway_read.specs.Transactions.{object_under};
 
 use crate::bad::Bad;
@@ -42,9 +42,9 @@ pub(crate) fn bytes_field(alloc: Global, object: &Object<'_>, field: Field) -> R
     symbols::decoded(alloc, text)?.ok_or(Bad::BadBase64(field))
 }
 
-/// A 64-bit integer. The default is 0.
+/// A 64-bit integer. The default is 0. Takes no memory.
 pub(crate) fn integer_field(object: &Object<'_>, field: Field) -> Result<i64, Bad>
-    ensures { Gives (λ number. number) result
+    ensures { Tells (λ number. number) result
         (requests.integer_field (snake_of field) (seen object.now)) }
 {
     match given(object, field) {
@@ -53,9 +53,9 @@ pub(crate) fn integer_field(object: &Object<'_>, field: Field) -> Result<i64, Ba
     }
 }
 
-/// A truth value. The default is false.
+/// A truth value. The default is false. Takes no memory.
 pub(crate) fn truth_field(object: &Object<'_>, field: Field) -> Result<bool, Bad>
-    ensures { Gives (λ truth. truth) result
+    ensures { Tells (λ truth. truth) result
         (requests.truth_field (snake_of field) (seen object.now)) }
 {
     match given(object, field) {
@@ -64,14 +64,14 @@ pub(crate) fn truth_field(object: &Object<'_>, field: Field) -> Result<bool, Bad
     }
 }
 
-/// An enum's value, by its name or by its place in the table.
+/// An enum's value, by its name or by its place in the table. Takes no memory.
 pub(crate) fn enum_field<T: Copy>(
     object: &Object<'_>,
     field: Field,
     default: T,
     table: &[(&str, T)],
 ) -> Result<T, Bad>
-    ensures { Gives (λ meant. meant) result
+    ensures { Tells (λ meant. meant) result
         (requests.field default (requests.enum_of (map (λ e. (e.0.now, e.1)) table.now))
         (snake_of field) (seen object.now)) }
 {
@@ -81,9 +81,9 @@ pub(crate) fn enum_field<T: Copy>(
     }
 }
 
-/// A list. The default is an empty one.
+/// A list. The default is an empty one. Takes no memory.
 pub(crate) fn list_field<'v>(object: &Object<'v>, field: Field) -> Result<&'v [Value], Bad>
-    ensures { Gives (λ values. items_view values.now) result
+    ensures { Tells (λ values. items_view values.now) result
         (requests.list_field (snake_of field) (seen object.now)) }
 {
     match given(object, field) {
@@ -95,9 +95,9 @@ pub(crate) fn list_field<'v>(object: &Object<'v>, field: Field) -> Result<&'v [V
     }
 }
 
-/// The object that is the value of this field.
+/// The object that is the value of this field. Takes no memory.
 pub(crate) fn object_under<'v>(value: &'v Value, field: Field) -> Result<Object<'v>, Bad>
-    ensures { Gives seen result
+    ensures { Tells seen result
         (object_under (snake_of field) (view value.now)) }
 {
     Ok(Object::new(value.as_object().ok_or(Bad::BadField(field))?))

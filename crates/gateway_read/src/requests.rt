@@ -3,9 +3,9 @@
 ghost use Rattle.kv_model.specs.Commands.{call_of};
 ghost use Rattle.kv_model.specs.Requests as requests;
 ghost use Rattle.gateway_read.specs.Options.{flags_of, bounds_of};
-ghost use Rattle.gateway_read.specs.Parts.{completed, call_read};
+ghost use Rattle.gateway_read.specs.Parts.{completed, call_read, takes_memory};
 ghost use Rattle.gateway_read.specs.Objects.{seen};
-ghost use Rattle.gateway_read.specs.Reading.{Gives};
+ghost use Rattle.gateway_read.specs.Reading.{Gives, GivesBy, Tells};
 
 use crate::bad::Bad;
 use crate::compacting::compact_request;
@@ -37,9 +37,11 @@ pub(crate) enum Request {
     Leases,
 }
 
-/// Reads the fields of a request. The first fault counts.
+/// Reads the fields of a request. The first fault counts. `Memory` comes only where some of them
+/// are bytes or lists that are kept.
 pub(crate) fn command(alloc: Global, request: Request, object: &Object<'_>) -> Result<Command, Bad>
-    ensures { Gives call_of result (call_read request (seen object.now)) }
+    ensures { GivesBy (takes_memory request) call_of result
+        (call_read request (seen object.now)) }
 {
     match request {
         Request::Range => Ok(Command::Range(range_query(alloc, object)?)),
@@ -84,10 +86,10 @@ pub(crate) fn range_query(alloc: Global, object: &Object<'_>) -> Result<RangeQue
     completed(object, query)
 }
 
-/// The query with what is left to read of a Range.
+/// The query with what is left to read of a Range. Takes no memory.
 #[tactic(auto, unfolding(crate::specs::Parts::completed))]
 fn completed(object: &Object<'_>, query: RangeQuery) -> Result<RangeQuery, Bad>
-    ensures { Gives (λ query. query) result (completed query (seen object.now)) }
+    ensures { Tells (λ query. query) result (completed query (seen object.now)) }
 {
     let flags = flags_of(object)?;
     let bounds = bounds_of(object)?;
@@ -122,7 +124,7 @@ struct Bounds {
 
 #[tactic(auto, unfolding(crate::specs::Fields::snake_of, crate::specs::Options::flags_of))]
 fn flags_of(object: &Object<'_>) -> Result<Flags, Bad>
-    ensures { Gives (λ flags. flags) result (flags_of (seen object.now)) }
+    ensures { Tells (λ flags. flags) result (flags_of (seen object.now)) }
 {
     Ok(Flags {
         serializable: truth_field(object, Field::Serializable)?,
@@ -133,7 +135,7 @@ fn flags_of(object: &Object<'_>) -> Result<Flags, Bad>
 
 #[tactic(auto, unfolding(crate::specs::Fields::snake_of, crate::specs::Options::bounds_of))]
 fn bounds_of(object: &Object<'_>) -> Result<Bounds, Bad>
-    ensures { Gives (λ bounds. bounds) result (bounds_of (seen object.now)) }
+    ensures { Tells (λ bounds. bounds) result (bounds_of (seen object.now)) }
 {
     Ok(Bounds {
         min_mod: integer_field(object, Field::MinModRevision)?,

@@ -5,7 +5,7 @@ ghost use Rattle.kv_model.specs.declared.call.SortOrder.TheVariants.{Unsorted};
 ghost use Rattle.kv_model.specs.declared.call.SortTarget.TheVariants.{ByKey};
 ghost use Rattle.gateway_read.specs.Fields.{snake_of};
 ghost use Rattle.gateway_read.specs.Objects.{seen};
-ghost use Rattle.gateway_read.specs.Reading.{Gives};
+ghost use Rattle.gateway_read.specs.Reading.{Tells};
 
 use crate::bad::Bad;
 use crate::field::Field;
@@ -28,7 +28,7 @@ const SORT_TARGETS: [(&str, SortTarget); 5] = [
 ];
 
 pub(crate) fn sort_order(object: &Object<'_>) -> Result<SortOrder, Bad>
-    ensures { Gives (λ order. order) result
+    ensures { Tells (λ order. order) result
         (requests.field Unsorted (requests.enum_of requests.sort_orders) (snake_of Field.SortOrder)
         (seen object.now)) }
 {
@@ -36,7 +36,7 @@ pub(crate) fn sort_order(object: &Object<'_>) -> Result<SortOrder, Bad>
 }
 
 pub(crate) fn sort_target(object: &Object<'_>) -> Result<SortTarget, Bad>
-    ensures { Gives (λ target. target) result
+    ensures { Tells (λ target. target) result
         (requests.field ByKey (requests.enum_of requests.sort_targets) (snake_of Field.SortTarget)
         (seen object.now)) }
 {

@@ -5,7 +5,7 @@ ghost use Rattle.kv_model.specs.Commands.{txn_view, op_view, ops_view};
 ghost use Rattle.kv_model.specs.Requests as requests;
 ghost use Rattle.gateway_read.specs.Fields.{snake_of};
 ghost use Rattle.gateway_read.specs.Objects.{seen};
-ghost use Rattle.gateway_read.specs.Reading.{Gives};
+ghost use Rattle.gateway_read.specs.Reading.{Gives, Tells};
 ghost use Rattle.gateway_read.specs.Transactions.{message_of, only_of, kind_read};
 ghost use Rattle.gateway_read.specs.Transactions.{operations_read, compares_read};
 
@@ -109,7 +109,7 @@ fn operation(alloc: Global, value: &Value, list: Field, depth: u8) -> Result<Ope
 
 /// The one kind of an operation of a list.
 fn kind_of<'v>(value: &'v Value, list: Field) -> Result<Kind<'v>, Bad>
-    ensures { Gives message_of result (kind_read (snake_of list) (view value.now)) }
+    ensures { Tells message_of result (kind_read (snake_of list) (view value.now)) }
 {
     let object = &object_under(value, list)?;
     let range = given(object, Field::RequestRange);
@@ -128,7 +128,7 @@ fn only_kind<'v>(
     delete: Option<&'v Value>,
     inner: Option<&'v Value>,
 ) -> Result<Kind<'v>, Bad>
-    ensures { Gives message_of result
+    ensures { Tells message_of result
         (only_of (snake_of list) (option_map (λ v. view v.now) range.entry)
         (option_map (λ v. view v.now) put.entry)
         (option_map (λ v. view v.now) delete.entry) (option_map (λ v. view v.now) inner.entry)) }

@@ -4,7 +4,7 @@ ghost use Rattle.serde_json.specs.View.{view, items_view};
 ghost use Rattle.kv_model.specs.Commands.{call_of};
 ghost use Rattle.kv_model.specs.Requests as requests;
 ghost use Rattle.gateway_read.specs.Objects.{seen};
-ghost use Rattle.gateway_read.specs.Reading.{Gives};
+ghost use Rattle.gateway_read.specs.Reading.{Gives, Tells};
 ghost use Rattle.gateway_read.specs.Watches.{filter_of, with_filter, filters_read};
 ghost use Rattle.gateway_read.specs.Watches.{create_read, options_read, watch_with};
 
@@ -58,7 +58,7 @@ pub(crate) fn watch_request(alloc: Global, object: &Object<'_>) -> Result<Comman
 /// The object under `create_request`.
 #[tactic(auto, unfolding(crate::specs::Fields::snake_of))]
 fn create_request<'v>(object: &Object<'v>) -> Result<Object<'v>, Bad>
-    ensures { Gives seen result (create_read (seen object.now)) }
+    ensures { Tells seen result (create_read (seen object.now)) }
 {
     match given(object, Field::CreateRequest) {
         Some(value) => object_under(value, Field::CreateRequest),
@@ -93,7 +93,7 @@ fn watch_with(key: Bytes, end: Bytes, options: &Options) -> Command
 
 #[tactic(auto, unfolding(crate::specs::Fields::snake_of, crate::specs::Watches::options_read))]
 fn options_of(object: &Object<'_>) -> Result<Options, Bad>
-    ensures { Gives (λ options. options) result (options_read (seen object.now)) }
+    ensures { Tells (λ options. options) result (options_read (seen object.now)) }
 {
     let start = integer_field(object, Field::StartRevision)?;
     let values = list_field(object, Field::Filters)?;
@@ -110,7 +110,7 @@ fn options_of(object: &Object<'_>) -> Result<Options, Bad>
 
 /// The filters that these values name together.
 fn filters_of(values: &[Value]) -> Result<Filters, Bad>
-    ensures { Gives (λ filters. filters) result (filters_read (items_view values.now)) }
+    ensures { Tells (λ filters. filters) result (filters_read (items_view values.now)) }
 {
     let mut filters = Filters {
         no_put: false,
@@ -144,7 +144,7 @@ impl Filters {
 /// A filter by its name or its number.
 #[tactic(auto, unfolding(crate::specs::Fields::snake_of))]
 fn filter_request(value: &Value) -> Result<Filter, Bad>
-    ensures { Gives filter_of result (requests.filter_request (view value.now)) }
+    ensures { Tells filter_of result (requests.filter_request (view value.now)) }
 {
     kinds::enum_of(&FILTERS, value).ok_or(Bad::BadField(Field::Filters))
 }

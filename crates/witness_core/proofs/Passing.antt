@@ -1,6 +1,8 @@
 -- The walk over the claims finds the first fault of a certificate.
 use Rattle.std.proofs.Common.{◌≡◌, ◌≤◌, ◌<◌, ℕ, ◌-◌, ◌^◌, arith, List, [], ◌∷◌, ◌++◌, Bool, true, false, not, ◌&&◌, cond}
 use Rattle.std.proofs.Common.{length, Result, Ok, Err, OnOk, IfOk, IfErr, Option, None, Some, option_map, refl, sym, ◌∙◌, ap, subst}
+use Rattle.std.proofs.Common.{Vec, Global}
+use Rattle.std.specs.declared.alloc.AllocError.{AllocError}
 use Rattle.std.specs.Prelude.{nat_le}
 use Rattle.std.specs.Option.{option_or}
 use Rattle.std.specs.List.{AllByRecursion}
@@ -19,7 +21,7 @@ use Rattle.store_laws.specs.TrimmingLaws.{Tells, IsLeastOfItself}
 use Rattle.store_laws.proofs.PassingLaws.{passing-least}
 use Rattle.witness_core.specs.declared.fault.NeedFault as declared
 use Rattle.witness_core.specs.declared.fault.NeedFault.TheVariants.{NotRising, DoubleKey, NoNeed, NeedUnmet, Extra, Memory}
-use Rattle.witness_core.specs.Faults.{IsFault, IsFirst, Judges, fault_by}
+use Rattle.witness_core.specs.Faults.{IsFault, IsFirst, Judges, JudgesBy, fault_by}
 use Rattle.witness_core.specs.declared.checking.Least.{Least}
 use Rattle.witness_core.specs.Walks.{next_main, next_mains, is_next_in, is_next_by, is_met_by, walked}
 use Rattle.witness_core.proofs.Following.{superseded-next, rises, twin-double}
@@ -94,15 +96,11 @@ by-nexts d claims ns e n =
     (option_or (option_map NeedFault.double_key (first_double d.versions)) (claims_fault d d.versions claims))) e
 
 -- what is said of a list that rises is said of the first fault
-pub judges : (d : Dump) (claims cs : List Claim) (us vs : List Version) (ms ns : List (Option ℕ)) (r : Result Least declared.NeedFault)
+judges : (d : Dump) (claims cs : List Claim) (us vs : List Version) (ms ns : List (Option ℕ)) (r : Result Least declared.NeedFault)
     → us ≡ d.versions → None ≡ first_fall us → vs ≡ d.versions → ns ≡ next_mains vs → ms ≡ ns → cs ≡ claims
     → Judges r d (fault_by d ms cs) → Judges r d (first_fault d claims)
 judges d claims cs us vs ms ns r e rising f n m g =
     subst (Judges r d) (ap (fault_by d ms) g ∙ by-nexts d claims ms (rising ∙ ap first_fall e) (m ∙ n ∙ ap next_mains f))
-
-pub passed : (d : Dump) (f : Option NeedFault) (r : Result Least declared.NeedFault) → Judges r d f → OnOk r (f ≡ None)
-passed d f (Ok l) h = h.1
-passed d f (Err e) h = tt
 
 found : (d : Dump) (claims : List Claim) (e : declared.NeedFault) → IsFault e (first_fault d claims) → IsFirst d claims e
 found d claims (NotRising p) h = h
@@ -112,10 +110,39 @@ found d claims (NeedUnmet p) h = h
 found d claims Extra h = h
 found d claims Memory h = absurd h
 
-pub first : (d : Dump) (claims : List Claim) (r : Result Least declared.NeedFault) → Judges r d (first_fault d claims)
-    → IfErr r (IsFirst d claims)
+-- the number of versions where there is no fault, and else the first one, or want of memory where the list rises
+abbrev pub Says : Result Least declared.NeedFault → Dump → List Claim → Type 0
+Says (Ok l) d claims = (l.count ≡ length d.versions) × (first_fault d claims ≡ None)
+Says (Err e) d claims = IsFirst d claims e
+
+judged-says : (d : Dump) (claims : List Claim) (r : Result Least declared.NeedFault) → Judges r d (first_fault d claims) → Says r d claims
+judged-says d claims (Ok l) h = h
+judged-says d claims (Err e) h = found d claims e h
+
+wanted-says : (d : Dump) (claims : List Claim) (r : Result Least declared.NeedFault) → r ≡ Err Memory → first_fall d.versions ≡ None
+    → Says r d claims
+wanted-says d claims r e f = subst (λ (s : Result Least declared.NeedFault). Says s d claims) (sym e) f
+
+-- by the next versions, if memory was found to look for them
+pub said : (d : Dump) (claims cs : List Claim) (us vs : List Version) (made : Result (Vec (Option ℕ) Global) AllocError)
+    (r : Result Least declared.NeedFault) → us ≡ d.versions → None ≡ first_fall us → vs ≡ d.versions
+    → IfOk made (λ ns. ns.items ≡ next_mains vs) → cs ≡ claims → JudgesBy made r d cs → Says r d claims
+said d claims cs us vs (Ok ns) r e rising f n g h =
+    judged-says d claims r (judges d claims cs us vs ns.items ns.items r e rising f n refl g h)
+said d claims cs us vs (Err x) r e rising f n g h = wanted-says d claims r h (sym (rising ∙ ap first_fall e))
+
+pub passed : (d : Dump) (claims : List Claim) (r : Result Least declared.NeedFault) → Says r d claims → OnOk r (first_fault d claims ≡ None)
+passed d claims (Ok l) h = h.1
+passed d claims (Err e) h = tt
+
+pub counted : (d : Dump) (claims : List Claim) (r : Result Least declared.NeedFault) → Says r d claims
+    → IfOk r (λ l. l.count ≡ length d.versions)
+counted d claims (Ok l) h = h.0
+counted d claims (Err e) h = tt
+
+pub first : (d : Dump) (claims : List Claim) (r : Result Least declared.NeedFault) → Says r d claims → IfErr r (IsFirst d claims)
 first d claims (Ok l) h = tt
-first d claims (Err e) h = found d claims e h
+first d claims (Err e) h = h
 
 -- a previous value that may be asked for is told by this store's test
 told : (c : ℕ) (n : Need) → Tells before_is_kept c n
@@ -133,11 +160,11 @@ pub least : (d : Dump) (claims : List Claim) → AllByRecursion (λ v. v.rev.sub
 least d claims places e = passing-least before_is_kept d claims places e (all-told d.floor claims)
 
 pub needed : (d : Dump) (claims : List Claim) (r : Result Least declared.NeedFault) → AllByRecursion (λ v. v.rev.sub < 2 ^ 64) d.versions
-    → Judges r d (first_fault d claims) → OnOk r (AreNeedsOf d.floor d.revision d.versions d.versions claims)
+    → Says r d claims → OnOk r (AreNeedsOf d.floor d.revision d.versions d.versions claims)
 needed d claims (Ok l) places h = (least d claims places h.1).needs
 needed d claims (Err e) places h = tt
 
 pub fewest : (d : Dump) (claims : List Claim) (r : Result Least declared.NeedFault) → AllByRecursion (λ v. v.rev.sub < 2 ^ 64) d.versions
-    → Judges r d (first_fault d claims) → OnOk r (IsLeastOf d.versions d.floor d.revision d.versions)
+    → Says r d claims → OnOk r (IsLeastOf d.versions d.floor d.revision d.versions)
 fewest d claims (Ok l) places h = (least d claims places h.1).least
 fewest d claims (Err e) places h = tt

@@ -1,6 +1,9 @@
 -- How the program's faults are seen as the model's.
 use Rattle.std.specs.Prelude.{◌≡◌, ℕ, List, length, Option, None, Some, option_map, Result, Ok, Err}
+use Rattle.std.specs.Prelude.{Vec}
 use Rattle.std.specs.Option.{option_or}
+use Rattle.std.specs.declared.alloc.AllocError.{AllocError}
+use Rattle.std.specs.declared.alloc.Global.{Global}
 use Rattle.kv_model.specs.declared.version.Rev.{Rev}
 use Rattle.kv_model.specs.declared.version.Version.{Version}
 use Rattle.kv_model.specs.Certificates.{Dump, Claim}
@@ -53,3 +56,8 @@ fault_by d ns claims = option_or (option_map model.NeedFault.double_key (first_t
 abbrev pub Judges : Result Least NeedFault → Dump → Option model.NeedFault → Type 0
 Judges (Ok least) d f = (least.count ≡ length d.versions) × (f ≡ None)
 Judges (Err fault) d f = IsFault fault f
+
+-- by the next versions, if memory was found to look for them: then what is said is exact, and else it is that
+abbrev pub JudgesBy : Result (Vec (Option ℕ) Global) AllocError → Result Least NeedFault → Dump → List Claim → Type 0
+JudgesBy (Ok ns) r d claims = Judges r d (fault_by d ns.items claims)
+JudgesBy (Err e) r d claims = r ≡ Err Memory

@@ -3,7 +3,7 @@ ghost use Rattle.std.specs.Prelude.{◌≡◌, length, None, option_copied, IfOk
 ghost use Rattle.kv_model.specs.Certificates.{is_asked, first_fault, AreNeedsOf};
 ghost use Rattle.kv_model.specs.Questions.{IsLeastOf};
 ghost use Rattle.kv_model.specs.History.{is_tombstone};
-ghost use Rattle.witness_core.specs.Faults.{Finds, IsFirst, Judges, fault_by};
+ghost use Rattle.witness_core.specs.Faults.{Finds, IsFirst, Judges, JudgesBy, fault_by};
 ghost use Rattle.witness_core.specs.Seen.{seen_need};
 ghost use Rattle.witness_core.specs.Standing.{IsThere};
 ghost use Rattle.witness_core.specs.Walks.{claim_fault, is_met_by, is_next_by, walked};
@@ -13,7 +13,7 @@ use crate::dump::Dump;
 use crate::fault::NeedFault;
 use crate::nexts::{are_places, first_fall, first_twin, is_next_in, next_mains};
 use kv_model::version::{Body, Version};
-use std::alloc::Global;
+use std::alloc::{AllocError, Global};
 
 /// What a certificate that passes says: no list of fewer versions answers each question from the
 /// floor to the revision as the dump's does.
@@ -128,6 +128,21 @@ fn judged(dump: &Dump, nexts: &[Option<u64>], claims: &[Claim]) -> Result<Least,
     }
 }
 
+/// What a check says of a list that rises: want of memory is said where none was found to look for
+/// each version's next one, and else what `judged` says. Takes no memory.
+fn judged_by(
+    dump: &Dump,
+    nexts: Result<Vec<Option<u64>>, AllocError>,
+    claims: &[Claim],
+) -> Result<Least, NeedFault>
+    ensures { JudgesBy nexts result dump.now claims.now }
+{
+    match nexts {
+        Ok(nexts) => judged(dump, &nexts, claims),
+        Err(_) => Err(NeedFault::Memory),
+    }
+}
+
 /// Checks the certificate of a dump, which may be any list, and any claims.
 ///
 /// At `Ok` each version of the dump has the need that is claimed for it, among the dump's own
@@ -152,8 +167,6 @@ pub fn check(alloc: Global, dump: &Dump, certificate: &Certificate) -> Result<Le
     if let Some(rev) = first_fall(&dump.versions) {
         return Err(NeedFault::NotRising(rev));
     }
-    match next_mains(alloc, &dump.versions) {
-        Ok(nexts) => judged(dump, &nexts, &certificate.claims),
-        Err(_) => Err(NeedFault::Memory),
-    }
+    let nexts = next_mains(alloc, &dump.versions);
+    judged_by(dump, nexts, &certificate.claims)
 }

@@ -3,8 +3,8 @@ use Rattle.std.proofs.Common.{◌≡◌, Some, sym, ap}
 use Rattle.std.specs.Result.{result_err}
 use Rattle.kv_model.specs.Requests.{object_of}
 use Rattle.gateway_read.specs.declared.bad.Bad.TheVariants.{TooLong}
-use Rattle.gateway_read.specs.Parts.{call_read}
-use Rattle.gateway_read.proofs.Steps.{fails_then}
+use Rattle.gateway_read.specs.Parts.{call_read, takes_memory}
+use Rattle.gateway_read.proofs.Steps.{fails_then, gives_by}
 use Rattle.gateway_read.proofs.Readings.{request_of-no_path, request_of-call_read, not-unknown, not-known, ok-not-err}
 use Rattle.gateway_read.proofs.read.Goals as goal
 
@@ -28,7 +28,7 @@ returns-in-Err-clause-too_long c = λ known long.
 
 pub returns-clause-gives : goal.returns-clause-gives
 returns-clause-gives c = rw (request_of-call_read c.args.path.now c.args.body.now _ (sym c.in-Some.ensures), c.in-Ok.ensures.gives, ← c.new.ensures)
-    c.command.ensures
+    (gives_by (takes_memory c.in-Some.request) _ c.command.result _ c.command.ensures)
 
 pub returns-clause-no_path : goal.returns-clause-no_path
 returns-clause-no_path c = λ none. absurd (not-unknown c.args.path.now c.in-Some.request (sym c.in-Some.ensures) none)

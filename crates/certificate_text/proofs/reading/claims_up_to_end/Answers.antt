@@ -9,7 +9,7 @@ returns-then-is_end c = ended_at (claim_in c.args.is_first) c.loop-line.claims.i
 pub returns-in-Err : goal.returns-in-Err
 returns-in-Err c =
     rw c.stop_at.ensures (fails_at (claim_in c.args.is_first) c.loop-line.claims.items c.in-Some.line.now c.loop-line.rest _ _ c.in-Err.unfit c.in-Some.ensures.lines
-    (sym c.is_end.ensures ∙ c.if-is_end.false) c.in-Err.ensures c.loop-line.invariant)
+    (sym c.is_end.ensures ∙ c.if-is_end.false) c.in-Err.ensures.0 c.loop-line.invariant)
 
 pub loop-line-preserved : goal.loop-line-preserved
 loop-line-preserved c =

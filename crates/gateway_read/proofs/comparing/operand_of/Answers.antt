@@ -5,19 +5,19 @@ use Rattle.gateway_read.proofs.comparing.operand_of.Goals as goal
 
 pub returns-in_err-version : goal.returns-in_err-version
 unfolding operand_read snake_of
-returns-in_err-version c = gives_fault _ c.from_residual.result _ _ c.from_residual.ensures.1 (fails_then _ _ _ c.in_err-version.ensures)
+returns-in_err-version c = gives_fault _ c.from_residual.result _ _ c.from_residual.ensures.1 (fails_then _ _ _ c.in_err-version.ensures.0)
 
 pub returns-in_err-create : goal.returns-in_err-create
 unfolding operand_read snake_of
 returns-in_err-create c = rw c.in_ok-version.ensures
     (gives_fault _ c.from_residual-in_err-create.result _ _ c.from_residual-in_err-create.ensures.1
-    (fails_then _ _ _ c.in_err-create.ensures))
+    (fails_then _ _ _ c.in_err-create.ensures.0))
 
 pub returns-in_err-modified : goal.returns-in_err-modified
 unfolding operand_read snake_of
 returns-in_err-modified c = rw (c.in_ok-version.ensures, c.in_ok-create.ensures)
     (gives_fault _ c.from_residual-in_err-modified.result _ _ c.from_residual-in_err-modified.ensures.1
-    (fails_then _ _ _ c.in_err-modified.ensures))
+    (fails_then _ _ _ c.in_err-modified.ensures.0))
 
 pub returns-in_err-value : goal.returns-in_err-value
 unfolding operand_read snake_of
@@ -27,4 +27,4 @@ returns-in_err-value c = rw (c.in_ok-version.ensures, c.in_ok-create.ensures, c.
 pub returns-in_err-lease : goal.returns-in_err-lease
 unfolding operand_read snake_of
 returns-in_err-lease c = rw (c.in_ok-version.ensures, c.in_ok-create.ensures, c.in_ok-modified.ensures, c.in_ok-value.ensures)
-    (gives_fault _ c.from_residual-in_err-lease.result _ _ c.from_residual-in_err-lease.ensures.1 (fails_then _ _ _ c.in_err-lease.ensures))
+    (gives_fault _ c.from_residual-in_err-lease.result _ _ c.from_residual-in_err-lease.ensures.1 (fails_then _ _ _ c.in_err-lease.ensures.0))

@@ -2,7 +2,7 @@ use Rattle.std.proofs.Common.{[], ◌∷◌, ◌++◌, Ok, ap, refl, sym, ◌∙
 use Rattle.kv_model.specs.Requests.{filter_request}
 use Rattle.gateway_read.specs.Watches.{filter_of, with_filter}
 use Rattle.gateway_read.proofs.Each.{each_none, each_more, each_fails, each_done}
-use Rattle.gateway_read.proofs.Steps.{fails_then, gives_fault}
+use Rattle.gateway_read.proofs.Steps.{fails_then, tells_fault}
 use Rattle.gateway_read.proofs.Watches.{together-snoc}
 use Rattle.gateway_read.proofs.watching.filters_of.Goals as goal
 
@@ -22,9 +22,11 @@ loop-value-preserved c =
 pub returns-in_err-filter : goal.returns-in_err-filter
 returns-in_err-filter c =
     let (front, same, left) = c.loop-value.invariant in
-    gives_fault _ c.from_residual.result _ _ c.from_residual.ensures.1
-    (fails_then _ _ _ (each_fails filter_request c.args.values.now c.loop-value.value-index _ _ _ front _
-    (omega arith) c.value-item.is c.in_err-filter.ensures left))
+    tells_fault _ c.from_residual.result _ _ c.from_residual.ensures.1 (
+      fails_then _ _ _ (each_fails filter_request c.args.values.now c.loop-value.value-index _ _ _ front _
+          (omega arith) c.value-item.is c.in_err-filter.ensures.0 left),
+      c.in_err-filter.ensures.1,
+    )
 
 pub returns : goal.returns
 returns c =

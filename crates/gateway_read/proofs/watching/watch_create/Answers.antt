@@ -19,7 +19,7 @@ pub returns-in_err-options : goal.returns-in_err-options
 unfolding snake_of
 returns-in_err-options c = rw (watch_create-options (seen c.args.object.now), c.in_ok-key.ensures, c.in_ok-end.ensures)
     (gives_fault _ c.from_residual-in_err-options.result _ _ c.from_residual-in_err-options.ensures.1
-    (fails_then _ _ _ c.in_err-options.ensures))
+    (fails_then _ _ _ c.in_err-options.ensures.0))
 
 pub returns : goal.returns
 unfolding snake_of
