@@ -25,6 +25,10 @@ for (const watch of LANES.watches) {
   for (const at of [watch.since, watch.until, ...watch.told.map((told) => told[0])]) if (at >= 0) WATCH_AT.set(at, watch);
 }
 
+// The grants of each lease, under its ID.
+const GRANTS = new Map();
+for (const lease of LANES.leases) GRANTS.set(lease.id, [...GRANTS.get(lease.id) ?? [], lease]);
+
 // The first place of a rising list that is at or above a value.
 function firstFrom(list, value, of = (it) => it) {
   let low = 0, high = list.length;

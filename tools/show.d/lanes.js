@@ -73,13 +73,17 @@ function drawKept(lane, y) {
 }
 
 function drawLease(lane, y) {
-  const lease = lane.data, middle = y + lane.height / 2;
-  bar(xAt(lease.since), xUntil(lease.until), y + 4, lane.height - 8, paint.lease);
-  bar(xAt(lease.since), xAt(lease.since) + 2, y + 3, lane.height - 6, paint.expire);
-  const left = Math.max(GUTTER, xAt(lease.since)) + 5;
-  words(lease.ttl + ' s', left, middle, xUntil(lease.until) - left, paint.soft);
-  for (const at of lease.renewed) bar(xAt(at) - 1, xAt(at) + 1, y + 3, lane.height - 6, paint.expire);
-  if (lease.until >= 0) cross(xAt(lease.until), middle, paint[lease.cause]);
+  const middle = y + lane.height / 2;
+  for (const lease of lane.data) {
+    const from = xAt(lease.since), to = xUntil(lease.until);
+    if (to < GUTTER || from > box.clientWidth) continue;
+    bar(from, to, y + 4, lane.height - 8, paint.lease);
+    bar(from, from + 2, y + 3, lane.height - 6, paint.expire);
+    const left = Math.max(GUTTER, from) + 5;
+    words(lease.ttl + ' s', left, middle, to - left - 4, paint.soft);
+    for (const at of lease.renewed) bar(xAt(at) - 1, xAt(at) + 1, y + 3, lane.height - 6, paint.expire);
+    if (lease.until >= 0) cross(to, middle, paint[lease.cause]);
+  }
 }
 
 function drawWatch(lane, y) {
@@ -129,7 +133,7 @@ function niceStep(least) {
   return [1, 2, 5, 10].map((it) => it * power).find((it) => it >= least) ?? power * 10;
 }
 
-function drawAxis(width, height) {
+function drawAxis(width) {
   ink.fillStyle = paint.panel;
   ink.fillRect(0, 0, width, AXIS);
   const step = Math.max(1, niceStep(70 / view.scale));
@@ -150,21 +154,24 @@ function drawAxis(width, height) {
   ink.fillText(view.axis.title, 10, AXIS / 2);
 }
 
+// The lines of the axis, and, in the back, what lies below the last compaction.
 function drawGrid(width, height) {
+  const last = LANES.compactions[LANES.compactions.length - 1];
+  if (view.axis === AXES.revision && last) bar(GUTTER, xOf(Number(last[1])), AXIS, height, paint.floor);
   const step = Math.max(1, niceStep(70 / view.scale));
   for (let place = Math.ceil(placeAt(GUTTER) / step) * step; place <= placeAt(width); place += step) {
     bar(Math.round(xOf(place)), Math.round(xOf(place)) + 1, AXIS, height, paint.line);
   }
 }
 
-// Where history was given up: the line of each compaction, and what lies below the last one's revision.
+// Where history was given up: a line at each compaction.
 function drawCompactions(height) {
   const done = LANES.compactions;
-  if (view.axis === AXES.revision && done.length) bar(GUTTER, xOf(Number(done[done.length - 1][1])), AXIS, height, paint.floor);
-  let lastX = -Infinity;
+  let lastX = -Infinity, lineX = -Infinity;
   for (const [at, revision] of done) {
     const x = Math.round(xAt(at));
-    if (x < GUTTER || x > box.clientWidth || x - lastX < 3) continue;
+    if (x < GUTTER || x > box.clientWidth || x - lineX < 3) continue;
+    lineX = x;
     ink.strokeStyle = paint.compact;
     ink.lineWidth = 1;
     ink.setLineDash([4, 3]);
@@ -173,8 +180,12 @@ function drawCompactions(height) {
     ink.lineTo(x + 0.5, height);
     ink.stroke();
     ink.setLineDash([]);
-    if (x - lastX > 84) words('compact ' + revision, x + 4, AXIS + 27 - box.scrollTop, 80, paint.compact);
-    lastX = x;
+    const text = 'compact ' + revision, wide = ink.measureText(text).width, right = x + 4 + wide < box.clientWidth ? x + 4 : x - 4 - wide;
+    if (x - lastX > wide + 12 && box.scrollTop < 20) {
+      bar(right - 1, right + wide + 1, AXIS + 20 - box.scrollTop, 14, paint.paper);
+      words(text, right, AXIS + 27 - box.scrollTop, 90, paint.compact);
+      lastX = x;
+    }
   }
 }
 
@@ -189,7 +200,10 @@ function drawLabels(width, height) {
     if (lane.kind === 'watch') text += '  ' + lane.data.words.replace(/^watch /, '');
     while (text.length > 1 && ink.measureText(text).width > GUTTER - 22) text = text.slice(0, -2).replace(/…$/, '') + '…';
     ink.fillText(text, 10, y + lane.height / 2);
-    if (lane.isFirst) bar2(0, width, y);
+    if (lane.isFirst && y > AXIS) {
+      ink.fillStyle = paint.soft;
+      ink.fillRect(0, y, width, 1);
+    }
   }
   ink.strokeStyle = paint.line;
   ink.lineWidth = 1;
@@ -197,11 +211,6 @@ function drawLabels(width, height) {
   ink.moveTo(GUTTER - 0.5, 0);
   ink.lineTo(GUTTER - 0.5, height);
   ink.stroke();
-}
-
-function bar2(from, to, y) {
-  ink.fillStyle = paint.soft;
-  ink.fillRect(from, y, to - from, 1);
 }
 
 function visible() {
@@ -230,7 +239,7 @@ function draw() {
     if (view.chosen >= 0) bar(xAt(view.chosen), xAt(view.chosen) + 1.5, AXIS, height, paint.accent);
   }
   drawLabels(width, height);
-  drawAxis(width, height);
+  drawAxis(width);
 }
 
 let isAsked = false;

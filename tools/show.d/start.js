@@ -3,8 +3,8 @@
 const inputs = Object.fromEntries(['key', 'text', 'revision', 'kind'].map((name) => [name, document.getElementById(name)]));
 
 function legend() {
-  const marks = [['put', 'put'], ['delete', 'deleted by a request'], ['expire', 'lease, or deleted as one expired'], ['revoke', 'deleted as one was revoked'], ['told', 'watch: told, how many'],
-    ['behind', 'watch behind'], ['thrown', 'version thrown away'], ['compact', 'compaction'], ['refused', 'refused']];
+  const marks = [['put', 'put'], ['delete', 'deleted by a request'], ['expire', 'lease, or deleted as one expired'], ['revoke', 'deleted as one was revoked'], ['told', 'watch: told, how many'], ['behind', 'watch behind'],
+    ['refused', 'refused, or a watch cancelled'], ['thrown', 'version thrown away'], ['compact', 'compaction']];
   document.getElementById('legend').append(...marks.map(([colour, text]) => {
     const made = element('span'), mark = element('i');
     mark.style.background = `var(--${colour})`;
@@ -58,6 +58,9 @@ function listen() {
   document.getElementById('filters').addEventListener('submit', (event) => event.preventDefault());
   document.getElementById('clear').addEventListener('click', () => filterBy({ key: '', text: '', revision: '', kind: 'all' }));
   document.getElementById('axis').addEventListener('change', (event) => { view.axis = AXES[event.target.value]; seeAll(); });
+  for (const name in isSeen) {
+    document.getElementById('see-' + name).addEventListener('change', (event) => { isSeen[name] = event.target.checked; layLanes(); draw(); });
+  }
   document.getElementById('in').addEventListener('click', () => zoom(1.6));
   document.getElementById('out').addEventListener('click', () => zoom(1 / 1.6));
   document.getElementById('all').addEventListener('click', seeAll);

@@ -7,6 +7,7 @@ import bisect
 import collections
 
 from texts import bytes_of, enum_of, holds, named, span_of
+from words import joined
 
 FOREVER = None
 
@@ -132,7 +133,7 @@ class Story:
         keys = self.within(span)
         for key in keys:
             self.changed(at, key, None, 0, cause)
-        return len(keys)
+        return keys
 
     # ---- requests on keys
 
@@ -153,7 +154,10 @@ class Story:
         if event.body:
             event.spans.append(event.body.span())
             if not event.is_refused:
-                self.expects(self.deletes(at, event.body.span(), 'delete') == event.answer.number('deleted'), at)
+                keys = self.deletes(at, event.body.span(), 'delete')
+                self.expects(len(keys) == event.answer.number('deleted'), at)
+                if keys and not event.answer.has('prev_kvs'):
+                    event.told = 'deleted ' + some(keys)
 
     def on_txn(self, at, event):
         if event.body:
@@ -179,8 +183,8 @@ class Story:
             if operation.has('request_put'):
                 self.puts(at, operation.message('request_put'))
             elif operation.has('request_delete_range'):
-                count = self.deletes(at, operation.message('request_delete_range').span(), 'delete')
-                self.expects(count == response.message('response_delete_range').number('deleted'), at)
+                keys = self.deletes(at, operation.message('request_delete_range').span(), 'delete')
+                self.expects(len(keys) == response.message('response_delete_range').number('deleted'), at)
             elif operation.has('request_txn'):
                 self.runs(at, operation.message('request_txn'), response.message('response_txn'))
 
@@ -199,13 +203,14 @@ class Story:
 
     def on_revoke(self, at, event):
         if event.body and not event.is_refused:
-            self.lease_ends(at, event.body.number('ID'), 'revoke')
+            gone = self.lease_ends(at, event.body.number('ID'), 'revoke')
+            event.told = 'ended' + (', deleted ' + some(gone) if gone else '')
 
     def on_expire(self, at, event):
         if event.reply.startswith('expired '):
             number = int(event.reply.split(' ')[1])
             gone = self.lease_ends(at, number, 'expire')
-            event.told = 'lease %d ended%s' % (number, ': deleted ' + ', '.join(map(named, gone[:6])) + (' and %d more' % (len(gone) - 6)) * (len(gone) > 6) if gone else '')
+            event.told = 'lease %d ended%s' % (number, ', deleted ' + some(gone) if gone else '')
 
     def lease_ends(self, at, number, cause):
         lease = self.standing.pop(number, None)
@@ -315,6 +320,10 @@ class Story:
         kept = [tuple(map(int, line.split(' ')[1:3])) for line in event.reply.split('\n') if line.startswith(('put ', 'gone '))]
         event.told = 'floor %d: %d kept' % (self.floor, len(kept))
         self.expects(kept == sorted(place for place, change in self.versions.items() if change.gone is FOREVER), at)
+
+
+def some(keys):
+    return joined(map(named, keys))
 
 
 def version_words(change):

@@ -4,6 +4,8 @@ const GUTTER = 190, AXIS = 24, MOST_WIDTH = 12e6, MOST_SCALE = 320;
 const box = document.getElementById('lanes'), canvas = document.getElementById('canvas'), room = document.getElementById('room');
 const tip = document.getElementById('tip'), ink = canvas.getContext('2d');
 
+const isSeen = { leases: true, watches: true, keys: true };     // which kinds of lanes are
+
 const view = { axis: AXES.revision, scale: 1, lanes: [], chosen: -1 };
 
 function span() { return Math.max(1e-9, view.axis.to - view.axis.from); }
@@ -25,14 +27,14 @@ function layLanes() {
   };
   add('events', 20, 'events', null);
   add('kept', 44, 'versions kept', null);
-  for (const lease of LANES.leases) {
-    if (!chosenKeys || lease.keys.some((key) => anyWithin(keys, [key, key + 1]))) add('lease', 20, 'lease ' + lease.id, lease);
+  for (const [id, grants] of isSeen.leases ? GRANTS : []) {
+    if (!chosenKeys || grants.some((lease) => lease.keys.some((key) => anyWithin(keys, [key, key + 1])))) add('lease', 20, 'lease ' + id, grants);
   }
-  for (const watch of LANES.watches) {
+  for (const watch of isSeen.watches ? LANES.watches : []) {
     if (!chosenKeys || anyWithin(keys, watch.span)) add('watch', 24, 'watch ' + watch.number, watch);
   }
   let isFirst = true;
-  for (const key of keys) {
+  for (const key of isSeen.keys ? keys : []) {
     if (!LANES.keys[key].length) continue;
     add('key', 22, KEYS[key], LANES.keys[key], { key, isFirst });
     isFirst = false;
@@ -81,7 +83,8 @@ function seeEvent(at) {
 function laneOf(at) {
   if (CHANGES[at].length) return view.lanes.find((lane) => lane.key === CHANGES[at][0][0]);
   const watch = WATCH_AT.get(at);
-  return watch && view.lanes.find((lane) => lane.data === watch);
+  if (watch) return view.lanes.find((lane) => lane.data === watch);
+  return view.lanes.find((lane) => lane.kind === 'lease' && lane.data.some((it) => it.since === at || it.until === at || it.renewed.includes(at)));
 }
 
 // ---- what is under the pointer
@@ -110,11 +113,12 @@ function under(x, y) {
     return change ? { at: change[0], lane, change, isMark: Math.abs(xAt(change[0]) - x) < 6 } : { at: -1, lane };
   }
   if (lane.kind === 'watch' || lane.kind === 'lease') {
-    const it = lane.data;
-    const marks = [it.since, ...(lane.kind === 'watch' ? it.told.map((told) => told[0]) : it.renewed)];
-    if (it.until >= 0) marks.push(it.until);
+    const parts = lane.kind === 'watch' ? [lane.data] : lane.data;
+    const marks = parts.flatMap((it) => [it.since, ...(it.told ? it.told.map((told) => told[0]) : it.renewed), ...[it.until].filter((at) => at >= 0)]);
     const at = nearest(marks, x, (mark) => mark);
-    return { at: Math.abs(xAt(at) - x) < 8 ? at : it.since, lane };
+    if (Math.abs(xAt(at) - x) < 8) return { at, lane };
+    const part = parts.find((it) => xAt(it.since) <= x && x <= xUntil(it.until));
+    return { at: part ? part.since : -1, lane };
   }
   const compaction = lane.kind === 'kept' && nearest(LANES.compactions, x, (it) => it[0]);
   if (compaction && Math.abs(xAt(compaction[0]) - x) < 6) return { at: compaction[0], lane };
@@ -123,8 +127,9 @@ function under(x, y) {
 
 function tipText({ at, lane, change, isMark }) {
   if (!lane) return '';
+  if (at < 0 && lane.kind !== 'key' && lane.kind !== 'watch') return '';
   if (at < 0) return lane.kind === 'key' ? lane.label + '\n(a click takes this key alone)' : lane.kind === 'watch' ? lane.label + ': ' + lane.data.words : '';
-  const lines = [`line ${EVENTS.line.length ? at + 1 : 0}, clock ${EVENTS.clock[at]} ms, revision ${EVENTS.revision[at]}`, EVENTS.asked[at], EVENTS.told[at]];
+  const lines = [`line ${at + 1}, clock ${EVENTS.clock[at]} ms, revision ${EVENTS.revision[at]}`, EVENTS.asked[at], EVENTS.told[at]];
   if (change && !isMark) lines.unshift(change[1] === 'put' ? `${lane.label} = ${change[2].slice(0, 300)}` : `${lane.label} is not there`);
   if (change && change[3] >= 0) lines.push(`this version was thrown away by line ${change[3] + 1}`);
   if (lane.kind === 'kept') lines.unshift(`${EVENTS.kept[at]} versions kept`);

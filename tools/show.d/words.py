@@ -1,5 +1,5 @@
 """Requests and answers in words."""
-from texts import body_of, bytes_of, named, span_words
+from texts import body_of, bytes_of, named, span_of, span_words
 
 SIGNS = {'EQUAL': '=', 'GREATER': '>', 'LESS': '<', 'NOT_EQUAL': '≠'}
 MOST_ITEMS = 6
@@ -96,7 +96,7 @@ def txn_words(body):
 
 def watch_words(body):
     body = body.message('create_request')
-    words = ['watch ' + span_words(body.span())]
+    words = ['watch ' + span_words(span_of(body.bytes('key') or b'\0', body.bytes('range_end')))]
     if body.number('start_revision') > 0:
         words.append('from revision %d on' % body.number('start_revision'))
     filters = body.get('filters')
