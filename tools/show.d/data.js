@@ -81,9 +81,11 @@ function anyWithin(keys, [from, to]) {
   return at < keys.length && keys[at] < to;
 }
 
+// What is searched: the words, and what stands behind them unless it is long.
 const LOWER = new Array(COUNT);
 function lowered(at) {
-  LOWER[at] ??= [EVENTS.asked[at], EVENTS.told[at], EVENTS.line[at], EVENTS.reply[at]].join('\n').toLowerCase();
+  const parts = [EVENTS.asked[at], EVENTS.told[at], EVENTS.line[at], EVENTS.reply[at]];
+  LOWER[at] ??= parts.filter((part) => typeof part === 'string').join('\n').toLowerCase();
   return LOWER[at];
 }
 

@@ -45,10 +45,21 @@ function spell(value, depth, name, into) {
   if (text !== null) into.append(element('span', '   ' + (text || '(nothing)'), 'meant'));
 }
 
+// A request or reply that is long is packed in the page.
+async function unpacked({ packed }) {
+  const bytes = Uint8Array.from(atob(packed), (it) => it.charCodeAt(0));
+  return new Response(new Blob([bytes]).stream().pipeThrough(new DecompressionStream('deflate'))).text();
+}
+
 function whole(title, text) {
+  if (typeof text !== 'string') {
+    const made = element('div', `${title} of ${text.size.toLocaleString('en')} letters, in which the search does not look`);
+    unpacked(text).then((plain) => made.replaceChildren(...whole(made.textContent, plain)), (failure) => made.append(': ' + failure));
+    return [made];
+  }
   const parts = [element('h3', title), element('pre', text, 'raw')];
-  const body = /^[^{]*(\{.*)$/s.exec(text)?.[1];
-  if (body && text.length < MOST_SPELT) {
+  const body = text.length < MOST_SPELT && /^[^{]*(\{.*)$/s.exec(text)?.[1];
+  if (body) {
     try {
       const laid = element('pre', undefined, 'spelt');
       spell(JSON.parse(body), 0, '', laid);

@@ -8,10 +8,12 @@ import bisect
 import hashlib
 import json
 import os
+import zlib
 
 from texts import text_of
 
 HERE = os.path.dirname(os.path.abspath(__file__))
+MOST_PLAIN = 20_000     # bytes of a request or reply that stand in the page as they are; more are packed
 SCRIPTS = ['data.js', 'timeline.js', 'lanes.js', 'list.js', 'detail.js', 'start.js']
 
 
@@ -23,6 +25,13 @@ def text_from(name):
 def number(value):
     """A number that the page's script can hold, or its text."""
     return value if abs(value) < 2 ** 53 else str(value)
+
+
+def packed(text):
+    """A text, or where it is long what it is packed to: the page unpacks it when it is asked for."""
+    if len(text) <= MOST_PLAIN:
+        return text
+    return {'size': len(text), 'packed': base64.b64encode(zlib.compress(text.encode(), 6)).decode()}
 
 
 def until(at):
@@ -58,8 +67,8 @@ def events_of(story, keys):
         'refused': [int(it.is_refused) for it in events],
         'asked': [it.asked for it in events],
         'told': [it.told for it in events],
-        'line': [it.line for it in events],
-        'reply': [it.reply for it in events],
+        'line': [packed(it.line) for it in events],
+        'reply': [packed(it.reply) for it in events],
         'kept': [it.kept for it in events],
         'about': [it.told_span or 0 for it in events],
         'keys': [sorted(keys.place(key) for key in it.keys if key) for it in events],
