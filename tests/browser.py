@@ -27,7 +27,7 @@ class Browser:
                  '--user-data-dir=' + self.folder]
         # The browser reads from 3 and writes to 4.
         self.process = subprocess.Popen(['sh', '-c', 'exec 3<&%d 4>&%d; exec "$@"' % (tell[0], told[1]), 'sh', *words], pass_fds=(tell[0], told[1]),
-                                        stdin=subprocess.DEVNULL, stdout=subprocess.DEVNULL, stderr=subprocess.DEVNULL)
+                                        env={**os.environ, 'HOME': self.folder}, stdin=subprocess.DEVNULL, stdout=subprocess.DEVNULL, stderr=subprocess.DEVNULL)
         os.close(tell[0])
         os.close(told[1])
         self.tell, self.told = tell[1], told[0]
