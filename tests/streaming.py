@@ -249,7 +249,7 @@ class History:
 
 def difference(came, wanted):
     at = next((at for at, (one, other) in enumerate(zip(came, wanted)) if one != other), min(len(came), len(wanted)))
-    shown = [str(events[at])[:300] if at < len(events) else 'nothing' for events in (came, wanted)]
+    shown = [str(events[at])[:160] if at < len(events) else 'nothing' for events in (came, wanted)]
     word = 'is told once more' if at < len(came) and came[at] in came[:at] else 'is told'
     return 'event %d of %d (%d came) %s: %s in place of %s' % (at, len(wanted), len(came), word, *shown)
 
