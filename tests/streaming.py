@@ -185,9 +185,9 @@ class Streams:
 
 # ---- what a watch has to be told
 
-def draw_watch(dice, number):
-    """What watch `number` asks for: every other one for previous values, three of four for all keys of a range, some without Puts or deletions. Its
-    messages name its number."""
+def draw_watch(dice, number, revision=1):
+    """What watch `number` asks for: every other one for previous values, three of four for all keys of a range, some without Puts or deletions,
+    some from a revision on that is not above this one. Its messages name its number."""
     first, last = sorted(dice.sample(range(len(KEYS) + 1), 2))
     asked = dice.choice([{'key': coded(KEYS[first])}, {'key': coded('w/'), 'range_end': coded('w0')}, {'key': coded('w/'), 'range_end': 'AA=='},
                          {'key': coded(KEYS[first]), 'range_end': coded((KEYS + ['w0'])[last])}])
@@ -196,6 +196,8 @@ def draw_watch(dice, number):
         asked['prev_kv'] = True
     if dice.random() < 0.1:
         asked['filters'] = [dice.choice(['NOPUT', 'NODELETE'])]
+    if revision > 1 and dice.random() < 0.3:
+        asked['start_revision'] = str(dice.randrange(1, revision + 1))
     return asked
 
 
@@ -236,7 +238,7 @@ class History:
         for _, text in stream.told[1:]:
             message = json.loads(text)['result']
             expect(set(message) - {'watch_id'} == {'header', 'events'}, 'a watch is told %r' % (text[:300],))
-            expect(message.get('watch_id') == stream.asked.get('watch_id'), 'the watch %r is told a message of another: %r' % (stream.asked, text[:300]))
+            expect(message.get('watch_id') == stream.asked.get('watch_id'), '%r is told a message of another: %r' % (stream.asked, text[:300]))
             revisions = [int(event['kv']['mod_revision']) for event in message['events']]
             expect(revisions == sorted(revisions) and revisions[0] > revision, 'a message tells revisions %r behind %d' % (revisions[:20], revision))
             revision = revisions[-1]
@@ -267,7 +269,9 @@ class Program:
         self.process.stdin.flush()
 
     def has_said(self):
-        return bool(select.select([self.process.stdout], [], [], 0)[0])
+        poll = select.poll()
+        poll.register(self.process.stdout, select.POLLIN)
+        return bool(poll.poll(0))
 
     def saw(self):
         """What it saw, once its standard input has ended."""
@@ -324,7 +328,7 @@ def change(port, seed, count, rest):
         for turn in range(count):
             time.sleep(rest)
             keys = dice.sample(KEYS, dice.choice([1, 1, 1, 2, 3])) if turn < count - 1 else [LAST]
-            operations = [[key, None if key in stands and dice.random() < 0.3 else '%s turn %d %s' % (key, turn, 'x' * dice.randrange(600))] for key in keys]
+            operations = [[key, None if key in stands and dice.random() < 0.3 else 'turn %d %s' % (turn, 'x' * dice.randrange(600))] for key in keys]
             stands.update(keys)
             stands -= {key for key, value in operations if value is None}
             sent = time.monotonic()
