@@ -16,6 +16,7 @@ import json
 import os
 import random
 import select
+import signal
 import socket
 import subprocess
 import sys
@@ -37,6 +38,7 @@ base = script('tests/http')
 Wrong, expect, coded = base.Wrong, base.expect, base.coded
 KEYS = ['w/%02d' % number for number in range(16)]
 LAST = 'w/last'                                           # watched as one of them, and changed last of all
+MOST = 5.0                                                # seconds: nothing takes longer, be the machine as busy as it may
 
 
 # ---- streams
@@ -127,6 +129,23 @@ class Stream:
     def expect_ended(self):
         """It has ended in order."""
         expect(self.closed and self.last, 'a stream %s without its last chunk' % ('ends' if self.closed else 'goes on'))
+
+
+    def has_come(self):
+        """Whether something waits to be read."""
+        try:
+            return bool(self.socket.recv(1, socket.MSG_PEEK))
+        except BlockingIOError:
+            return False
+
+
+class Seen:
+    """A stream that another program has read."""
+
+    def __init__(self, asked, told):
+        self.asked, self.told, self.refusal, self.closed = asked, told, None, None
+
+    expect_created = Stream.expect_created
 
 
 class Streams:
@@ -256,10 +275,61 @@ def difference(came, wanted):
     return 'event %d of %d (%d came) %s: %s in place of %s' % (at, len(wanted), len(came), word, *shown)
 
 
-# ---- clients with a process of their own
+# ---- clients
+
+class Writer:
+    """A client that puts keys, and their history. `waited` has the seconds from each Put to the last of its events."""
+
+    def __init__(self, server, streams):
+        self.server, self.streams, self.peer, self.history, self.waited = server, streams, base.Peer(server.port), History(), []
+
+    def put(self, key, value):
+        self.peer.send(base.put(key, value))
+        self.history.changed(revision_of(self.peer), [(key, value)])
+        self.server.changed()
+
+    def tells(self, key, value, opened):
+        """Puts a key, and waits until each of these streams was told."""
+        sent, told = time.monotonic(), [len(stream.told) + 1 for stream in opened]
+        self.put(key, value)
+        self.streams.until(lambda: [len(stream.told) for stream in opened] == told, MOST, 'a watch is not told of a change')
+        self.waited.append(time.monotonic() - sent)
+
+
+class Clients:
+    """Clients with a process of their own, which are ended with the test."""
+
+    def __init__(self, *programs):
+        self.programs = list(programs)
+
+    def __enter__(self):
+        return self
+
+    def __exit__(self, *_):
+        for program in self.programs:
+            program.stop()
+
+    def add(self, program):
+        self.programs.append(program)
+        return program
+
+
+class Still:
+    """A process is stopped for a second, meanwhile streams are read."""
+
+    def __init__(self, process, streams):
+        self.process, self.streams = process, streams
+
+    def __enter__(self):
+        self.process.send_signal(signal.SIGSTOP)
+
+    def __exit__(self, *_):
+        self.streams.rests(1)
+        self.process.send_signal(signal.SIGCONT)
+
 
 class Program:
-    """Such a client. What it saw is read at its end."""
+    """A client with a process of its own. What it saw is read at its end."""
 
     def __init__(self, *words):
         self.process = subprocess.Popen([sys.executable, os.path.abspath(__file__), *map(str, words)], stdin=subprocess.PIPE, stdout=subprocess.PIPE)
