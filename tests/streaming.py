@@ -332,7 +332,8 @@ class Program:
     """A client with a process of its own. What it saw is read at its end."""
 
     def __init__(self, *words):
-        self.process = subprocess.Popen([sys.executable, os.path.abspath(__file__), *map(str, words)], stdin=subprocess.PIPE, stdout=subprocess.PIPE)
+        words = [sys.executable, os.path.abspath(__file__), *map(str, words)]
+        self.process = subprocess.Popen(words, stdin=subprocess.PIPE, stdout=subprocess.PIPE, stderr=subprocess.PIPE)
 
     def says(self, line):
         self.process.stdin.write(json.dumps(line).encode() + b'\n')
@@ -345,8 +346,8 @@ class Program:
 
     def saw(self):
         """What it saw, once its standard input has ended."""
-        out = self.process.communicate(timeout=base.MOST_WAIT)[0]
-        expect(self.process.returncode == 0 and out, 'a client fails, as said above')
+        out, err = self.process.communicate(timeout=base.MOST_WAIT)
+        expect(self.process.returncode == 0 and out, err.decode() or 'a client says nothing')
         return json.loads(out)
 
     def stop(self):
@@ -443,4 +444,4 @@ if __name__ == '__main__':
     try:
         print(json.dumps(main()))
     except (Wrong, OSError) as failure:
-        sys.exit('streaming.py: %s: %s' % (type(failure).__name__, failure))
+        sys.exit('a client of its own: %s: %s' % (type(failure).__name__, failure))
