@@ -1,23 +1,17 @@
 """Many watches read by one thread: what each was told, when, and how its stream ended; and what it had to be told, by a history of the keys.
-For tests/streams and bench/watches.
-
-Run as a program it is a client with a process of its own, so that it can be stopped, and takes no time of the one that reads the watches:
-
-    streaming.py busy PORT CONNECTIONS         Puts and Ranges on so many connections without a rest, until its standard input ends
-    streaming.py change PORT SEED COUNT REST   changes of the keys that `draw_watch` watches, with rests of so many seconds between them
-    streaming.py read                          reads the watches that its first line names, until each was told of a certain key
-
-What it saw it writes to standard output as JSON.
+For tests/streams, tests/stream_ends and bench/watches; clients with a process of their own are in streaming_clients.py.
 """
+import argparse
 import base64
 import importlib.machinery
 import importlib.util
 import json
 import os
 import random
+import resource
 import select
-import signal
 import socket
+import statistics
 import subprocess
 import sys
 import time
@@ -139,15 +133,6 @@ class Stream:
             return False
 
 
-class Seen:
-    """A stream that another program has read."""
-
-    def __init__(self, asked, told):
-        self.asked, self.told, self.refusal, self.closed = asked, told, None, None
-
-    expect_created = Stream.expect_created
-
-
 class Streams:
     """Streams that are read as their bytes come."""
 
@@ -206,7 +191,7 @@ class Streams:
 
 def draw_watch(dice, number, revision=1):
     """What watch `number` asks for: every other one for previous values, three of four for all keys of a range, some without Puts or deletions,
-    some from a revision on that is not above this one. Its messages name its number."""
+    some from a revision on that is at most a little above this one. Its messages name its number."""
     first, last = sorted(dice.sample(range(len(KEYS) + 1), 2))
     asked = dice.choice([{'key': coded(KEYS[first])}, {'key': coded('w/'), 'range_end': coded('w0')}, {'key': coded('w/'), 'range_end': 'AA=='},
                          {'key': coded(KEYS[first]), 'range_end': coded((KEYS + ['w0'])[last])}])
@@ -216,7 +201,7 @@ def draw_watch(dice, number, revision=1):
     if dice.random() < 0.1:
         asked['filters'] = [dice.choice(['NOPUT', 'NODELETE'])]
     if revision > 1 and dice.random() < 0.3:
-        asked['start_revision'] = str(dice.randrange(1, revision + 1))
+        asked['start_revision'] = str(dice.randrange(1, revision + 6))
     return asked
 
 
@@ -268,6 +253,16 @@ class History:
         return len(came)
 
 
+def has_all(opened, revision):
+    """Whether those that watch `LAST` were told of it."""
+    mark = b'"key":"%s","mod_revision":"%d"' % (coded(LAST).encode(), revision)
+    return all(mark in stream.told[-1][1] for stream in opened if 'range_end' in stream.asked and concerns_last(stream.asked))
+
+
+def concerns_last(asked):
+    return 'filters' not in asked and base64.b64decode(asked['range_end']) in (b'w0', b'\0')
+
+
 def difference(came, wanted):
     at = next((at for at, (one, other) in enumerate(zip(came, wanted)) if one != other), min(len(came), len(wanted)))
     shown = [str(events[at])[:160] if at < len(events) else 'nothing' for events in (came, wanted)]
@@ -275,13 +270,22 @@ def difference(came, wanted):
     return 'event %d of %d (%d came) %s: %s in place of %s' % (at, len(wanted), len(came), word, *shown)
 
 
-# ---- clients
+# ---- a client that puts
+
+def revision_of(peer):
+    """The revision of the reply that comes next, which has to be a good one."""
+    status, _, body = peer.reply()
+    expect(status == 200, 'a request is told %d %r' % (status, body))
+    return int(body['header']['revision'])
+
 
 class Writer:
-    """A client that puts keys, and their history. `waited` has the seconds from each Put to the last of its events."""
+    """A client that puts keys, and their history. `waited` has the seconds from each Put to the last of its events, and `behind` those from its
+    reply."""
 
     def __init__(self, server, streams):
-        self.server, self.streams, self.peer, self.history, self.waited = server, streams, base.Peer(server.port), History(), []
+        self.server, self.streams, self.peer, self.history = server, streams, base.Peer(server.port), History()
+        self.waited, self.behind = [], []
 
     def put(self, key, value):
         self.peer.send(base.put(key, value))
@@ -292,156 +296,83 @@ class Writer:
         """Puts a key, and waits until each of these streams was told."""
         sent, told = time.monotonic(), [len(stream.told) + 1 for stream in opened]
         self.put(key, value)
+        replied = time.monotonic()
         self.streams.until(lambda: [len(stream.told) for stream in opened] == told, MOST, 'a watch is not told of a change')
         self.waited.append(time.monotonic() - sent)
+        self.behind.append(time.monotonic() - replied)
 
 
-class Clients:
-    """Clients with a process of their own, which are ended with the test."""
+# ---- measures and tests
 
-    def __init__(self, *programs):
-        self.programs = list(programs)
-
-    def __enter__(self):
-        return self
-
-    def __exit__(self, *_):
-        for program in self.programs:
-            program.stop()
-
-    def add(self, program):
-        self.programs.append(program)
-        return program
+def resident(server):
+    """MiB that the server has in memory."""
+    with open('/proc/%d/status' % server.process.pid) as status:
+        return next(int(line.split()[1]) for line in status if line.startswith('VmRSS:')) / 1024
 
 
-class Still:
-    """A process is stopped for a second, meanwhile streams are read."""
-
-    def __init__(self, process, streams):
-        self.process, self.streams = process, streams
-
-    def __enter__(self):
-        self.process.send_signal(signal.SIGSTOP)
-
-    def __exit__(self, *_):
-        self.streams.rests(1)
-        self.process.send_signal(signal.SIGCONT)
+def late(times):
+    """The 99th of 100."""
+    return sorted(times)[len(times) * 99 // 100]
 
 
-class Program:
-    """A client with a process of its own. What it saw is read at its end."""
-
-    def __init__(self, *words):
-        words = [sys.executable, os.path.abspath(__file__), *map(str, words)]
-        self.process = subprocess.Popen(words, stdin=subprocess.PIPE, stdout=subprocess.PIPE, stderr=subprocess.PIPE)
-
-    def says(self, line):
-        self.process.stdin.write(json.dumps(line).encode() + b'\n')
-        self.process.stdin.flush()
-
-    def has_said(self):
-        poll = select.poll()
-        poll.register(self.process.stdout, select.POLLIN)
-        return bool(poll.poll(0))
-
-    def saw(self):
-        """What it saw, once its standard input has ended."""
-        out, err = self.process.communicate(timeout=base.MOST_WAIT)
-        expect(self.process.returncode == 0 and out, err.decode() or 'a client says nothing')
-        return json.loads(out)
-
-    def stop(self):
-        if self.process.poll() is None:
-            self.process.kill()
-            self.process.wait()
+def ms(seconds):
+    return '%.1f ms' % (1000 * seconds)
 
 
-def revision_of(peer):
-    """The revision of the reply that comes next, which has to be a good one."""
-    status, _, body = peer.reply()
-    expect(status == 200, 'a request is told %d %r' % (status, body))
-    return int(body['header']['revision'])
+def spread(times):
+    return 'half within %s, 99 of 100 within %s, the longest %s' % (ms(statistics.median(times)), ms(late(times)), ms(max(times)))
 
 
-def busy(port, connections):
-    """How many changes were made, and how many requests."""
-    dice, changes, requests = random.Random(connections), 0, 0
-    peers = {peer.socket.fileno(): peer for peer in [base.Peer(port) for _ in range(connections)]}
-    poll = select.epoll()
-    poll.register(0, select.EPOLLIN | select.EPOLLHUP)
-    for file in peers:
-        poll.register(file, select.EPOLLIN)
-    puts = [base.put('b/%03d' % number, 'x' * dice.randrange(100)) for number in range(100)]
-    ranges = [base.request('/v3/kv/range', {'key': coded('b/%03d' % number)}) for number in range(100)]
-    for peer in peers.values():
-        peer.send(dice.choice(puts))
-    is_over, waiting = False, len(peers)
-    while waiting:
-        for file, _ in poll.poll():
-            if file == 0:
-                is_over = True
-                poll.unregister(0)
-                continue
-            was_put = revision_of(peers[file]) and getattr(peers[file], 'puts', True)
-            changes, requests = changes + was_put, requests + 1
-            peers[file].puts = dice.random() < 0.7
-            if is_over:
-                waiting -= 1
-            else:
-                peers[file].send(dice.choice(puts if peers[file].puts else ranges))
-    return {'changes': changes, 'requests': requests}
+def leaves(streams, opened):
+    """The clients of some streams leave: half close, and half end their sending side, and are told the end in order."""
+    for stream in opened[1::2]:
+        stream.socket.shutdown(base.socket.SHUT_WR)
+    for stream in opened[::2]:
+        streams.leave(stream)
+    shut = opened[1::2]
+    streams.until(lambda: all(stream.is_ended() for stream in shut), MOST, 'a stream goes on whose client has ended its sending side')
+    for stream in shut:
+        stream.expect_ended()
+        stream.socket.close()
 
 
-def change(port, seed, count, rest):
-    """The changes: [the moment each was sent, that of its reply, its revision, its operations]. The last puts the key `LAST`."""
-    dice, stands, changes = random.Random(seed), set(), []
-    with base.Peer(port) as peer:
-        for turn in range(count):
-            time.sleep(rest)
-            keys = dice.sample(KEYS, dice.choice([1, 1, 1, 2, 3])) if turn < count - 1 else [LAST]
-            operations = [[key, None if key in stands and dice.random() < 0.3 else 'turn %d %s' % (turn, 'x' * dice.randrange(600))] for key in keys]
-            stands.update(keys)
-            stands -= {key for key, value in operations if value is None}
-            sent = time.monotonic()
-            peer.send(change_request(operations))
-            revision = revision_of(peer)
-            changes.append([sent, time.monotonic(), revision, operations])
-    return changes
-
-
-def change_request(operations):
-    if len(operations) == 1 and operations[0][1] is not None:
-        return base.put(*operations[0])
-    if len(operations) == 1:
-        return base.request('/v3/kv/deleterange', {'key': coded(operations[0][0])})
-    return base.request('/v3/kv/txn', {'success': [
-        {'request_delete_range': {'key': coded(key)}} if value is None else {'request_put': {'key': coded(key), 'value': coded(value)}}
-        for key, value in operations]})
-
-
-def read():
-    """Its line has the port, the watches as (what is asked, room), and the key that each is told of last. It says that they are created, and
-    once each was told of the key, and nothing more came for a while, what each was told."""
-    wanted = json.loads(sys.stdin.readline())
-    streams, mark = Streams(), b'"key":"%s"' % coded(wanted['last']).encode()
-    opened = [stream for asked, room in wanted['watches'] for stream in streams.open(wanted['port'], [asked], room)]
-    print('created', flush=True)
-    streams.until(lambda: all(mark in stream.told[-1][1] for stream in opened), base.MOST_WAIT, 'a watch is not told of the last change')
-    streams.rests(0.2)
-    return [[[moment, text.decode()] for moment, text in stream.told] for stream in opened]
-
-
-def main():
-    word, *rest = sys.argv[1:]
-    if word == 'busy':
-        return busy(int(rest[0]), int(rest[1]))
-    if word == 'change':
-        return change(int(rest[0]), int(rest[1]), int(rest[2]), float(rest[3]))
-    return read()
-
-
-if __name__ == '__main__':
+def run(name, test, connections, workers, asked):
+    """Runs a test on a server of its own, if it wants one; whether it passed."""
+    start, server = time.monotonic(), None
     try:
-        print(json.dumps(main()))
-    except (Wrong, OSError) as failure:
-        sys.exit('a client of its own: %s: %s' % (type(failure).__name__, failure))
+        if connections:
+            server = base.Server([asked.binary], connections, workers)
+            did = test(server, random.Random(asked.seed))
+            server.fill()
+            server.close()
+        else:
+            did = test(asked.binary, random.Random(asked.seed))
+        passed = True
+    except (Wrong, OSError, ValueError, KeyError, subprocess.TimeoutExpired) as failure:
+        did, passed = '%s: %s' % (type(failure).__name__, failure), False
+    finally:
+        if server:
+            server.stop()
+    print('%s: %s: %s (%.1f s)' % (name, test.__name__, did, time.monotonic() - start), flush=True)
+    return passed
+
+
+def run_all(name, tests):
+    """Runs the tests of a script, each (test, its connections, workers, and how many files it has open); the status to end with."""
+    words = argparse.ArgumentParser()
+    words.add_argument('--binary', default=os.path.join(TOP, 'etcd_one'))
+    words.add_argument('--only')
+    words.add_argument('--seed', type=int, default=57)
+    asked = words.parse_args()
+    soft, hard = resource.getrlimit(resource.RLIMIT_NOFILE)
+    may = max(soft, 4096 if hard == resource.RLIM_INFINITY else min(4096, hard))
+    resource.setrlimit(resource.RLIMIT_NOFILE, (may, hard))
+    failed = 0
+    for test, connections, workers, files in tests:
+        if asked.only not in (None, test.__name__):
+            continue
+        if files > may:
+            print('%s: %s: left out, since %d files may be open, and it wants %d' % (name, test.__name__, may, files))
+        elif not run(name, test, connections, workers, asked):
+            failed = 1
+    return failed
