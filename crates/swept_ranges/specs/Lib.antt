@@ -1,2 +1,3 @@
 pub mod Swept
 pub mod Walks
+pub mod Ends

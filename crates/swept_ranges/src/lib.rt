@@ -3,7 +3,8 @@
 //!
 //! The one contract is that of [`live_beside`]: of the key-values of a range's live keys it leaves
 //! out only some that the swept ranges cover (`AreBut` in `specs/Swept.antt`). [`add`] covers no key
-//! that neither the range nor those before it have.
+//! that neither the range nor those before it have, and what it adds to stays in order (`AreInOrder`
+//! in `specs/Ends.antt`).
 //!
 //! For example, where a transaction deletes b to f, and then a to z, of the keys a, c, e and g:
 //!

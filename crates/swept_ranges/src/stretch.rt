@@ -86,7 +86,7 @@ fn onward(alloc: Global, from: &[u8]) -> Result<Option<KeyRange>, AllocError>
 }
 
 /// Whether a key is the single byte 0.
-fn is_zero_byte(key: &[u8]) -> bool
+pub(crate) fn is_zero_byte(key: &[u8]) -> bool
     ensures { result ≡ same_key key.now zero_byte }
 {
     key == [0].as_slice()

@@ -1,14 +1,19 @@
 //! Ranges whose live keys a transaction has deleted, and what of another range lies beside them.
 ghost use Rattle.std.specs.Prelude.{◌≡◌, ◌||◌, ◌&&◌, ◌++◌, ◌≤◌, ℕ, List, Bool, true, map, length};
-ghost use Rattle.std.specs.Prelude.{IfOk, OnOk};
+ghost use Rattle.std.specs.Prelude.{IfOk, MatchOption, OnOk, drop, false, min, option_copied, take};
+ghost use Rattle.std.specs.Prelude.{⊤};
+ghost use Rattle.std.specs.List.{insert};
+ghost use Rattle.kv_model.specs.Lists.{is_empty};
+ghost use Rattle.store_laws.specs.Rising.{count_while};
 ghost use Rattle.kv_model.specs.declared.version.KeyRange.{KeyRange};
 ghost use Rattle.kv_model.specs.Keys.{in_range, key_le};
 ghost use Rattle.kv_model.specs.Ranges.{live};
 ghost use Rattle.range_view.specs.Replies.{kv_view};
 ghost use Rattle.swept_ranges.specs.Swept.{AreBut, covers, of_keys};
+ghost use Rattle.swept_ranges.specs.Ends as ends;
 ghost use Rattle.swept_ranges.specs.Walks as walks;
 
-use crate::stretch::{Stretch, is_below, range_of, stretch_of};
+use crate::stretch::{Stretch, is_below, is_zero_byte, range_of, stretch_of};
 use kv_model::version::KeyRange;
 use range_view::View;
 use range_view::reply::KvRef;
@@ -39,37 +44,72 @@ enum Walked<'t> {
 }
 
 /// Adds a range of several keys, and drops those that lie within it. They stay in the order of
-/// their first keys, and that is the order of their ends too. The error is want of memory.
+/// their first keys, and that is the order of their ends too (`add_in_order`). The error is want of
+/// memory.
 ///
 /// It halves, moves those behind its place, and drops each range once.
 pub fn add<'t>(swept: &mut Vec<&'t KeyRange>, range: &'t KeyRange) -> Result<(), AllocError>
     ensures { OnOk result ((k : List ℕ) → covers swept.new.items k ≡ true
         → (covers swept.old.items k || in_range range.now k) ≡ true) }
 {
-    let Some(stretch) = stretch_of(range) else {
+    add_in_order(swept, range)
+}
+
+/// The same: where the ranges are in order they stay so.
+fn add_in_order<'t>(swept: &mut Vec<&'t KeyRange>, range: &'t KeyRange) -> Result<(), AllocError>
+    ensures covered { OnOk result ((k : List ℕ) → covers swept.new.items k ≡ true
+        → (covers swept.old.items k || in_range range.now k) ≡ true) }
+    ensures ordered { OnOk result (ends.AreInOrder swept.old.items
+        → ends.AreInOrder swept.new.items) }
+{
+    let Some(place) = place_of(swept, range) else {
         return Ok(());
     };
-    if !is_below(stretch.to, stretch.from) {
-        return Ok(());
-    }
-    let mut place = begun(swept, stretch.from);
-    if place > 0 {
-        let last = swept[place - 1];
-        if reaches(last, stretch.to) {
-            return Ok(());
-        }
-        if start_of(last) == stretch.from {
-            place -= 1;
-        }
-    }
-    drop_within(swept, place, stretch.to);
+    drop_within(swept, place, end_of(range));
     put_in(swept, place, range)
 }
 
-/// Drops the ranges from a place on that end by an end.
+/// Where a range goes among ranges in order: `None` where it is one key or has none, and where one
+/// of them reaches its end that begins with its first key or before it.
+fn place_of(swept: &[&KeyRange], range: &KeyRange) -> Option<usize>
+    ensures { ends.AreInOrder swept.now
+        → MatchOption result ⊤ (λ i. ends.Fits swept.now range.now i) }
+{
+    if range.end.is_empty() {
+        return None;
+    }
+    if !is_below(end_of(range), start_of(range)) {
+        return None;
+    }
+    place_behind(swept, begun(swept, start_of(range)), range)
+}
+
+/// The same of a range of several keys, where so many begin with its first key or before it.
+fn place_behind(swept: &[&KeyRange], count: usize, range: &KeyRange) -> Option<usize>
+    requires { count ≤ length swept.now }
+    ensures { is_empty range.now.end ≡ false → ends.AreInOrder swept.now
+        → count_while (ends.begins_by (ends.start_of range.now)) swept.now ≡ count
+        → MatchOption result ⊤ (λ i. ends.Fits swept.now range.now i) }
+{
+    if count == 0 {
+        return Some(0);
+    }
+    let last = swept[count - 1];
+    if reaches(last, end_of(range)) {
+        return None;
+    }
+    if start_of(last) == start_of(range) {
+        return Some(count - 1);
+    }
+    Some(count)
+}
+
+/// Drops the ranges from a place on that end by an end, up to the first that does not.
 fn drop_within(swept: &mut Vec<&KeyRange>, place: usize, to: Option<&[u8]>)
-    ensures { (k : List ℕ) → covers swept.new.items k ≡ true
+    ensures covered { (k : List ℕ) → covers swept.new.items k ≡ true
         → covers swept.old.items k ≡ true }
+    ensures rest { swept.new.items ≡ take place swept.old.items
+        ++ ends.past_ends (option_copied to.entry) (drop place swept.old.items) }
 {
     while place < swept.len() && ends_by(swept[place], to) {
         swept.remove(place);
@@ -82,8 +122,10 @@ fn put_in<'t>(
     place: usize,
     range: &'t KeyRange,
 ) -> Result<(), AllocError>
-    ensures { OnOk result ((k : List ℕ) → covers swept.new.items k ≡ true
+    ensures covered { OnOk result ((k : List ℕ) → covers swept.new.items k ≡ true
         → (covers swept.old.items k || in_range range.now k) ≡ true) }
+    ensures put { OnOk result (swept.new.items
+        ≡ insert swept.old.items (min place (length swept.old.items)) range.entry) }
 {
     let place = place.min(swept.len());
     swept.insert(place, range)?;
@@ -92,41 +134,70 @@ fn put_in<'t>(
 
 /// Where the ranges end, in their order, that begin at a key or before it.
 fn begun(swept: &[&KeyRange], key: &[u8]) -> usize
-    ensures { result ≤ length swept.now }
+    ensures bound { result ≤ length swept.now }
+    ensures count { ends.AreInOrder swept.now
+        → count_while (ends.begins_by key.now) swept.now ≡ result }
 {
-    swept.partition_point(|range| start_of(range).cmp(key).is_le())
+    swept.partition_point(|range| begins_by(range, key))
+}
+
+/// Whether a range begins with a key or before it.
+fn begins_by(range: &KeyRange, key: &[u8]) -> bool
+    ensures { result ≡ key_le (ends.start_of range.now) key.now }
+{
+    start_of(range).cmp(key).is_le()
 }
 
 /// The key that a range begins with, in the order of the ranges.
-fn start_of(range: &KeyRange) -> &[u8] {
-    match stretch_of(range) {
-        Some(stretch) => stretch.from,
-        None => range.key.as_slice(),
+fn start_of(range: &KeyRange) -> &[u8]
+    ensures { result.now ≡ ends.start_of range.now }
+{
+    if is_zero_byte(range.end.as_slice()) && is_zero_byte(range.key.as_slice()) {
+        return b"";
     }
+    range.key.as_slice()
 }
 
-/// Whether a range goes on to an end at least.
-fn reaches(range: &KeyRange, to: Option<&[u8]>) -> bool {
-    let Some(stretch) = stretch_of(range) else {
-        return false;
-    };
-    match (stretch.to, to) {
+/// The key that is the first behind a range of several keys; `None` where it has all keys from its
+/// first one on.
+fn end_of(range: &KeyRange) -> Option<&[u8]>
+    ensures { option_copied result ≡ ends.end_of range.now }
+{
+    if is_zero_byte(range.end.as_slice()) {
+        return None;
+    }
+    Some(range.end.as_slice())
+}
+
+/// Whether an end is another or lies behind it; no end lies behind all.
+fn is_from(end: Option<&[u8]>, to: Option<&[u8]>) -> bool
+    ensures { result ≡ ends.is_from (option_copied end.entry) (option_copied to.entry) }
+{
+    match (end, to) {
         (None, _) => true,
         (Some(_), None) => false,
         (Some(end), Some(to)) => to.cmp(end).is_le(),
     }
 }
 
-/// Whether a range goes on to an end at most.
-fn ends_by(range: &KeyRange, to: Option<&[u8]>) -> bool {
-    let Some(stretch) = stretch_of(range) else {
+/// Whether a range of several keys goes on to an end at least.
+fn reaches(range: &KeyRange, to: Option<&[u8]>) -> bool
+    ensures { result ≡ ends.reaches range.now (option_copied to.entry) }
+{
+    if range.end.is_empty() {
         return false;
-    };
-    match (stretch.to, to) {
-        (_, None) => true,
-        (None, Some(_)) => false,
-        (Some(end), Some(to)) => end.cmp(to).is_le(),
     }
+    is_from(end_of(range), to)
+}
+
+/// Whether a range of several keys goes on to an end at most.
+fn ends_by(range: &KeyRange, to: Option<&[u8]>) -> bool
+    ensures { result ≡ ends.ends_by range.now (option_copied to.entry) }
+{
+    if range.end.is_empty() {
+        return false;
+    }
+    is_from(to, end_of(range))
 }
 
 /// The key-values of the live keys of a range at the view's place, in the order of the keys, but

@@ -9,7 +9,7 @@ use Rattle.std.proofs.lemmas.List.{get_or-set_same, get_or-set_other, get_or_def
 use Rattle.kv_model.specs.declared.version.KeyRange.{KeyRange}
 use Rattle.watch_hub.specs.declared.guards.Guard.{Guard}
 use Rattle.watch_hub.specs.Guards.{first_key, has_begun, ends_by, EndsBy, begins_before, AreInOrder, IsBack, AreBacks, AreBegun}
-use Rattle.watch_hub.specs.Guards.{AreToCome, range_at}
+use Rattle.watch_hub.specs.Guards.{AreFar, AreToCome, IsFar, range_at}
 use Rattle.watch_hub.proofs.Halving.{AreOrdered, partitioned as halves}
 use Rattle.watch_hub.proofs.Ends.{le-trans, not_le-le, ends-before}
 
@@ -91,6 +91,19 @@ backs-more gs bs i b h g l j e m = by (j == i) refl
         let other : j ≢ i = grind (arith, nat_tests) in
         let below : j < i = grind (arith, nat_tests) in
         subst (λ x. IsBack gs j x) (sym (get_or-set_other bs i j b e other)) (h j e below)
+
+pub far-more : (gs : List Guard) (bs : List ℕ) (i b : ℕ) → AreFar gs bs i → IsFar gs i b → i < length bs
+    → AreFar gs (set bs i b) (i + 1)
+far-more gs bs i b h g l j e m = by (j == i) refl
+  where
+    by : (q : Bool) → (j == i) ≡ q → IsFar gs j (get_or (set bs i b) j e)
+    by true f =
+        let same : i ≡ j = grind (arith, nat_tests) in
+        subst (λ x. IsFar gs x (get_or (set bs i b) x e)) same (subst (λ x. IsFar gs i x) (sym (get_or-set_same bs i b e l)) g)
+    by false f =
+        let other : j ≢ i = grind (arith, nat_tests) in
+        let below : j < i = grind (arith, nat_tests) in
+        subst (λ x. IsFar gs j x) (sym (get_or-set_other bs i j b e other)) (h j e below)
 
 -- ---- what stands under a place
 

@@ -1,11 +1,14 @@
 -- The first match among versions that rise.
-use Rattle.std.proofs.Common.{◌≡◌, ℕ, List, [], ◌∷◌, filter, Bool, true, false, ◌&&◌, cond}
-use Rattle.std.proofs.Common.{Some, option_map, refl, ◌∙◌}
+use Rattle.std.proofs.Common.{◌≡◌, ℕ, List, [], ◌∷◌, length, filter, Bool, true, false, ◌&&◌, ◌==◌, cond}
+use Rattle.std.proofs.Common.{Some, option_map, refl, sym, ◌∙◌, ap, arith}
+use Rattle.std.proofs.lemmas.Bool.Decides.{nat_tests}
 use Rattle.std.specs.Prelude.{nat_le}
 use Rattle.std.specs.List.{find}
 use Rattle.kv_model.specs.declared.version.Version.{Version}
 use Rattle.kv_model.specs.declared.call.Watched.{Watched}
-use Rattle.kv_model.specs.Keys.{in_range, same_key}
+use Rattle.kv_model.specs.declared.version.KeyRange.{KeyRange}
+use Rattle.kv_model.specs.Keys.{in_range, key_le, key_lt, same_key, zero_byte}
+use Rattle.kv_model.specs.Lists.{is_empty}
 use Rattle.kv_model.specs.Watches.{matches, wants}
 use Rattle.store_laws.specs.Stands.{first_main_of}
 use Rattle.range_view.proofs.OneKey.{filter-both}
@@ -51,3 +54,15 @@ filter-key next w k h vs =
     (λ i. filter (matches w) (filter (λ v. nat_le next v.rev.main && h v.key i) vs))
     ∙ filter-both (matches w) (λ v. nat_le next v.rev.main && in_range w.range v.key) vs
     ∙ (λ i. filter (λ v. once (nat_le next v.rev.main) (in_range w.range v.key) (wants w v.body) i) vs)
+
+-- a range without an end has its key alone
+pub one-key : (r : KeyRange) → is_empty r.end ≡ true → (j : List ℕ) → same_key j r.key ≡ in_range r j
+one-key r e j = sym (ap (λ b. cond b (same_key j r.key) (beyond r j)) e)
+  where
+    beyond : KeyRange → List ℕ → Bool
+    beyond s k = cond (same_key s.end zero_byte && same_key s.key zero_byte) true
+        (cond (same_key s.end zero_byte) (key_le s.key k) (key_le s.key k && key_lt k s.end))
+
+pub length-empty : (k : List ℕ) → (length k == 0) ≡ is_empty k
+length-empty [] = refl
+length-empty (x ∷ xs) = grind (arith, nat_tests)

@@ -1,5 +1,5 @@
 -- Guards: the ranges of the watches, in the order of their first keys, and how far back each of them tells.
-use Rattle.std.specs.Prelude.{◌≡◌, ℕ, ◌<◌, ◌≤◌, List, [], ◌∷◌, length, Bool, true, false, ◌&&◌, ◌==◌, Option, None}
+use Rattle.std.specs.Prelude.{◌≡◌, ℕ, ◌+◌, ◌<◌, ◌≤◌, List, [], ◌∷◌, length, Bool, true, false, ◌&&◌, ◌==◌, Option, None}
 use Rattle.std.specs.Prelude.{Some, if◌then◌else◌, ⊤}
 use Rattle.std.specs.Prelude.{slice_index_or}
 use Rattle.std.specs.List.{AllByRecursion}
@@ -53,10 +53,20 @@ IsBack gs i back = (back ≤ i) × ((j : ℕ) (d : Guard) → back ≤ j → j <
 abbrev pub AreBacks : List Guard → List ℕ → ℕ → Type 0
 AreBacks gs bs n = (i : ℕ) (e : ℕ) → i < n → IsBack gs i (slice_index_or bs i e)
 
+-- the one before those that a way back passes ends later
+abbrev pub IsFar : List Guard → ℕ → ℕ → Type 0
+IsFar gs i back = (last : ℕ) (d : Guard) → back ≡ last + 1
+    → ends_by (slice_index_or gs last d).range (slice_index_or gs i d).range ≡ false
+
+-- and so it is at each of the first so many guards
+abbrev pub AreFar : List Guard → List ℕ → ℕ → Type 0
+AreFar gs bs n = (i : ℕ) (e : ℕ) → i < n → IsFar gs i (slice_index_or bs i e)
+
 pub record AreReady (gs : List Guard) (bs : List ℕ) : Type 0 where
   pub ordered : AreInOrder gs
   pub count : length bs ≡ length gs
   pub backs : AreBacks gs bs (length gs)
+  pub far : AreFar gs bs (length gs)
 
 -- a key is behind each of the ranges from one index up to another
 abbrev pub ArePast : List Guard → List ℕ → ℕ → ℕ → Type 0

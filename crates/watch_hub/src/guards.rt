@@ -6,8 +6,8 @@ ghost use Rattle.std.specs.Prelude.{◌==◌, None, Some, OnOk, OnErr, MatchOpti
 ghost use Rattle.std.specs.Prelude.{if◌then◌else◌};
 ghost use Rattle.kv_model.specs.declared.version.KeyRange.{KeyRange};
 ghost use Rattle.watch_hub.specs.declared.guards.Guard.{Guard};
-ghost use Rattle.watch_hub.specs.Guards.{ends_by, is_past, range_at, AreBacks, AreInOrder, ArePast};
-ghost use Rattle.watch_hub.specs.Guards.{AreBegun, AreToCome, IsBack};
+ghost use Rattle.watch_hub.specs.Guards.{is_past, range_at, AreBacks, AreFar, AreInOrder, ArePast};
+ghost use Rattle.watch_hub.specs.Guards.{AreBegun, AreToCome, IsBack, IsFar};
 
 use crate::bounds::{ends_by, first_key, has_begun, is_past};
 use kv_model::version::KeyRange;
@@ -24,7 +24,8 @@ pub(crate) struct Guard {
 /// The ranges of watches, in the order of their first keys.
 ///
 /// Beside each stands an index: the ranges from there on up to it end no later than it does, so a
-/// key that is behind it is behind them too. Only `insert` takes memory.
+/// key that is behind it is behind them too; and the one before them ends later, so none of them is
+/// left out. Only `insert` takes memory.
 #[derive(Drop)]
 pub(crate) struct Guards {
     guards: Vec<Guard>,
@@ -79,10 +80,11 @@ impl Guards {
         set_backs(&self.guards, &mut self.backs);
     }
 
-    /// How many ranges begin with a key or before it: those from there on do not have it.
+    /// How many ranges begin with a key or before it, and no more: those from there on do not have it.
     /// Logarithmic time.
     pub(crate) fn count_begun(&self, key: &[u8]) -> usize
         ensures bound { result ≤ length self.now }
+        ensures before { AreBegun self.now key.now result }
         ensures behind { AreToCome self.now key.now result }
     {
         count_begun(&self.guards, key)
@@ -117,6 +119,7 @@ fn set_backs(guards: &[Guard], backs: &mut Vec<usize>)
     requires { length backs.old.items ≡ length guards.now }
     ensures count { length backs.new.items ≡ length guards.now }
     ensures backs { AreBacks guards.now backs.new.items (length guards.now) }
+    ensures far { AreFar guards.now backs.new.items (length guards.now) }
 {
     for index in 0..guards.len() {
         backs[index] = back_of(guards, backs, index);
@@ -130,9 +133,7 @@ fn back_of(guards: &[Guard], backs: &[usize], index: usize) -> usize
     requires count { length backs.now ≡ length guards.now }
     requires backs { AreBacks guards.now backs.now index }
     ensures back { IsBack guards.now index result }
-    ensures far { (last : ℕ) (d : Guard) → result ≡ last + 1
-        → ends_by (slice_index_or guards.now last d).range
-        (slice_index_or guards.now index d).range ≡ false }
+    ensures far { IsFar guards.now index result }
 {
     let mut back = index;
     while back > 0 {

@@ -4,13 +4,13 @@ ghost use Rattle.std.specs.Prelude.{Bool, MatchOption};
 ghost use Rattle.kv_model.specs.declared.version.Version.{Version};
 ghost use Rattle.store_laws.specs.Stands.{first_main_of};
 ghost use Rattle.watch_hub.specs.Hub.{first_from};
-ghost use Rattle.watch_hub.specs.Walks.{left_in};
+ghost use Rattle.watch_hub.specs.Walks.{is_by_key, left_in};
+ghost use Rattle.kv_model.specs.Lists.{is_empty};
 ghost use Rattle.kv_model.specs.Watches.{matches};
 ghost use Rattle.range_view.specs.Stored.{IsStored};
 
 use crate::matching::matches;
 use kv_model::call::Watched;
-use kv_model::span::Span;
 use kv_model::version::Version;
 use range_view::{KeyVersions, Tables, Versions};
 use std::marker::Model;
@@ -63,16 +63,18 @@ impl<'a> Walk<'a> {
     }
 }
 
-/// Where a walk looks for what a watch matches from a revision on.
+/// Where a walk looks for what a watch matches from a revision on: by the index where it is of one
+/// key, and else among all.
 fn source_of<'a>(tables: &'a Tables, next: u64, watched: &Watched) -> Source<'a>
     ensures matched { filter (matches watched.now) (left_in result)
         ≡ filter (λ v. nat_le next v.rev.main && matches watched.now v) tables.now.versions }
+    ensures by_key { is_by_key result ≡ is_empty watched.now.range.end }
     ensures stored { IsStored tables.now }
 {
-    match watched.range.span() {
-        Span::Key(key) => Source::Key(tables.versions_of(key, next)),
-        _ => Source::All(all_from(tables, next)),
+    if watched.range.end.is_empty() {
+        return Source::Key(tables.versions_of(&watched.range.key, next));
     }
+    Source::All(all_from(tables, next))
 }
 
 /// All versions from a revision on. It halves.

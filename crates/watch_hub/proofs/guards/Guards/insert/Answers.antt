@@ -1,7 +1,7 @@
 use Rattle.std.proofs.Common.{◌≡◌, ◌≤◌, ◌==◌, length, List, cond, Some, ◌∙◌, ap, subst, sym}
 use Rattle.std.specs.List.{insert}
 use Rattle.watch_hub.specs.declared.guards.Guard.{Guard}
-use Rattle.watch_hub.specs.Guards.{first_key, range_at, AreBacks, AreBegun, AreInOrder, AreToCome}
+use Rattle.watch_hub.specs.Guards.{first_key, range_at, AreBacks, AreFar, AreBegun, AreInOrder, AreToCome}
 use Rattle.watch_hub.proofs.Guarding.{order-insert, range-insert}
 use Rattle.watch_hub.proofs.guards.Guards.insert.Goals as goal
 
@@ -21,6 +21,7 @@ invariant_of-self-2 c =
       ordered = subst AreInOrder (sym items) (order-insert gs i g c.self.invariant.ordered bound before behind);
       count = c.set_backs.ensures.count ∙ ap (λ (xs : List Guard). length xs) c.deref-2.ensures.value;
       backs = subst (λ xs. AreBacks xs c.set_backs.new.backs.items (length xs)) c.deref-2.ensures.value c.set_backs.ensures.backs;
+      far = subst (λ xs. AreFar xs c.set_backs.new.backs.items (length xs)) c.deref-2.ensures.value c.set_backs.ensures.far;
     }
 
 pub returns-clause-ok : goal.returns-clause-ok
