@@ -5,17 +5,17 @@ use Rattle.std.specs.Prelude.{nat_lt}
 use Rattle.kv_model.specs.declared.refusal.Refusal.{Refusal}
 use Rattle.kv_model.specs.Calls.{Call}
 use Rattle.kv_model.specs.Told.{Reply}
-use Rattle.kv_model.specs.Step.{at_least_zero, compact_refusal, refused_or}
+use Rattle.kv_model.specs.Step.{answer_of, at_least_zero, compact_refusal, refused_or}
 use Rattle.kv_model.specs.World.{World}
 use Rattle.store_laws.specs.Stands.{StandsFor}
 use Rattle.store_laws.proofs.BetweenSteps.{starts_over}
 use Rattle.store_laws.proofs.CompactLaws.{compact_stands, compact_told, compact_within}
 use Rattle.range_view.specs.Stored.{Stored, compacted_at}
 use Rattle.request_core.specs.declared.answer.Todo.TheVariants as todo
-use Rattle.request_core.specs.Answers.{IsRefusal, is_memory}
-use Rattle.request_core.specs.Commands.{CarriesOut, Makes, RefusesTo}
+use Rattle.request_core.specs.Answers.{IsFault, is_memory}
+use Rattle.request_core.specs.Commands.{CarriesOut, Makes, RefusesTo, first_refusal}
 use Rattle.request_core.specs.State.{CoreState, IsSound, after_compact}
-use Rattle.request_core.proofs.Worlds.{changed-beside, is_refused, none-raised}
+use Rattle.request_core.proofs.Worlds.{changed-beside, fault_refusal, is_refused, made_refused, none-raised, refusal_told}
 
 -- what is compacted up to a revision that has been is sound: nothing is behind the oldest place
 pub compacted-sound : (t : Stored) (c : ℕ) → IsSound t → c ≤ t.revision → IsSound (compacted_at c t)
@@ -58,10 +58,14 @@ compact_done s new r physical clear made =
     })
 
 pub compact_refuses : (never : Type 0) (s new : CoreState) (r : ℤ) (physical : Bool) (e : Refusal)
-    → IsRefusal e (compact_refusal s.store.compacted s.store.revision r) → (never → is_memory e ≡ false) → new ≡ s
+    → IsFault e (compact_refusal s.store.compacted s.store.revision r) → (never → is_memory e ≡ false) → new ≡ s
     → RefusesTo never s new (Call.compact r physical) e
 compact_refuses never s new r physical e one free same = record {
-  refused = λ w h. is_refused w (Call.compact r physical) e (compact_refusal s.store.compacted s.store.revision r) one
+  first = λ w h f two. refusal_told w (Call.compact r physical) e f (compact_refusal s.store.compacted s.store.revision r)
+      (ap (λ m. first_refusal (answer_of m)) (compact_told s.store w h r physical)
+      ∙ made_refused (compact_refusal s.store.compacted s.store.revision r) _) one two;
+  refused = λ w h. is_refused w (Call.compact r physical) e (compact_refusal s.store.compacted s.store.revision r)
+      (fault_refusal e (compact_refusal s.store.compacted s.store.revision r) one)
       (λ f two. compact_told s.store w h r physical ∙ ap (λ o. refused_or o (Ok (
         Reply.compact,
         record w { compacted = at_least_zero r },

@@ -1,6 +1,7 @@
 -- What a DeleteRange does, in each world that the core stands for.
 use Rattle.std.proofs.Common.{◌≡◌, ◌≢◌, ℕ, suc, ◌+◌, ◌-◌, ◌≤◌, ◌^◌, ◌&&◌, List, [], ◌∷◌, ◌++◌, length, Bor, Bool, true, false, not}
 use Rattle.std.proofs.Common.{nat_lt, None, Some, Err, refl, sym, ◌∙◌, ap, subst, arith, append_assoc, append-nil, lt-ltb}
+use Rattle.std.specs.Option.{option_or}
 use Rattle.kv_model.specs.declared.refusal.Refusal.{Refusal}
 use Rattle.kv_model.specs.declared.refusal.Refusal.TheVariants.{RevisionsSpent}
 use Rattle.kv_model.specs.declared.call.DeleteRequest.{DeleteRequest}
@@ -23,8 +24,9 @@ use Rattle.request_core.specs.declared.answer.Todo.TheVariants as todo
 use Rattle.txn_core.specs.KeyWrites.{tombstone}
 use Rattle.request_core.specs.Writing.{tombstones}
 use Rattle.request_core.specs.State.{CoreState, live_in, is_spent, with_any, fault_of_delete, added_by_delete, after_delete}
-use Rattle.request_core.specs.Answers.{IsRefusal}
+use Rattle.request_core.specs.Answers.{IsFirst}
 use Rattle.request_core.specs.Commands.{CarriesOut, Makes, Refuses}
+use Rattle.request_core.proofs.Worlds.{fault_told, first_or_later}
 use Rattle.request_core.proofs.Worlds.{AreAt, any_moves, changed_by, committed, grows_by, made_first, refused_first, commit_made, commit_spent, is_refused}
 
 -- ---- deletes in a row make tombstones
@@ -163,10 +165,14 @@ delete-refused s w d e h one = delete_told s w h d ∙ refused_first (refusal_of
     (λ spent. commit_spent s.revision (reply_of_delete s d) w (changes_of_delete s d) e
     (deletes-spent s.revision (s.revision + 1) (live_in s d.range) ∙ spent)) one
 
-pub delete_refuses : (s new : CoreState) (d : DeleteRequest) (e : Refusal) → IsRefusal e (fault_of_delete s.store d) → new ≡ s
-    → Refuses s new (Call.delete d) e
+pub delete_refuses : (s new : CoreState) (d : DeleteRequest) (e : Refusal)
+    → IsFirst e (refusal_of_delete d) (fault_of_delete s.store d) → new ≡ s → Refuses s new (Call.delete d) e
 delete_refuses s new d e r same = record {
-  refused = λ w h. is_refused w (Call.delete d) e (fault_of_delete s.store d) r (λ f one. delete-refused s.store w d f h one);
+  first = λ w h f one. fault_told e f (refusal_of_delete d) (fault_of_delete s.store d) r one;
+  refused = λ w h. is_refused w (Call.delete d) e (fault_of_delete s.store d)
+      (first_or_later e (refusal_of_delete d) (fault_of_delete s.store d)
+      (ap (λ o. option_or o (refuse_if (not (is_empty (live_in s.store d.range)) && is_spent s.store.revision) RevisionsSpent))) r)
+      (λ f one. delete-refused s.store w d f h one);
   free = λ no. let bad : true ≡ false = no in cc;
   kept = same;
 }

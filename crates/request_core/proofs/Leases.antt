@@ -6,15 +6,16 @@ use Rattle.kv_model.specs.Calls.{Call}
 use Rattle.kv_model.specs.Leases.{Lease, has_id, is_granted, lease_at, insert_lease}
 use Rattle.kv_model.specs.Told.{Reply}
 use Rattle.kv_model.specs.World.{World}
-use Rattle.kv_model.specs.Step.{made_in, refused_or}
+use Rattle.kv_model.specs.Step.{made_in, refused_or, answer_of}
 use Rattle.store_laws.specs.Stands.{StandsFor}
 use Rattle.store_laws.specs.Stores.{refusal_of_grant, granted_lease, renewed_leases}
 use Rattle.store_laws.proofs.StandsLeases.{leases_stand, grant_told, keep_alive_none, keep_alive_made, time_to_live_told, leases_told}
 use Rattle.request_core.specs.declared.answer.Todo.TheVariants as todo
 use Rattle.request_core.specs.State.{CoreState, after_grant, after_keep_alive, leased}
-use Rattle.request_core.specs.Answers.{IsRefusal}
-use Rattle.request_core.specs.Commands.{CarriesOut, Makes, Moves, Refuses}
+use Rattle.request_core.specs.Answers.{IsFault}
+use Rattle.request_core.specs.Commands.{CarriesOut, Makes, Moves, Refuses, first_refusal}
 use Rattle.request_core.proofs.Worlds.{changed-beside, none-raised, read_moves, rests, is_refused}
+use Rattle.request_core.proofs.Worlds.{fault_refusal, made_refused, refusal_told}
 
 -- a command that changes the leases alone
 leases-make : (s : CoreState) (ls : List Lease) (call : Call) (told : Reply) (w : World) → StandsFor s.store w
@@ -59,10 +60,13 @@ grant_done s new ttl id given seconds was =
       moves = leases-moved s (insert_lease (granted_lease s.store ttl id) s.store.leases);
     })
 
-pub grant_refuses : (s new : CoreState) (ttl id : ℤ) (e : Refusal) → IsRefusal e (refusal_of_grant s.store ttl id) → new ≡ s
+pub grant_refuses : (s new : CoreState) (ttl id : ℤ) (e : Refusal) → IsFault e (refusal_of_grant s.store ttl id) → new ≡ s
     → Refuses s new (Call.grant ttl id) e
 grant_refuses s new ttl id e r same = record {
-  refused = λ w h. is_refused w (Call.grant ttl id) e (refusal_of_grant s.store ttl id) r (λ f one. grant_told s.store w h ttl id
+  first = λ w h f one. refusal_told w (Call.grant ttl id) e f (refusal_of_grant s.store ttl id)
+      (ap (λ m. first_refusal (answer_of m)) (grant_told s.store w h ttl id) ∙ made_refused (refusal_of_grant s.store ttl id) _) r one;
+  refused = λ w h. is_refused w (Call.grant ttl id) e (refusal_of_grant s.store ttl id)
+      (fault_refusal e (refusal_of_grant s.store ttl id) r) (λ f one. grant_told s.store w h ttl id
       ∙ ap (λ o. refused_or o (Ok (
         Reply.grant (granted_lease s.store ttl id).id (granted_lease s.store ttl id).ttl,
         record w { leases = insert_lease (granted_lease s.store ttl id) s.store.leases },

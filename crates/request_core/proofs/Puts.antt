@@ -12,7 +12,7 @@ use Rattle.kv_model.specs.Leases.{is_granted}
 use Rattle.kv_model.specs.Told.{Reply}
 use Rattle.kv_model.specs.Txns.{put_fault, previous_value}
 use Rattle.kv_model.specs.World.{World, changed}
-use Rattle.kv_model.specs.Step.{made_in}
+use Rattle.kv_model.specs.Step.{made_in, perform, answer_of}
 use Rattle.store_laws.specs.Stands.{Store, StandsFor, grown_noted, noted}
 use Rattle.store_laws.specs.Stores.{refusal_of_put, reply_of_put, changes_of_put}
 use Rattle.store_laws.proofs.PlaceLaws.{AreBehind, rev_le-after, value_at-behind}
@@ -22,9 +22,10 @@ use Rattle.request_core.specs.declared.answer.Todo.TheVariants as todo
 use Rattle.txn_core.specs.KeyWrites.{held_refusal, put_version}
 use Rattle.request_core.specs.Writing.{next_rev}
 use Rattle.request_core.specs.State.{CoreState, is_spent, fault_of_put, added_by_put, after_put}
-use Rattle.request_core.specs.Answers.{IsRefusal}
-use Rattle.request_core.specs.Commands.{CarriesOut, Makes, Refuses}
+use Rattle.request_core.specs.Answers.{IsFault}
+use Rattle.request_core.specs.Commands.{CarriesOut, Makes, Refuses, first_refusal}
 use Rattle.request_core.proofs.Worlds.{any_moves, made_first, refused_first, commit_made, commit_spent, is_refused}
+use Rattle.request_core.proofs.Worlds.{commit_refused, fault_refusal, refusal_told}
 use Rattle.store_laws.proofs.GoodLaws.{or-none-first}
 
 -- what the key holds last is what it holds at the store's revision
@@ -90,10 +91,17 @@ put-refused : (s : Store) (w : World) (p : PutRequest) (e : Refusal) → StandsF
 put-refused s w p e h one = put_told s w h p ∙ refused_first (refusal_of_put s p) _ _ e
     (commit_spent s.revision (reply_of_put s p) w (changes_of_put s p) e) (fault-held s w h p ∙ one)
 
-pub put_refuses : (s new : CoreState) (p : PutRequest) (e : Refusal) → IsRefusal e (fault_of_put s.store p) → new ≡ s
+-- each refusal of a put comes before memory is asked for
+put-first : (s : Store) (w : World) (p : PutRequest) → StandsFor s w → first_refusal (perform w (Call.put p)).0 ≡ fault_of_put s p
+put-first s w p h = ap (λ m. first_refusal (answer_of m)) (put_told s w h p)
+    ∙ commit_refused (refusal_of_put s p) s.revision (reply_of_put s p) w _ ∙ fault-held s w h p
+
+pub put_refuses : (s new : CoreState) (p : PutRequest) (e : Refusal) → IsFault e (fault_of_put s.store p) → new ≡ s
     → Refuses s new (Call.put p) e
 put_refuses s new p e r same = record {
-  refused = λ w h. is_refused w (Call.put p) e (fault_of_put s.store p) r (λ f one. put-refused s.store w p f h one);
+  first = λ w h f one. refusal_told w (Call.put p) e f (fault_of_put s.store p) (put-first s.store w p h) r one;
+  refused = λ w h. is_refused w (Call.put p) e (fault_of_put s.store p) (fault_refusal e (fault_of_put s.store p) r)
+      (λ f one. put-refused s.store w p f h one);
   free = λ no. let bad : true ≡ false = no in cc;
   kept = same;
 }

@@ -10,12 +10,13 @@ use Rattle.kv_model.specs.declared.version.Rev.{Rev}
 use Rattle.kv_model.specs.Lists.{is_empty}
 use Rattle.kv_model.specs.Ranges.{RangeReply, range_reply, reply_from, refuse_if, revision_refusal}
 use Rattle.kv_model.specs.Calls.{Call}
+use Rattle.kv_model.specs.Step.{answer_of}
 use Rattle.store_laws.specs.Stores.{refusal_of_range}
 use Rattle.store_laws.proofs.StandsCommands.{range_made, range_refused}
 use Rattle.request_core.specs.declared.answer.Todo.TheVariants as todo
 use Rattle.request_core.specs.State.{CoreState}
 use Rattle.request_core.specs.Answers.{is_memory}
-use Rattle.request_core.specs.Commands.{CarriesOut, Refuses}
+use Rattle.request_core.specs.Commands.{CarriesOut, Refuses, first_refusal}
 use Rattle.request_core.proofs.Worlds.{read_moves, is_refused, own_refusal}
 use Rattle.store_laws.proofs.GoodLaws.{or-none}
 
@@ -47,6 +48,8 @@ revision-free c now (pos (suc r)) e h = or-free (refuse_if (nat_lt (suc r) c) (C
 
 pub range_refuses : (s : CoreState) (q : RangeQuery) (e : Refusal) → refusal_of_range s.store q ≡ Some e → Refuses s s (Call.range q) e
 range_refuses s q e one = record {
+  first = λ w h f told. let same : Some e ≡ Some f
+      = sym (ap (λ m. first_refusal (answer_of m)) (range_refused s.store w h q e one)) ∙ told in cc;
   refused = λ w h. is_refused w (Call.range q) e (Some e) (own_refusal e) (λ f same. range_refused s.store w h q f (one ∙ same));
   free = λ no. or-free (refuse_if (is_empty q.range.key) NoKey) (revision_refusal s.store.compacted s.store.revision q.revision) e
       (if-free (is_empty q.range.key) NoKey e refl) (revision-free s.store.compacted s.store.revision q.revision e) one;

@@ -1,14 +1,17 @@
 -- What a revoke and a step of expiry do, in each world that the core stands for.
-use Rattle.std.proofs.Common.{◌≡◌, ◌⊎◌, inl, inr, ℕ, ℤ, ◌+◌, ◌≤◌, ◌^◌, List, [], ◌∷◌, length, Bool, true, false, cond, nat_lt}
+use Rattle.std.proofs.Common.{◌≡◌, ◌⊎◌, inl, inr, ℕ, ℤ, ◌+◌, ◌≤◌, ◌^◌, List, [], ◌∷◌, length, Bool, true, false, ◌&&◌, cond, nat_lt}
 use Rattle.std.proofs.Common.{Option, None, Some, Err, refl, sym, ◌∙◌, ap, subst, arith, lt-ltb, le-ltb}
-use Rattle.std.specs.Prelude.{option_map, MatchBool, ⊤}
+use Rattle.std.specs.Prelude.{not, option_map, MatchBool, ⊤}
+use Rattle.std.specs.Option.{option_or}
 use Rattle.std.proofs.lemmas.List.{length-map}
 use Rattle.kv_model.specs.declared.refusal.Refusal.{Refusal}
-use Rattle.kv_model.specs.declared.refusal.Refusal.TheVariants.{Memory, RevisionsSpent}
+use Rattle.kv_model.specs.declared.refusal.Refusal.TheVariants.{LeaseMissing, Memory, RevisionsSpent}
 use Rattle.kv_model.specs.declared.version.Version.{Version}
 use Rattle.kv_model.specs.Calls.{Call}
 use Rattle.kv_model.specs.History.{KeyValue, Mutation}
-use Rattle.kv_model.specs.Leases.{Lease, without_lease, keys_of_lease, due}
+use Rattle.kv_model.specs.Leases.{Lease, is_granted, without_lease, keys_of_lease, due}
+use Rattle.kv_model.specs.Lists.{is_empty}
+use Rattle.kv_model.specs.Ranges.{refuse_if}
 use Rattle.kv_model.specs.Told.{Reply, Expiry}
 use Rattle.kv_model.specs.World.{World, revision}
 use Rattle.kv_model.specs.Step.{made_in, expiry_of, expire, expire_at, revoke_in}
@@ -21,10 +24,11 @@ use Rattle.request_core.specs.declared.answer.Expiry.TheVariants as expiry
 use Rattle.request_core.specs.declared.answer.Todo.TheVariants as todo
 use Rattle.request_core.specs.Writing.{tombstones}
 use Rattle.request_core.specs.State.{CoreState, leased_in, with_any, leased, fault_of_revoke, added_by_revoke, after_revoke, due_in}
-use Rattle.request_core.specs.State.{counted, keeping_of, raised_from, stamp_after}
-use Rattle.request_core.specs.Answers.{IsRefusal, expiry_view, has_expired, is_memory}
+use Rattle.request_core.specs.State.{counted, is_spent, keeping_of, raised_from, stamp_after}
+use Rattle.request_core.specs.Answers.{IsFirst, IsRefusal, expiry_view, has_expired, is_memory}
 use Rattle.request_core.specs.Commands.{AddsVersions, CarriesOut, Expires, Makes, Moves, Refuses, RefusesExpiry, StartsOver}
 use Rattle.request_core.proofs.Worlds.{changed_by, committed, made_first, refused_first, commit_made, commit_spent, is_refused}
+use Rattle.request_core.proofs.Worlds.{fault_told, first_or_later}
 use Rattle.request_core.proofs.Worlds.{AreAt, any_adds, changed-beside, keeps_worlds, none-raised, rests}
 use Rattle.request_core.proofs.Deletes.{any-grows, any-stays, deletes-spent, tombstones_at}
 
@@ -133,10 +137,19 @@ revoke-refused s w id e h one = revoke_told s w h id ∙ refused_first (refusal_
     (λ spent. commit_spent s.revision Reply.revoke (without s w id) (changes_of_revoke s id) e
     (deletes-spent s.revision (s.revision + 1) (leased_in s id) ∙ spent)) one
 
-pub revoke_refuses : (s new : CoreState) (id : ℤ) (e : Refusal) → IsRefusal e (fault_of_revoke s.store id) → new ≡ s
-    → Refuses s new (Call.revoke id) e
+-- a revoke that is refused is refused by its first refusal, or wants memory
+pub revoke_refusal : (s : Store) (id : ℤ) (e : Refusal) → IsFirst e (refusal_of_revoke s id) (fault_of_revoke s id)
+    → IsRefusal e (fault_of_revoke s id)
+revoke_refusal s id e r = first_or_later e (refusal_of_revoke s id) (fault_of_revoke s id)
+    (ap (λ o. option_or o (refuse_if (not (is_empty (leased_in s id)) && is_spent s.revision) RevisionsSpent))) r
+
+pub revoke_refuses : (s new : CoreState) (id : ℤ) (e : Refusal) → IsFirst e (refusal_of_revoke s.store id) (fault_of_revoke s.store id)
+    → new ≡ s → Refuses s new (Call.revoke id) e
 revoke_refuses s new id e r same = record {
-  refused = λ w h. is_refused w (Call.revoke id) e (fault_of_revoke s.store id) r (λ f one. revoke-refused s.store w id f h one);
+  first = λ w h f one. fault_told e f (refusal_of_revoke s.store id) (fault_of_revoke s.store id) r
+      (ap (λ ls. refuse_if (not (is_granted ls id)) LeaseMissing) h.leases ∙ one);
+  refused = λ w h. is_refused w (Call.revoke id) e (fault_of_revoke s.store id) (revoke_refusal s.store id e r)
+      (λ f one. revoke-refused s.store w id f h one);
   free = λ no. let bad : true ≡ false = no in cc;
   kept = same;
 }

@@ -1,11 +1,13 @@
 -- What a transaction does, in each world that the core stands for.
 use Rattle.std.proofs.Common.{◌≡◌, ◌≢◌, ℕ, ◌+◌, ◌<◌, ◌≤◌, ◌^◌, ◌&&◌, List, [], ◌∷◌, length, map, Vec, Global}
-use Rattle.std.proofs.Common.{Bool, true, false, not, Option, None, Some, Err, refl, sym, ◌∙◌, ap, subst, arith}
+use Rattle.std.proofs.Common.{Bool, true, false, not, Option, None, Some, Result, Ok, Err, refl, sym, ◌∙◌, ap, subst, arith}
+use Rattle.std.proofs.Common.{inl, inr}
+use Rattle.std.specs.Prelude.{IfErr, OnOk}
 use Rattle.std.specs.Option.{option_or}
 use Rattle.std.specs.List.{AllByRecursion}
 use Rattle.kv_model.specs.declared.call.Txn.{Txn}
 use Rattle.kv_model.specs.declared.refusal.Refusal.{Refusal}
-use Rattle.kv_model.specs.declared.refusal.Refusal.TheVariants.{RevisionsSpent}
+use Rattle.kv_model.specs.declared.refusal.Refusal.TheVariants.{Memory, RevisionsSpent}
 use Rattle.kv_model.specs.declared.version.Version.{Version}
 use Rattle.kv_model.specs.Calls.{Ops, as_call}
 use Rattle.kv_model.specs.Commands.{txn_view}
@@ -15,7 +17,7 @@ use Rattle.kv_model.specs.Lists.{is_empty}
 use Rattle.store_laws.specs.Plans.{ReadsKept}
 use Rattle.kv_model.specs.Ranges.{refuse_if}
 use Rattle.kv_model.specs.Told.{Reply}
-use Rattle.kv_model.specs.Txns.{Path, next_version, extend_all, static_fault, changes_of, replies_of}
+use Rattle.kv_model.specs.Txns.{Path, next_version, extend_all, static_fault, walk_fault, changes_of, replies_of}
 use Rattle.kv_model.specs.World.{World}
 use Rattle.kv_model.specs.Wire.{changes_beside}
 use Rattle.kv_model.specs.Step.{last_main, made_in, refused_or, commit_at, succeeded, inner_path}
@@ -30,14 +32,15 @@ use Rattle.store_laws.proofs.StandsTxns.{txn_refused, txn_told, txn_stands}
 use Rattle.range_view.specs.Stored.{IsUpTo}
 use Rattle.txn_core.specs.declared.step.Step.{Step}
 use Rattle.txn_core.specs.Steps.{steps_view}
+use Rattle.txn_core.proofs.StaticFaults.{IsRefused, faulty}
 use Rattle.txn_core.proofs.Walking.{txn_view-out}
 use Rattle.request_core.specs.declared.answer.Todo.TheVariants as todo
 use Rattle.request_core.specs.State.{CoreState, is_spent, with_any, with_versions, fault_of_txn, added_by_txn, after_txn}
-use Rattle.request_core.specs.Answers.{CanReply, IsRefusal}
-use Rattle.request_core.specs.Commands.{CarriesOut, Makes, Moves, Refuses, takes_memory}
+use Rattle.request_core.specs.Answers.{CanReply, IsFirst, IsRefusal}
+use Rattle.request_core.specs.Commands.{CarriesOut, Makes, Moves, Refuses, fault_without_memory, takes_memory}
 use Rattle.request_core.proofs.Planned.{planned_at, planned-from, from-now, planned-extends}
 use Rattle.request_core.proofs.Worlds.{grows_by, any_moves, changed_by, committed, made_first, refused_first}
-use Rattle.request_core.proofs.Worlds.{commit_made, commit_spent, is_refused}
+use Rattle.request_core.proofs.Worlds.{commit_made, commit_spent, fault_told, first_or_later, is_refused, own_refusal}
 use Rattle.store_laws.proofs.GoodLaws.{or-none-first, or-none}
 use Rattle.request_core.proofs.Leased.{any-versions}
 
@@ -207,10 +210,50 @@ txn-refused s w t e h one = by (static_fault (txn_view t)) refl one
 txn-takes_memory : (t : Txn) → takes_memory (as_call (txn_view t)) ≡ true
 txn-takes_memory t = subst (λ (ops : Ops). takes_memory (as_call ops) ≡ true) (sym (txn_view-out t)) refl
 
-pub txn_refuses : (s new : CoreState) (t : Txn) (e : Refusal) → IsRefusal e (fault_of_txn s.store (txn_view t)) → new ≡ s
-    → Refuses s new (as_call (txn_view t)) e
+-- the fault of its walk comes before all others
+walk-first : (s : Store) (ops : Ops) (e : Refusal) → walk_fault 0 ops ≡ Some e → fault_of_txn s ops ≡ Some e
+walk-first s ops e h = ap (λ o. option_or o (option_or (refusal_of_path s (path_in s ops))
+    (refuse_if (not (is_empty (changes_of_path s (path_in s ops))) && is_spent s.revision) RevisionsSpent))) (faulty ops e h)
+
+walk-clear : (ops : Ops) → static_fault ops ≡ None → walk_fault 0 ops ≡ None
+unfolding static_fault
+walk-clear ops h = or-none-first (walk_fault 0 ops) _ h
+
+-- and of the transaction of a program, before memory is asked for
+walk-told : (w : World) (t : Txn) → walk_fault 0 (txn_view t) ≡ fault_without_memory w (as_call (txn_view t))
+walk-told w t = subst (λ (ops : Ops). walk_fault 0 ops ≡ fault_without_memory w (as_call ops)) (sym (txn_view-out t)) refl
+
+-- what a transaction is refused for, where its check came to this and the refusal of the check is passed on
+pub plan_refuses : (s : Store) (ops : Ops) (checked : Result (Unit {0}) Refusal) (e : Refusal) → OnOk checked (static_fault ops ≡ None)
+    → IfErr checked (IsRefused ops) → IfErr checked (λ f. e ≡ f) → OnOk checked (IsRefusal e (fault_of_txn s ops))
+    → IsFirst e (walk_fault 0 ops) (fault_of_txn s ops)
+plan_refuses s ops (Ok u) e clear told same h = inr (walk-clear ops clear, h)
+plan_refuses s ops (Err f) e clear (inr want) same h =
+    inr (want.0, subst (λ r. IsRefusal r (fault_of_txn s ops)) (sym (same ∙ want.1)) tt)
+plan_refuses s ops (Err f) e clear (inl told) same h = by (walk_fault 0 ops) refl
+  where
+    one : static_fault ops ≡ Some e
+    one = told ∙ ap (λ r. Some r) (sym same)
+
+    whole : fault_of_txn s ops ≡ Some e
+    whole = ap (λ o. option_or o (option_or (refusal_of_path s (path_in s ops))
+        (refuse_if (not (is_empty (changes_of_path s (path_in s ops))) && is_spent s.revision) RevisionsSpent))) one
+
+    by : (o : Option Refusal) → walk_fault 0 ops ≡ o → IsFirst e (walk_fault 0 ops) (fault_of_txn s ops)
+    by None is = inr (is, subst (IsRefusal e) (sym whole) (own_refusal e))
+    by (Some g) is = inl (is ∙ sym (faulty ops g is) ∙ one)
+
+-- where memory is wanting for what the operations that run add, nothing of this comes before
+pub want_is_late : (s : Store) (ops : Ops) → fault_of_txn s ops ≡ None → IsFirst Memory (walk_fault 0 ops) (fault_of_txn s ops)
+want_is_late s ops none = inr (walk-clear ops (or-none-first (static_fault ops) _ none), tt)
+
+pub txn_refuses : (s new : CoreState) (t : Txn) (e : Refusal)
+    → IsFirst e (walk_fault 0 (txn_view t)) (fault_of_txn s.store (txn_view t)) → new ≡ s → Refuses s new (as_call (txn_view t)) e
 txn_refuses s new t e r same = record {
-  refused = λ w h. is_refused w (as_call (txn_view t)) e (fault_of_txn s.store (txn_view t)) r (λ f one. txn-refused s.store w t f h one);
+  first = λ w h f one. fault_told e f (walk_fault 0 (txn_view t)) (fault_of_txn s.store (txn_view t)) r (walk-told w t ∙ one);
+  refused = λ w h. is_refused w (as_call (txn_view t)) e (fault_of_txn s.store (txn_view t))
+      (first_or_later e (walk_fault 0 (txn_view t)) (fault_of_txn s.store (txn_view t)) (walk-first s.store (txn_view t) e) r)
+      (λ f one. txn-refused s.store w t f h one);
   free = λ no. let bad : true ≡ false = sym (txn-takes_memory t) ∙ no in cc;
   kept = same;
 }

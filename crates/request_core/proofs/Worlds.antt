@@ -30,7 +30,7 @@ use Rattle.std.proofs.lemmas.List.{append-nil}
 use Rattle.request_core.specs.declared.answer.Receipt.{Receipt}
 use Rattle.request_core.specs.declared.answer.Todo.{Todo}
 use Rattle.request_core.specs.State.{CoreState, counted, is_spent, keeping_of, raised_from, stamp_after, with_any, with_versions}
-use Rattle.request_core.specs.Answers.{IsAllowed, IsRefusal, answer_of, has_changed, is_beside, is_memory, reply_left, watch_of}
+use Rattle.request_core.specs.Answers.{IsAllowed, IsFault, IsFirst, IsRefusal, answer_of, has_changed, is_beside, is_memory, reply_left, watch_of}
 use Rattle.request_core.specs.Commands.{AddsVersions, CarriesOut, Does, IsIssued, IsToldFreely, Moves, Refuses, RefusesTo, StartsOver, first_refusal}
 
 -- ---- the first of two refusals
@@ -252,11 +252,60 @@ own_refusal e = by (is_memory e)
     by true = tt
     by false = refl
 
+-- one that is told by what comes before memory is asked for is the first one, or wants memory
+pub fault_refusal : (e : Refusal) (o : Option Refusal) → IsFault e o → IsRefusal e o
+fault_refusal e o (inl h) = subst (IsRefusal e) (sym h) (own_refusal e)
+fault_refusal e o (inr h) = subst (λ f. IsRefusal f o) (sym h.1) tt
+
+pub first_or_later : (e : Refusal) (o all : Option Refusal) → (o ≡ Some e → all ≡ Some e) → IsFirst e o all → IsRefusal e all
+first_or_later e o all to (inl h) = subst (IsRefusal e) (sym (to h)) (own_refusal e)
+first_or_later e o all to (inr h) = h.1
+
+-- ---- what is refused before memory is asked for
+
+same-some : (e f : Refusal) → Some e ≡ Some f → e ≡ f
+same-some e f h = cc
+
+none-some : {X : Type 0} {x y : X} (f : Refusal) (o : Option Refusal) → o ≡ None → o ≡ Some f → x ≡ y
+none-some f o none one = let bad : None ≡ Some f = sym none ∙ one in cc
+
+-- the fault that comes before memory is asked for is told
+pub fault_told : (e f : Refusal) (o all : Option Refusal) → IsFirst e o all → o ≡ Some f → e ≡ f
+fault_told e f o all (inl h) one = same-some e f (sym h ∙ one)
+fault_told e f o all (inr h) one = none-some f o h.0 one
+
+-- and so is the refusal of the model, where each of them comes before
+pub refusal_told : (w : World) (call : Call) (e f : Refusal) (o : Option Refusal) → first_refusal (perform w call).0 ≡ o → IsFault e o
+    → first_refusal (perform w call).0 ≡ Some f → e ≡ f
+refusal_told w call e f o is (inl h) one = same-some e f (sym h ∙ sym is ∙ one)
+refusal_told w call e f o is (inr h) one = none-some f o h.0 (sym is ∙ one)
+
+-- the first refusal of what the model makes
+pub made_refused : (o : Option Refusal) (m : Reply × World) → first_refusal (answer_of_made (refused_or o (Ok m))) ≡ o
+made_refused None m = refl
+made_refused (Some f) m = refl
+
+pub commit_refused : (o : Option Refusal) (n : ℕ) (told : Reply) (w : World) (u : Mutation)
+    → first_refusal (answer_of_made (refused_or o (commit_at n told w (u ∷ [])))) ≡ option_or o (refuse_if (is_spent n) RevisionsSpent)
+commit_refused (Some f) n told w u = refl
+commit_refused None n told w u = by (nat_lt n last_main)
+  where
+    by : (b : Bool) → first_refusal (answer_of_made (cond b (Ok (told, changed w (u ∷ []))) (Err RevisionsSpent)))
+        ≡ refuse_if (not b) RevisionsSpent
+    by true = refl
+    by false = refl
+
 -- ---- over a sink
 
 pub refuses_to : (never : Type 0) (old new : CoreState) (call : Call) (e : Refusal) → Refuses old new call e
     → RefusesTo never old new call e
-refuses_to never old new call e r = record { refused = r.refused; free = λ no _. r.free no; kept = r.kept }
+refuses_to never old new call e r = record { first = r.first; refused = r.refused; free = λ no _. r.free no; kept = r.kept }
+
+-- what a command is refused for that never asks whether the sink fails
+pub refuses_over : {X : Type 0} (never : Type 0) (old new : CoreState) (own call : Call) (r : Result X Refusal) → own ≡ call
+    → IfErr r (λ e. Refuses old new own e) → IfErr r (λ e. RefusesTo never old new call e)
+refuses_over never old new own call (Ok x) same h = tt
+refuses_over never old new own call (Err e) same h = refuses_to never old new call e (subst (λ m. Refuses old new m e) same h)
 
 told-freely : (call : Call) → IsToldFreely (Unit {0}) call
 told-freely (Call.range q) = tt
@@ -275,4 +324,9 @@ told-freely Call.leases = tt
 pub refuses_alone : {X : Type 0} (old new : CoreState) (call : Call) (r : Result X Refusal)
     → IfErr r (λ e. RefusesTo (Unit {0}) old new call e) → IfErr r (λ e. Refuses old new call e)
 refuses_alone old new call (Ok x) h = tt
-refuses_alone old new call (Err e) h = record { refused = h.refused; free = λ no. h.free no (told-freely call); kept = h.kept }
+refuses_alone old new call (Err e) h = record {
+  first = h.first;
+  refused = h.refused;
+  free = λ no. h.free no (told-freely call);
+  kept = h.kept;
+}

@@ -13,7 +13,7 @@ use Rattle.store_laws.specs.Stands.{Store}
 use Rattle.range_view.specs.Replies.{kv_view, reply_view, replies_view}
 use Rattle.txn_core.specs.Steps.{steps_view}
 -- a refusal is the model's, but for want of memory, which may come in its place
-pub use Rattle.txn_core.specs.Planning.{is_memory, IsRefusal}
+pub use Rattle.txn_core.specs.Planning.{is_memory, IsFault, IsFirst, IsRefusal}
 use Rattle.request_core.specs.declared.answer.Receipt.{Receipt}
 use Rattle.request_core.specs.declared.answer.Todo.{Todo}
 use Rattle.request_core.specs.declared.answer.Todo.TheVariants as todo

@@ -21,6 +21,8 @@ use Rattle.trim_core.specs.Told.{told_of}
 use Rattle.store_laws.specs.Changes.{Takes, change_of, change_of_expiry}
 use Rattle.store_laws.specs.Snapshots.{absorb}
 use Rattle.store_laws.specs.Stands.{Store, StandsFor}
+-- where memory is wanting too
+pub use Rattle.request_core.specs.Refusing.{first_refusal, fault_without_memory}
 use Rattle.request_core.specs.declared.answer.Expiry.{Expiry}
 use Rattle.request_core.specs.declared.answer.Receipt.{Receipt}
 use Rattle.request_core.specs.declared.answer.Todo.{Todo}
@@ -58,11 +60,6 @@ pub record Does (old new : CoreState) (call : Call) (r : Receipt) : Type 0 where
 
 -- ---- a command that is refused
 
--- the refusal that an answer is, if it is one
-abbrev pub first_refusal : Result Answer Refusal → Option Refusal
-first_refusal (Ok a) = None
-first_refusal (Err e) = Some e
-
 -- doing the command may want memory
 abbrev pub takes_memory : Call → Bool
 takes_memory (Call.range q) = false
@@ -74,6 +71,8 @@ takes_memory _ = true
 
 -- what a refused command did with a core, from the first state to the second
 pub record Refuses (old new : CoreState) (call : Call) (e : Refusal) : Type 0 where
+  -- the refusal that the model has before memory is asked for comes as it is
+  pub first : (w : World) → StandsFor old.store w → (f : Refusal) → fault_without_memory w call ≡ Some f → e ≡ f
   -- in each world that the core stood for, the model refuses it so, or memory was wanting
   pub refused : (w : World) → StandsFor old.store w → IsRefusal e (first_refusal (perform w call).0)
   -- only a command that may want memory is refused for want of it
@@ -88,6 +87,8 @@ IsToldFreely never_fails _ = ⊤
 
 -- what a command did that is refused over a sink, of which the first type shows that its taking never fails
 pub record RefusesTo (never_fails : Type 0) (old new : CoreState) (call : Call) (e : Refusal) : Type 0 where
+  -- the refusal that the model has before memory is asked for comes as it is
+  pub first : (w : World) → StandsFor old.store w → (f : Refusal) → fault_without_memory w call ≡ Some f → e ≡ f
   -- in each world that the core stood for, the model refuses it so, or memory was wanting
   pub refused : (w : World) → StandsFor old.store w → IsRefusal e (first_refusal (perform w call).0)
   -- only a command that may want memory is refused for want of it, and a Compact where the sink finds none

@@ -1,4 +1,5 @@
 pub mod Writing
 pub mod State
 pub mod Answers
+pub mod Refusing
 pub mod Commands

@@ -28,10 +28,13 @@
 //! ```
 //!
 //! Only tested is that calls which may find no memory succeed where there is ample: in the crate
-//! `store_tests`, in `src/cores.rt`, and in `src/spent.rt` those of the last revisions, which need a
-//! core made near them.
+//! `store_tests`, in `src/cores.rt`, and here, in `src/store/spent.rt`, those of the last revisions,
+//! which need a core made near them.
 #![tactic(auto)]
 
 pub mod answer;
 pub mod store;
 mod writing;
+
+pub use answer::{Answer, Expiry, Receipt, Status, Todo};
+pub use store::{Core, LAST_MAIN};

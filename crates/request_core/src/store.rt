@@ -15,6 +15,8 @@ mod putting;
 mod ranging;
 mod receipts;
 mod revoking;
+#[cfg(test)]
+mod spent;
 mod transacting;
 mod trimming;
 mod watching;
@@ -83,7 +85,7 @@ impl Core {
 
     /// A store that has come to a revision and keeps no version, no lease and no watch; its clock and
     /// its stamp are 0. The revision is one that a store may have: from 1 to `LAST_MAIN`. Takes no memory.
-    pub fn at(alloc: Global, revision: u64) -> Self
+    fn at(alloc: Global, revision: u64) -> Self
         requires opened { 1 ≤ revision }
         requires fits { revision ≤ last_main }
         ensures { result
@@ -135,8 +137,9 @@ impl Core {
     /// the versions changed where the model changes it (`beside`).
     ///
     /// What a refused one left is another, `Refuses`: the refusal is the model's, or memory was
-    /// wanting (`refused`), which it never is where the command takes none (`free`), and the core
-    /// is as it was (`kept`).
+    /// wanting (`refused`), which it never is where the command takes none (`free`) nor in place of
+    /// a refusal that comes before memory is asked for (`first`), and the core is as it was
+    /// (`kept`).
     ///
     /// The refusals come in the order of the etcd documentation's checks of a request: `NoKey`
     /// where the key is empty; of a Range, `Compacted` and `Future` where its revision is below the
@@ -148,8 +151,9 @@ impl Core {
     /// above that of the last one, and `Future` where it is above the present one; of a watch,
     /// `TooManyWatches` where 1,024 stand or 2^63 - 1 were made; and last `RevisionsSpent` where a
     /// change would need a revision above the greatest. `Memory` comes where a list, a copy or the
-    /// place of a lease or a watch found none, and may come in place of `RevisionsSpent`; a Range,
-    /// a Compact, a keepalive, a time to live and the list of leases take none here.
+    /// place of a lease or a watch found none, and of a DeleteRange and a revoke it may come in place
+    /// of `RevisionsSpent`; a Range, a Compact, a keepalive, a time to live and the list of leases
+    /// take none here.
     ///
     /// A Txn is first refused for what its request shows, also in branches that do not run, and a
     /// transaction before its parts: `TooDeep` where it lies in eight others, `TooManyOps` where it

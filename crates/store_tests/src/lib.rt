@@ -16,8 +16,6 @@ mod plans;
 #[cfg(test)]
 mod sinks;
 #[cfg(test)]
-mod spent;
-#[cfg(test)]
 mod trims;
 #[cfg(test)]
 mod views;

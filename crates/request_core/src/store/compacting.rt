@@ -12,7 +12,7 @@ use kv_model::refusal::Refusal;
 impl Core {
     ghost use Rattle.kv_model.specs.Calls.{Call};
     ghost use Rattle.request_core.specs.Commands.{Does, IsToldChange, StoresChange};
-    ghost use Rattle.request_core.specs.Answers.{IsRefusal};
+    ghost use Rattle.request_core.specs.Answers.{IsFault};
     ghost use Rattle.request_core.specs.Commands.{CarriesOut, RefusesTo};
     ghost use Rattle.request_core.specs.State.{after_compact};
 
@@ -81,7 +81,7 @@ impl Core {
         ensures made { OnOk result (self.new ≡ after_compact self.old revision) }
         ensures told { OnOk result
             (S.takes sink.old (Published.floor (at_least_zero revision)) sink.new) }
-        ensures refused { IfErr result (λ e. IsRefusal e (compact_refusal
+        ensures refused { IfErr result (λ e. IsFault e (compact_refusal
             self.old.store.compacted self.old.store.revision revision)) }
         ensures free { S.never_fails → IfErr result (λ e. is_memory e ≡ false) }
         ensures err { OnErr result ((self.new ≡ self.old) × (sink.new ≡ sink.old)) }

@@ -20,7 +20,8 @@ impl Core {
     ghost use Rattle.kv_model.specs.Calls.{Call};
     ghost use Rattle.request_core.specs.State.{IsTold, added_by, floor_by, fault_of_delete, added_by_delete};
     ghost use Rattle.request_core.specs.State.{after_delete, live_in};
-    ghost use Rattle.request_core.specs.Answers.{IsRefusal};
+    ghost use Rattle.request_core.specs.Answers.{IsFirst};
+    ghost use Rattle.store_laws.specs.Stores.{refusal_of_delete};
     ghost use Rattle.request_core.specs.Commands.{CarriesOut, Refuses};
 
     /// A DeleteRange appends the tombstones of the live keys of its range at the next revision, and
@@ -61,7 +62,8 @@ impl Core {
         ensures told { OnOk result
             (IsTold S.takes (added_by self.old.store (Call.delete request.now)) sink.old sink.new) }
         ensures refused { IfErr result
-            (λ e. IsRefusal e (fault_of_delete self.old.store request.now)) }
+            (λ e. IsFirst e (refusal_of_delete request.now)
+            (fault_of_delete self.old.store request.now)) }
         ensures err { OnErr result ((self.new ≡ self.old) × (sink.new ≡ sink.old)) }
     {
         let versions = match self.versions_of_delete(request) {
@@ -81,7 +83,8 @@ impl Core {
             (λ vs. (fault_of_delete self.now.store request.now ≡ None)
             × (vs.items ≡ added_by_delete self.now.store request.now)) }
         ensures refused { IfErr result
-            (λ e. IsRefusal e (fault_of_delete self.now.store request.now)) }
+            (λ e. IsFirst e (refusal_of_delete request.now)
+            (fault_of_delete self.now.store request.now)) }
     {
         let main = self.tables.revision() + 1;
         if request.range.key.is_empty() {

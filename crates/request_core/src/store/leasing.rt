@@ -19,7 +19,7 @@ use std::alloc::{AllocError, Global};
 impl Core {
     ghost use Rattle.kv_model.specs.Calls.{Call};
     ghost use Rattle.request_core.specs.State.{after_grant, after_keep_alive};
-    ghost use Rattle.request_core.specs.Answers.{IsRefusal};
+    ghost use Rattle.request_core.specs.Answers.{IsFault};
     ghost use Rattle.request_core.specs.Commands.{CarriesOut, Refuses};
 
     /// A grant takes one node of the book.
@@ -47,7 +47,7 @@ impl Core {
         ensures answer { IfOk result
             (λ g. (g.id ≡ (granted_lease self.old.store ttl id).id)
             × (g.ttl ≡ (granted_lease self.old.store ttl id).ttl)) }
-        ensures refused { IfErr result (λ e. IsRefusal e (refusal_of_grant self.old.store ttl id)) }
+        ensures refused { IfErr result (λ e. IsFault e (refusal_of_grant self.old.store ttl id)) }
         ensures err { OnErr result (self.new ≡ self.old) }
     {
         self.book.grant(ttl, id)

@@ -21,7 +21,7 @@ impl Core {
     ghost use Rattle.kv_model.specs.Calls.{Call};
     ghost use Rattle.request_core.specs.State.{IsTold, added_by, floor_by, fault_of_put, added_by_put};
     ghost use Rattle.request_core.specs.State.{after_put, held_in};
-    ghost use Rattle.request_core.specs.Answers.{IsRefusal};
+    ghost use Rattle.request_core.specs.Answers.{IsFault};
     ghost use Rattle.request_core.specs.Commands.{CarriesOut, Refuses};
 
     /// A Put appends one version at the next revision.
@@ -57,7 +57,7 @@ impl Core {
         ensures told { OnOk result
             (IsTold S.takes (added_by self.old.store (Call.put request.now)) sink.old sink.new) }
         ensures refused { IfErr result
-            (λ e. IsRefusal e (fault_of_put self.old.store request.now)) }
+            (λ e. IsFault e (fault_of_put self.old.store request.now)) }
         ensures err { OnErr result ((self.new ≡ self.old) × (sink.new ≡ sink.old)) }
     {
         let versions = match self.versions_of_put(request) {
@@ -77,7 +77,7 @@ impl Core {
             × (vs.items ≡ added_by_put self.now.store request.now ∷ [])) }
         ensures next { IfOk result (λ vs. AreNext self.now.store.revision vs.items) }
         ensures refused { IfErr result
-            (λ e. IsRefusal e (fault_of_put self.now.store request.now)) }
+            (λ e. IsFault e (fault_of_put self.now.store request.now)) }
     {
         let rev = Rev {
             main: self.tables.revision() + 1,

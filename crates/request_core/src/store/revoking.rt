@@ -17,7 +17,8 @@ impl Core {
     ghost use Rattle.kv_model.specs.Calls.{Call};
     ghost use Rattle.request_core.specs.State.{IsTold, added_by, floor_by, added_by_revoke};
     ghost use Rattle.request_core.specs.State.{after_revoke, fault_of_revoke, leased, leased_in};
-    ghost use Rattle.request_core.specs.Answers.{IsRefusal};
+    ghost use Rattle.request_core.specs.Answers.{IsFirst};
+    ghost use Rattle.store_laws.specs.Stores.{refusal_of_revoke};
     ghost use Rattle.request_core.specs.Commands.{CarriesOut, Refuses};
 
     /// A revoke appends the tombstones of the lease's keys at the next revision, and nothing where
@@ -52,7 +53,8 @@ impl Core {
         ensures counted { IfOk result (λ n. n ≡ length (leased_in self.old.store id)) }
         ensures told { OnOk result
             (IsTold S.takes (added_by_revoke self.old.store id) sink.old sink.new) }
-        ensures refused { IfErr result (λ e. IsRefusal e (fault_of_revoke self.old.store id)) }
+        ensures refused { IfErr result (λ e. IsFirst e (refusal_of_revoke self.old.store id)
+            (fault_of_revoke self.old.store id)) }
         ensures err { OnErr result ((self.new ≡ self.old) × (sink.new ≡ sink.old)) }
     {
         let versions = match self.versions_of_revoke(id) {
@@ -72,7 +74,8 @@ impl Core {
         ensures made { IfOk result
             (λ vs. (fault_of_revoke self.now.store id ≡ None)
             × (vs.items ≡ added_by_revoke self.now.store id)) }
-        ensures refused { IfErr result (λ e. IsRefusal e (fault_of_revoke self.now.store id)) }
+        ensures refused { IfErr result (λ e. IsFirst e (refusal_of_revoke self.now.store id)
+            (fault_of_revoke self.now.store id)) }
     {
         let main = self.tables.revision() + 1;
         if !self.book.is_granted(id) {

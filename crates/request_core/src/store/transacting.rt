@@ -34,7 +34,7 @@ impl Core {
     ghost use Rattle.kv_model.specs.History.{end_of};
     ghost use Rattle.request_core.specs.State.{IsTold, added_by, floor_by, fault_of_txn, added_by_txn};
     ghost use Rattle.request_core.specs.State.{after_txn};
-    ghost use Rattle.request_core.specs.Answers.{CanReply, IsRefusal};
+    ghost use Rattle.request_core.specs.Answers.{CanReply, IsFirst, IsRefusal};
     ghost use Rattle.request_core.specs.Commands.{CarriesOut, Refuses};
 
     /// A transaction appends the versions of its changes at the next revision, and nothing where it
@@ -90,14 +90,16 @@ impl Core {
         ensures told { OnOk result
             (IsTold S.takes (added_by_txn self.old.store (txn_view txn.now)) sink.old sink.new) }
         ensures refused { IfErr result
-            (λ e. IsRefusal e (fault_of_txn self.old.store (txn_view txn.now))) }
+            (λ e. IsFirst e (txns.walk_fault 0 (txn_view txn.now))
+            (fault_of_txn self.old.store (txn_view txn.now))) }
         ensures err { OnErr result ((self.new ≡ self.old) × (sink.new ≡ sink.old)) }
     {
+        let checked = check(self.alloc, txn);
         let Plan {
             succeeded,
             steps,
             versions,
-        } = match self.plan(txn) {
+        } = match self.plan(checked, txn) {
             Ok(made) => made,
             Err(refusal) => return Err(refusal),
         };
@@ -107,8 +109,10 @@ impl Core {
         Ok((succeeded, steps))
     }
 
-    /// What a transaction is to do, or its first refusal.
-    fn plan<'c>(&self, txn: &'c Txn) -> Result<Plan<'c>, Refusal>
+    /// What a transaction is to do, or its first refusal: that of its check as it is, where there is
+    /// one.
+    fn plan<'c>(&self, checked: Result<(), Refusal>, txn: &'c Txn) -> Result<Plan<'c>, Refusal>
+        requires { OnOk checked (txns.static_fault (txn_view txn.now) ≡ None) }
         ensures made { IfOk result
             (λ p. (fault_of_txn self.now.store (txn_view txn.now) ≡ None)
             × (p.versions.items ≡ added_by_txn self.now.store (txn_view txn.now))) }
@@ -123,11 +127,12 @@ impl Core {
         ensures fits { self.now.store.revision ≤ last_main }
         ensures counted { AllByRecursion
             (λ v. IsCountedTo self.now.store.revision v.body) self.now.store.versions }
+        ensures passes { IfErr result (λ e. IfErr checked (λ f. e ≡ f)) }
         ensures refused { IfErr result
-            (λ e. IsRefusal e (fault_of_txn self.now.store (txn_view txn.now))) }
+            (λ e. OnOk checked (IsRefusal e (fault_of_txn self.now.store (txn_view txn.now)))) }
     {
         let view = self.view();
-        if let Err(refusal) = check(self.alloc, txn) {
+        if let Err(refusal) = checked {
             return Err(refusal);
         }
         let made = match plan_on(self.alloc, &view, txn, &self.book) {

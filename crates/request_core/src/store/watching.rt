@@ -16,7 +16,7 @@ use watch_hub::Delivery;
 
 impl Core {
     ghost use Rattle.kv_model.specs.Calls.{Call};
-    ghost use Rattle.request_core.specs.Answers.{IsRefusal, is_memory};
+    ghost use Rattle.request_core.specs.Answers.{IsFault, is_memory};
     ghost use Rattle.request_core.specs.Commands.{CarriesOut, Refuses};
     ghost use Rattle.request_core.specs.State.{after_watch, tables_of, with_watches};
 
@@ -47,7 +47,7 @@ impl Core {
         ensures allowed { OnOk result (refusal_of_watch self.old.store ≡ None) }
         ensures made { OnOk result (self.new ≡ after_watch self.old watched.now start id) }
         ensures number { IfOk result (λ n. n ≡ self.old.store.made + 1) }
-        ensures refused { IfErr result (λ e. IsRefusal e (refusal_of_watch self.old.store)) }
+        ensures refused { IfErr result (λ e. IsFault e (refusal_of_watch self.old.store)) }
         ensures err { OnErr result (self.new ≡ self.old) }
     {
         self.hub.create(&self.tables, watched, start, id)
@@ -80,6 +80,8 @@ impl Core {
         ensures refused { IfErr result (λ e. MatchBool (is_memory e) ⊤ ((e ≡ NoWatch)
             × ((w : World) → StandsFor self.now.store w
             → (deliver w number).0 ≡ ModelDelivery.no_watch))) }
+        ensures missing { IfErr result (λ e. (w : World) → StandsFor self.now.store w
+            → (deliver w number).0 ≡ ModelDelivery.no_watch → e ≡ NoWatch) }
     {
         self.hub.deliver(self.alloc, &self.tables, number)
     }

@@ -3,7 +3,7 @@ use Rattle.std.proofs.lemmas.Int.{to_z-of_z}
 use Rattle.std.specs.Int.{w64}
 use Rattle.kv_model.specs.declared.refusal.Refusal.{Refusal}
 use Rattle.request_core.specs.Commands.{RefusesExpiry}
-use Rattle.request_core.proofs.Revokes.{lease_expires, expiry_refuses}
+use Rattle.request_core.proofs.Revokes.{lease_expires, expiry_refuses, revoke_refusal}
 use Rattle.request_core.proofs.Telling.{expiry_kept, expiry_told}
 use Rattle.request_core.proofs.store.Core.expire_lease.Goals as goal
 
@@ -54,4 +54,5 @@ pub returns-in-Err-clause-refused : goal.returns-in-Err-clause-refused
 returns-in-Err-clause-refused g c =
     subst (λ (e : Refusal). RefusesExpiry c.args.self.now c.revoke.new.self e) (sym c.refusal_of_expiry.ensures)
     (expiry_refuses c.args.self.now c.revoke.new.self c.args.id c.in-Err.refusal c.requires
-    (rw (to_z-of_z w64 c.args.id c.ranges.id) at c.in-Err.ensures.refused) c.in-Err.ensures.err.0)
+    (revoke_refusal c.args.self.now.store c.args.id c.in-Err.refusal
+    (rw (to_z-of_z w64 c.args.id c.ranges.id) at c.in-Err.ensures.refused)) c.in-Err.ensures.err.0)

@@ -1,8 +1,7 @@
 //! The last revisions: a core is made near them, since no script comes so far.
+use super::{Core, LAST_MAIN};
 use bytes::Bytes;
 use kv_model::call::{Command, PutRequest};
-use kv_model::refusal::Refusal;
-use request_core::store::{Core, LAST_MAIN};
 use std::alloc::Global;
 
 /// The revision that a command raised the store to, or the number of its refusal.
