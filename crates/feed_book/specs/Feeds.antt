@@ -1,5 +1,6 @@
 -- Which lists of operations are a feed, and what a front says.
-use Rattle.std.specs.Prelude.{◌≡◌, List, [], ◌∷◌, ◌++◌}
+use Rattle.std.specs.Prelude.{◌≡◌, ◌<◌, List, [], ◌∷◌, ◌++◌, length}
+use mathlib.Core.List.{IsPrefix}
 use Rattle.kv_model.specs.Feed.{Published}
 use Rattle.kv_model.specs.Questions.{IsGood}
 use Rattle.kv_model.specs.World.{World}
@@ -21,7 +22,19 @@ pub record Beginning : Type 0 where
   pub book : Book
   pub list : List Published
 
+-- one publication: its operations, of which there is one at least
+pub record Publication : Type 0 where
+  pub first : Published
+  pub more : List Published
+
+abbrev pub operations : Publication → List Published
+operations p = p.first ∷ p.more
+
 -- the operations of all the publications, one after another
-abbrev pub flat : List (List Published) → List Published
+abbrev pub flat : List Publication → List Published
 flat [] = []
-flat (ops ∷ log) = ops ++ flat log
+flat (p ∷ log) = operations p ++ flat log
+
+-- the first list begins the second, which has more
+abbrev pub IsShorter : List Published → List Published → Type 0
+IsShorter xs ys = IsPrefix xs ys × (length xs < length ys)

@@ -1,6 +1,6 @@
-ghost use Rattle.std.specs.Prelude.{◌≡◌, ◌++◌, [], None, true};
+ghost use Rattle.std.specs.Prelude.{◌≡◌, ◌++◌, [], None, true, MatchBool};
 ghost use mathlib.Core.List.{IsPrefix};
-ghost use Rattle.feed_book.specs.Feeds.{IsFeed};
+ghost use Rattle.feed_book.specs.Feeds.{IsFeed, IsShorter, operations};
 
 use kv_model::feed::Op;
 use logbook::{Gain, Offer, Plain, Play, Rule, Seen, Start, Word};
@@ -9,18 +9,20 @@ use std::marker::Model;
 /// No more publications than these are listed.
 const MOST: u64 = 1 << 62;
 
-/// The operations of one publication, as the list has them. No value of it is made.
+/// The operations of one publication, as the list has them: one at least. No value of it is made.
 pub struct Told {
-    ops: Vec<Op>,
+    first: Op,
+    more: Vec<Op>,
 }
 
 impl Model for Told {
-    ghost use Rattle.std.specs.Prelude.{List, map};
-    ghost use Rattle.kv_model.specs.Feed.{Published, published};
+    ghost use Rattle.std.specs.Prelude.{map};
+    ghost use Rattle.kv_model.specs.Feed.{published};
+    ghost use Rattle.feed_book.specs.Feeds.{Publication};
 
-    ghost Value = { List Published };
+    ghost Value = { Publication };
 
-    ghost view = { λ t. map published t.ops.items };
+    ghost view = { λ t. record { first = published t.first; more = map published t.more.items } };
 }
 
 /// The rule of the book.
@@ -131,11 +133,12 @@ impl Front {
         }
     }
 
-    /// Whether another front of the same list begins this one: one comparison of two numbers. Takes
-    /// no memory.
+    /// Whether another front of the same list begins this one: one comparison of two numbers. Where
+    /// it does not, it is longer, and this one begins it. Takes no memory.
     pub fn begins_with(&self, other: &Front) -> bool
         requires { other.now.book ≡ self.now.book }
-        ensures { result ≡ true → IsPrefix other.now.list self.now.list }
+        ensures { MatchBool result (IsPrefix other.now.list self.now.list)
+            (IsShorter self.now.list other.now.list) }
     {
         let mut both = self.seen.again();
         both.learn(&other.seen);
@@ -151,9 +154,10 @@ impl Front {
     pub fn add<X, M: Plain<X, Told, u64>>(&mut self, book: &Book, about: &X) -> bool
         requires book { book.now ≡ self.old.book }
         requires state { M.state about.now ≡ None }
-        requires feed { IsFeed (self.old.list ++ M.ask about.now) }
+        requires feed { IsFeed (self.old.list ++ operations (M.ask about.now)) }
         ensures book { self.new.book ≡ self.old.book }
-        ensures list { result ≡ true → self.new.list ≡ self.old.list ++ M.ask about.now }
+        ensures list { result ≡ true → self.new.list
+            ≡ self.old.list ++ operations (M.ask about.now) }
     {
         if self.count >= MOST {
             return false;

@@ -1,22 +1,23 @@
 -- What the entries of the log come to.
 use Rattle.std.proofs.Common.{◌≡◌, true, List, [], ◌∷◌, ◌++◌, length, drop, fold, Result, Ok, Err, refl, sym, ap, ◌∙◌, subst}
-use Rattle.std.proofs.Common.{append_assoc, MatchBool}
+use Rattle.std.proofs.Common.{append_assoc, MatchBool, Bool, false, ℕ, ◌<◌, zero, suc, not, arith, length-append}
+use Rattle.std.specs.Prelude.{IsTrue, ◌↔◌}
 use Rattle.std.specs.Prelude.{MatchResult, OnOk, OnErr}
 use Rattle.std.proofs.Common.{is_ok}
-use Rattle.std.proofs.lemmas.List.{append-nil}
+use Rattle.std.proofs.lemmas.List.{append-nil, nil_from_length}
 use Rattle.std.proofs.lemmas.List.Sums.{fold-append}
 use Rattle.std.proofs.Math.Seq.{drop-append_seam}
 use mathlib.Core.List.{IsPrefix}
 use Rattle.kv_model.specs.declared.feed.Op.{Op}
 use Rattle.kv_model.specs.Feed.{Published, published}
 use Rattle.store_laws.specs.Snapshots.{Stored, absorb, blank, store_of}
-use Rattle.feed_book.specs.Feeds.{Beginning}
+use Rattle.feed_book.specs.Feeds.{Beginning, IsShorter, operations}
 use Rattle.snapshot_feed.specs.declared.entry.Entry.{Entry}
 use Rattle.snapshot_feed.specs.declared.entry.Entry.TheVariants.{Change, Mark}
 use Rattle.snapshot_feed.specs.declared.entry.ReadTables.{ReadTables}
 use Rattle.snapshot_feed.specs.Entries.{after, ops_of, marked_by}
 use Rattle.snapshot_feed.specs.Shown.{Shows}
-use Rattle.snapshot_feed.specs.States.{FeedState, appended, settled, state_by, HasAll, IsListed}
+use Rattle.snapshot_feed.specs.States.{FeedState, appended, settled, state_by, HasAll, HasOperation, IsListed, publication}
 
 -- ---- one entry more
 
@@ -64,14 +65,45 @@ prefix_rest {A} xs ys p =
 pub prefix_more : {A : Type 0} (xs ys zs : List A) → IsPrefix xs ys → IsPrefix xs (ys ++ zs)
 prefix_more {A} xs ys zs p = (p.0 ++ zs, sym (append_assoc xs p.0 zs) ∙ ap (λ (w : List A). w ++ zs) p.1)
 
-pub listed_more : (front : Beginning) (s t : FeedState) (more : List Published) → IsListed front s → t.book ≡ s.book
-    → t.published ≡ s.published → t.pending ≡ s.pending ++ more → IsListed front t
-listed_more front s t more listed book same later = (
+-- what is left of a longer list is a publication
+pub shorter_rest : (xs ys : List Published) → IsShorter xs ys → xs ++ operations (publication (drop (length xs) ys)) ≡ ys
+shorter_rest xs ys p =
+    ap (λ (zs : List Published). xs ++ zs) (has (drop (length xs) ys)
+    (omega (arith, p.1, ap length (prefix_rest xs ys p.0), length-append xs (drop (length xs) ys))))
+    ∙ prefix_rest xs ys p.0
+  where
+    has : (zs : List Published) → 0 < length zs → operations (publication zs) ≡ zs
+    has [] some = absurd (omega arith)
+    has (z ∷ zs) some = refl
+
+-- a front with all or less of what was appended has less once more is
+part_of_more : (b : Bool) (xs ys zs : List Published) → MatchBool b (xs ≡ ys) (IsShorter xs ys) → 0 < length zs → IsShorter xs (ys ++ zs)
+part_of_more true xs ys zs same some = ((zs, ap (λ (w : List Published). w ++ zs) same), omega (arith, some, ap length same, length-append ys zs))
+part_of_more false xs ys zs p some = (prefix_more xs ys zs p.0, omega (arith, p.1, length-append ys zs))
+
+pub listed_more : (b : Bool) (front : Beginning) (s t : FeedState) (more : List Published) → 0 < length more → IsListed b front s → t.book ≡ s.book
+    → t.published ≡ s.published → t.pending ≡ s.pending ++ more → IsListed false front t
+listed_more b front s t more some listed book same later = (
   listed.0 ∙ sym book,
-  subst (IsPrefix front.list)
+  subst (IsShorter front.list)
       (append_assoc s.published s.pending more ∙ λ i. sym same i ++ sym later i)
-      (prefix_more front.list (appended s) more listed.1),
+      (part_of_more b front.list (appended s) more listed.1 some),
 )
+
+-- the same feed
+pub listed_as : (b : Bool) (front : Beginning) (s t : FeedState) → s ≡ t → IsListed b front s → IsListed b front t
+listed_as b front s t same = subst (IsListed b front) same
+
+-- ---- what waits
+
+pub settled_by : (b : Bool) (es : List Entry) → IsTrue b ↔ (0 < length es) → HasOperation es
+    → MatchBool (not b) (ops_of es ≡ []) (0 < length (ops_of es))
+settled_by true es h has = has (h.0 refl)
+settled_by false es h has = ap ops_of (nil_from_length es (none (length es) (λ some. absurd (cc (h.1 some)))))
+  where
+    none : (n : ℕ) → (0 < n → ⊥) → n ≡ zero
+    none zero h = refl
+    none (suc n) h = absurd (h (omega arith))
 
 -- ---- a call that logs one entry
 

@@ -1,14 +1,12 @@
 -- What a reader answers.
 use Rattle.std.specs.Prelude.{◌≡◌, ℕ, ◌⊎◌, List, Result, Ok, Err}
-use mathlib.Core.List.{IsPrefix}
-use Rattle.kv_model.specs.Feed.{Published}
 use Rattle.kv_model.specs.declared.version.Version.{Version}
 use Rattle.kv_model.specs.declared.call.RangeQuery.{RangeQuery}
 use Rattle.kv_model.specs.declared.refusal.Refusal.{Refusal}
-use Rattle.kv_model.specs.declared.refusal.Refusal.TheVariants.{Memory, NoPlace}
+use Rattle.kv_model.specs.declared.refusal.Refusal.TheVariants.{Memory}
 use Rattle.kv_model.specs.History.{end_of}
 use Rattle.kv_model.specs.Ranges.{range_answer}
-use Rattle.store_laws.specs.Snapshots.{Untrimmed, untrimmed_of}
+use Rattle.store_laws.specs.Snapshots.{Untrimmed}
 use Rattle.range_view.specs.declared.reply.RangeReply.{RangeReply}
 use Rattle.range_view.specs.Replies.{reply_view}
 
@@ -20,12 +18,3 @@ Answers vs c now q (Err e) = (e ≡ Memory) ⊎ (range_answer vs c now (end_of n
 -- the answer of the whole history, of which nothing is trimmed
 abbrev pub AnswersOf : Untrimmed → RangeQuery → Result RangeReply Refusal → Type 0
 AnswersOf u = Answers u.versions u.compacted u.revision
-
--- the answer of a list of operations that begins with all that is known; or the tables could not be entered
-pub record Reads (known : List Published) (q : RangeQuery) (r : Result RangeReply Refusal) : Type 0 where
-  pub log : List Published
-  pub begins : IsPrefix known log
-  pub answers : AnswersOf (untrimmed_of log) q r
-
-abbrev pub ReadsOrNot : List Published → RangeQuery → Result RangeReply Refusal → Type 0
-ReadsOrNot known q r = (r ≡ Err NoPlace) ⊎ Reads known q r

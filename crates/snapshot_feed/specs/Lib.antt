@@ -3,3 +3,4 @@ pub mod Shown
 pub mod States
 pub mod Seats
 pub mod Answers
+pub mod Lending

@@ -1,9 +1,8 @@
 -- What a feed is, as plain data.
-use Rattle.std.specs.Prelude.{◌≡◌, List, [], ◌∷◌, ◌++◌}
-use mathlib.Core.List.{IsPrefix}
+use Rattle.std.specs.Prelude.{◌≡◌, ◌<◌, Bool, List, [], ◌∷◌, ◌++◌, length, MatchBool}
 use Rattle.kv_model.specs.Feed.{Published}
 use Rattle.logbook.specs.Pages.{Book}
-use Rattle.feed_book.specs.Feeds.{Beginning}
+use Rattle.feed_book.specs.Feeds.{Beginning, IsShorter, Publication}
 use Rattle.snapshot_feed.specs.declared.entry.Entry.{Entry}
 use Rattle.snapshot_feed.specs.Entries.{ops_of}
 
@@ -33,6 +32,15 @@ state_by shown entries = record { book = shown.book; published = shown.list; pen
 abbrev pub HasAll : Beginning → FeedState → Type 0
 HasAll front f = (front.book ≡ f.book) × (front.list ≡ appended f)
 
--- a front of the feed's list, which has nothing that was not appended
-abbrev pub IsListed : Beginning → FeedState → Type 0
-IsListed front f = (front.book ≡ f.book) × IsPrefix front.list (appended f)
+-- a front of the feed's list, which has all that was appended where this says so, and else a part of it
+abbrev pub IsListed : Bool → Beginning → FeedState → Type 0
+IsListed all front f = (front.book ≡ f.book) × MatchBool all (front.list ≡ appended f) (IsShorter front.list (appended f))
+
+-- what is logged has an operation, if it has anything
+abbrev pub HasOperation : List Entry → Type 0
+HasOperation entries = 0 < length entries → 0 < length (ops_of entries)
+
+-- these operations as one publication
+abbrev pub publication : List Published → Publication
+publication [] = record { first = Published.trim; more = [] }
+publication (op ∷ ops) = record { first = op; more = ops }

@@ -1,6 +1,7 @@
 //! The feed of what a store publishes.
-ghost use Rattle.std.specs.Prelude.{◌≡◌, ◌++◌, true, false, [], OnOk, OnErr, IfOk};
+ghost use Rattle.std.specs.Prelude.{◌≡◌, ◌<◌, false, [], length, OnOk, OnErr, IfOk, IfErr, MatchBool};
 ghost use Rattle.kv_model.specs.Feed.{published};
+ghost use Rattle.kv_model.specs.declared.refusal.Refusal.TheVariants.{NoPlace};
 ghost use Rattle.feed_book.specs.Feeds.{Beginning, IsFeed};
 ghost use Rattle.snapshot_feed.specs.States.{appended, settled, with_op};
 
@@ -11,6 +12,7 @@ use crate::writer::{FeedWriter, mark_all, publish_by, push};
 use core::mem::replace_with;
 use feed_book::{Book, Front, open};
 use kv_model::feed::{Op, Sink};
+use kv_model::refusal::Refusal;
 use std::alloc::{AllocError, Global};
 use std::marker::Model;
 use std::mem::ManuallyDrop;
@@ -29,6 +31,8 @@ pub struct Feed {
     book: Book,
     /// What is listed, which is a beginning of what was appended.
     front: Front,
+    /// What is listed is all that was appended.
+    listed: bool,
     /// The last mark of the log, or the front that is shown where there is none, has all that was
     /// appended. So a publication that is tried again logs no second mark.
     marked: bool,
@@ -40,7 +44,7 @@ impl Model for Feed {
     ghost use Rattle.left_right.specs.Sides as sides;
     ghost use Rattle.snapshot_feed.specs.Entries.{marked_by};
     ghost use Rattle.snapshot_feed.specs.Shown.{Shows, IsOf};
-    ghost use Rattle.snapshot_feed.specs.States.{FeedState, state_by, HasAll, IsListed};
+    ghost use Rattle.snapshot_feed.specs.States.{FeedState, state_by, HasAll, HasOperation, IsListed};
 
     ghost Value = { FeedState };
 
@@ -50,10 +54,12 @@ impl Model for Feed {
     ghost invariant = { λ f.
         Shows (manually_drop_value f.writer).desk.shown.value.tables
         (manually_drop_value f.writer).desk.shown.value.front
-        × IsListed f.front (state_by (manually_drop_value f.writer).desk.shown.value.front
+        × IsListed f.listed f.front (state_by (manually_drop_value f.writer).desk.shown.value.front
         (drop (manually_drop_value f.writer).behind (manually_drop_value f.writer).log.items))
         × (f.book ≡ (manually_drop_value f.writer).desk.shown.value.front.book)
         × IsOf f.book (sides.view (manually_drop_value f.writer).desk.place)
+        × HasOperation
+        (drop (manually_drop_value f.writer).behind (manually_drop_value f.writer).log.items)
         × (f.marked ≡ true → HasAll
         (marked_by (manually_drop_value f.writer).desk.shown.value.front
         (drop (manually_drop_value f.writer).behind (manually_drop_value f.writer).log.items))
@@ -88,6 +94,7 @@ impl Feed {
                 writer: unsafe { ManuallyDrop::new_unchecked(writer) },
                 book,
                 front,
+                listed: true,
                 marked: false,
             }),
             Err(error) => {
@@ -110,11 +117,13 @@ impl Feed {
             writer,
             book: _book,
             front: _front,
+            listed,
             marked,
         } = self;
         if !push(&mut **writer, op) {
             return Err(AllocError);
         }
+        *listed = false;
         *marked = false;
         Ok(())
     }
@@ -142,10 +151,11 @@ impl Feed {
             writer,
             book,
             front,
+            listed,
             marked,
         } = self;
         if !*marked {
-            if !mark_all(&mut **writer, book, front) {
+            if !mark_all(&mut **writer, book, front, listed) {
                 return Err(AllocError);
             }
             *marked = true;
@@ -164,24 +174,27 @@ impl Feed {
 
     /// Whether all that was appended is published. Takes no memory, and constant time.
     pub fn is_settled(&self) -> bool
-        ensures { result ≡ true → self.now.pending ≡ [] }
+        ensures { MatchBool result (self.now.pending ≡ []) (0 < length self.now.pending) }
     {
         !self.writer.has_pending_operations()
     }
 
     /// A new reader, which was told of all that is published.
     ///
-    /// The error comes where each of the places is in use. A reader that is dropped gives its
-    /// place back. Takes no memory, and time linear in the number of places.
-    pub fn reader(&mut self) -> Result<SnapReader, AllocError>
+    /// The only refusal is `NoPlace`, where each of the places is in use. A reader that is dropped
+    /// gives its place back. Takes no memory, and time linear in the number of places.
+    pub fn reader(&mut self) -> Result<SnapReader, Refusal>
         ensures reader { IfOk result (λ r. r ≡ record {
           book = self.old.book;
           known = self.old.published;
           inside = false;
         }) }
+        ensures refusal { IfErr result (λ e. e ≡ NoPlace) }
         ensures same { self.new ≡ self.old }
     {
-        let mut reader = self.writer.factory().reader()?;
+        let Ok(mut reader) = self.writer.factory().reader() else {
+            return Err(Refusal::NoPlace);
+        };
         reader.learn::<Tells>(self.writer.tell::<Tells>());
         Ok(SnapReader::of(reader, self.told()))
     }
@@ -193,6 +206,7 @@ impl Feed {
             writer,
             book: _book,
             front: _front,
+            listed: _listed,
             marked: _marked,
         } = self;
         drop(ManuallyDrop::into_inner(writer).take(rt));

@@ -1,10 +1,11 @@
 //! A reader beside the writer.
-ghost use Rattle.std.specs.Prelude.{◌≡◌, true, false, OnOk, OnErr, IfErr, IfSome, IfNone, MatchBool, Ok, Err};
+ghost use Rattle.std.specs.Prelude.{◌≡◌, true, false, OnOk, OnErr, IfErr, IfOk, IfSome, MatchBool};
 ghost use mathlib.Core.List.{IsPrefix};
 ghost use Rattle.left_right.specs.Sides.{view};
 ghost use Rattle.kv_model.specs.declared.refusal.Refusal.TheVariants as refusal;
 ghost use Rattle.store_laws.specs.Snapshots.{untrimmed_of};
-ghost use Rattle.snapshot_feed.specs.Answers.{Answers, AnswersOf, ReadsOrNot};
+ghost use Rattle.feed_book.specs.Feeds.{IsShorter};
+ghost use Rattle.snapshot_feed.specs.Answers.{Answers, AnswersOf};
 ghost use Rattle.snapshot_feed.specs.Seats.{Reads, MayRead, IsWithin, known_to, is_in};
 ghost use Rattle.snapshot_feed.specs.Shown.{IsOf};
 
@@ -77,6 +78,9 @@ fn answer<'a>(
 }
 
 impl SnapReader {
+    ghost use Rattle.std.specs.Borrow.{sem};
+    ghost use Rattle.snapshot_feed.specs.Lending.{Enters, LendsReading};
+
     /// A reader that has seen nothing but what it was told of.
     pub(crate) fn of(reader: FeedReader, known: Front) -> Self
         requires { IsOf known.book (view reader.place) }
@@ -125,13 +129,13 @@ impl SnapReader {
     }
 
     /// Leaves the tables, and takes note of a front that it was told of: from then on it enters no
-    /// older tables. It does not where the front is older than what it knows, and says so. Takes no
-    /// memory, constant time, and waits for nobody.
+    /// older tables. It does not where what it knows begins with the front and has more, and says so.
+    /// Takes no memory, constant time, and waits for nobody.
     pub fn learn(&mut self, told: &Front) -> bool
         requires { told.now.book ≡ self.old.book }
         ensures told { MatchBool result
             ((self.new.known ≡ told.now.list) × IsPrefix self.old.known told.now.list)
-            (self.new.known ≡ self.old.known) }
+            ((self.new.known ≡ self.old.known) × IsShorter told.now.list self.old.known) }
         ensures book { self.new.book ≡ self.old.book }
         ensures out { self.new.inside ≡ false }
     {
@@ -162,21 +166,17 @@ impl SnapReader {
         }
     }
 
-    /// Enters, and answers a Range: the answer of some list of published operations that begins
-    /// with all that this reader has seen and was told of. The reader is borrowed while the reply
-    /// lives; what it has seen by it is known afterwards only where [`SnapReader::enter`] and
-    /// [`SnapReader::range`] are called apart.
+    /// Enters, and lends itself to be read by [`SnapReader::range`]. Once what was lent is gone, the
+    /// reader is within the tables that were read, and knows of their front.
     ///
-    /// The refusals are those of the two.
-    pub fn read<'a>(
-        reader: &'a mut SnapReader,
-        alloc: Global,
-        query: &RangeQuery,
-    ) -> Result<RangeReply<'a>, Refusal>
-        ensures { ReadsOrNot reader.old.known query.now result }
+    /// The only refusal is that of [`SnapReader::enter`], and the reader is then within no tables.
+    pub fn read(&mut self) -> Result<&SnapReader, Refusal>
+        ensures* after { sem 𝓛 (LendsReading self.entry result) }
+        ensures enters { IfOk result (λ r. Enters self.old r.now) }
+        ensures refusal { IfErr result (λ e. e ≡ refusal.NoPlace) }
     {
-        match reader.enter() {
-            Ok(()) => reader.range(alloc, query),
+        match self.enter() {
+            Ok(()) => Ok(self),
             Err(refusal) => Err(refusal),
         }
     }

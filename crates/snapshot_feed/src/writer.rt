@@ -1,9 +1,8 @@
 //! The writer's log: what is appended, listed and marked, and its publication.
 ghost use Rattle.std.specs.Prelude.{◌≡◌, ◌++◌, ◌∷◌, [], drop, true, OnOk, OnErr, MatchBool, MatchResult, ⊤};
-ghost use mathlib.Core.List.{IsPrefix};
 ghost use Rattle.kv_model.specs.Feed.{published};
 ghost use Rattle.left_right.specs.Sides.{view};
-ghost use Rattle.feed_book.specs.Feeds.{Beginning, IsFeed};
+ghost use Rattle.feed_book.specs.Feeds.{Beginning, IsFeed, IsShorter};
 ghost use Rattle.snapshot_feed.specs.Entries.{ops_of, marked_by};
 ghost use Rattle.snapshot_feed.specs.Shown.{Shows, IsOf, MayBeOf};
 ghost use Rattle.snapshot_feed.specs.States.{appended, settled, state_by, HasAll, IsListed};
@@ -31,10 +30,10 @@ struct Lists;
 
 impl<'a> Plain<Unlisted<'a>, Told, u64> for Lists {
     ghost use Rattle.std.specs.Prelude.{None, drop, length};
-    ghost use Rattle.snapshot_feed.specs.States.{appended, state_by};
+    ghost use Rattle.snapshot_feed.specs.States.{appended, publication, state_by};
 
-    ghost ask = { λ u. drop (length u.front.now.list) (appended (state_by
-        u.writer.now.desk.shown.value.front (drop u.writer.now.behind u.writer.now.log.items))) };
+    ghost ask = { λ u. publication (drop (length u.front.now.list) (appended (state_by
+        u.writer.now.desk.shown.value.front (drop u.writer.now.behind u.writer.now.log.items)))) };
 
     ghost state = { λ u. None };
 }
@@ -70,7 +69,7 @@ fn mark(writer: &mut FeedWriter, front: &Front) -> bool
 /// could.
 fn list(writer: &FeedWriter, book: &Book, front: &mut Front) -> bool
     requires book { book.now ≡ front.old.book }
-    requires listed { IsPrefix front.old.list (appended (state_by writer.now.desk.shown.value.front
+    requires listed { IsShorter front.old.list (appended (state_by writer.now.desk.shown.value.front
         (drop writer.now.behind writer.now.log.items))) }
     requires feed { IsFeed (appended (state_by writer.now.desk.shown.value.front
         (drop writer.now.behind writer.now.log.items))) }
@@ -94,17 +93,22 @@ fn list(writer: &FeedWriter, book: &Book, front: &mut Front) -> bool
     added
 }
 
-/// Lists all that was appended, and logs the mark of it; says whether it could.
-pub fn mark_all(writer: &mut FeedWriter, book: &Book, front: &mut Front) -> bool
+/// Lists all that was appended, unless it is listed, and logs the mark of it; says whether it could.
+pub fn mark_all(
+    writer: &mut FeedWriter,
+    book: &Book,
+    front: &mut Front,
+    is_listed: &mut bool,
+) -> bool
     requires book { book.now ≡ writer.old.desk.shown.value.front.book }
-    requires listed { IsListed front.old (state_by writer.old.desk.shown.value.front
+    requires listed { IsListed is_listed.old front.old (state_by writer.old.desk.shown.value.front
         (drop writer.old.behind writer.old.log.items)) }
     requires feed { IsFeed (appended (state_by writer.old.desk.shown.value.front
         (drop writer.old.behind writer.old.log.items))) }
     ensures desk { writer.new.desk ≡ writer.old.desk }
     ensures ops { ops_of (drop writer.new.behind writer.new.log.items)
         ≡ ops_of (drop writer.old.behind writer.old.log.items) }
-    ensures listed { IsListed front.new (state_by writer.new.desk.shown.value.front
+    ensures listed { IsListed is_listed.new front.new (state_by writer.new.desk.shown.value.front
         (drop writer.new.behind writer.new.log.items)) }
     ensures marked { MatchBool result
         (HasAll (marked_by writer.new.desk.shown.value.front
@@ -114,8 +118,11 @@ pub fn mark_all(writer: &mut FeedWriter, book: &Book, front: &mut Front) -> bool
         (drop writer.new.behind writer.new.log.items
         ≡ drop writer.old.behind writer.old.log.items) }
 {
-    if !list(&*writer, book, front) {
-        return false;
+    if !*is_listed {
+        if !list(&*writer, book, front) {
+            return false;
+        }
+        *is_listed = true;
     }
     mark(writer, front)
 }
@@ -138,6 +145,9 @@ pub fn publish_by<R: Wait>(writer: FeedWriter, rt: &R) -> (FeedWriter, Result<()
     ensures err { OnErr result.1
         (state_by result.0.desk.shown.value.front (drop result.0.behind result.0.log.items)
         ≡ state_by writer.desk.shown.value.front (drop writer.behind writer.log.items)) }
+    ensures entries { MatchResult result.1
+        (λ _. drop result.0.behind result.0.log.items ≡ [])
+        (λ _. drop result.0.behind result.0.log.items ≡ drop writer.behind writer.log.items) }
     ensures known { MatchResult result.1
         (λ _. IsOf result.0.desk.shown.value.front.book (view result.0.desk.place))
         (λ _. view result.0.desk.place ≡ view writer.desk.place) }

@@ -52,7 +52,10 @@ fn query() -> RangeQuery {
 /// The revision that a reader enters at, and how many live keys it finds; nothing where it does
 /// not.
 fn seen(alloc: Global, reader: &mut SnapReader) -> (u64, u64) {
-    match SnapReader::read(reader, alloc, &query()) {
+    let Ok(reading) = reader.read() else {
+        return (0, 0);
+    };
+    match reading.range(alloc, &query()) {
         Ok(reply) => (reply.revision, reply.count),
         Err(_) => (0, 0),
     }

@@ -1,15 +1,12 @@
-use Rattle.std.proofs.Common.{◌≤◌, ap, subst, arith, length, List}
-use Rattle.std.proofs.lemmas.Bool.Decides.{nat_tests}
+use Rattle.std.proofs.Common.{ap, subst, sym, refl, List}
 use mathlib.Core.List.{IsPrefix}
-use Rattle.kv_model.specs.Feed.{Published}
-use Rattle.feed_book.proofs.Prefixes.{prefix_shorter, flat-prefix}
+use Rattle.feed_book.specs.Feeds.{Publication}
+use Rattle.feed_book.proofs.Prefixes.{beginnings_by}
 use Rattle.feed_book.proofs.book.Front.begins_with.Goals as goal
 
 pub returns : goal.returns
-returns c is =
+returns c =
     let both = c.learn.new.self.log in
-    let this : IsPrefix c.self.inside.seen.log both = subst (λ (l : List (List Published)). IsPrefix l both) (ap (λ s. s.log) c.again-both.ensures) c.learn.ensures.2 in
-    let fewer : c.other.inside.count ≤ c.self.inside.count = grind (arith, nat_tests) in
-    let less : length c.other.inside.seen.log ≤ length c.self.inside.seen.log = omega (arith, c.self.invariant.0, c.other.invariant.0) in
+    let this : IsPrefix c.self.inside.seen.log both = subst (λ (l : List Publication). IsPrefix l both) (ap (λ s. s.log) c.again-both.ensures) c.learn.ensures.2 in
     rw (← c.self.view_is, ← c.other.view_is)
-    (flat-prefix _ _ (prefix_shorter c.other.inside.seen.log c.self.inside.seen.log both c.learn.ensures.3 this less))
+    (beginnings_by c.self.inside.seen.log c.other.inside.seen.log both _ _ _ this c.learn.ensures.3 (sym c.self.invariant.0) (sym c.other.invariant.0) refl)
