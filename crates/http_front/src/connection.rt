@@ -10,6 +10,7 @@ ghost use Rattle.engine_lock.specs.Locked.{Caller};
 ghost use Rattle.http_front.specs.Engines.{Answers, Finishes, Tells};
 
 use crate::by_engine::ByEngine;
+use crate::by_worker::{ByWorker, Serving};
 use engine_lock::{Client, Engine, EngineName};
 use http_loop::serve_all;
 use http_peer::{Clock, Gate};
@@ -76,4 +77,35 @@ where
         call,
     };
     serve_all(alloc, &by, client, r, w, u64::MAX)
+}
+
+/// As [`work`], for a client whose streams go on elsewhere: behind the created message of a watch
+/// nothing more is written, the connection is left, and the watch stands, whose number `serving` then
+/// has.
+pub(crate) fn work_on<L, G, C, R, In, Out>(
+    rt: &R,
+    alloc: Global,
+    engine: &Engine<L>,
+    serving: &mut Serving<L>,
+    gate: &G,
+    clock: &C,
+    call: u64,
+    r: &mut Counted<In>,
+    w: &mut Counted<Out>,
+) -> Result<u64, Front>
+where
+    L: EngineName,
+    G: Gate,
+    C: Clock,
+    R: Wait + time::Clock,
+    In: Read,
+    Out: Write,
+{
+    let events = Recorded { rt, engine, gate };
+    let by = ByEngine {
+        events,
+        clock,
+        call,
+    };
+    serve_all(alloc, &ByWorker { by }, serving, r, w, u64::MAX)
 }

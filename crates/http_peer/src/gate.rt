@@ -18,6 +18,10 @@ pub trait Gate {
         false
     }
 
+    /// Comes behind an event by which a watch fell behind, when the engine is held no more: there is
+    /// something to be told. A hint, of which no clause tells.
+    fn changed(&self) {}
+
     /// Whether the events are to be written down that the server makes. It says the same at each
     /// call.
     fn is_recorded(&self) -> bool {

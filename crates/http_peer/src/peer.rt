@@ -162,6 +162,10 @@ impl<'p, 's, G: Gate> Gate for PeerGate<'p, 's, G> {
         self.peer.is_ending() || self.peer.has_left() || self.gate.has_left(call)
     }
 
+    fn changed(&self) {
+        self.gate.changed();
+    }
+
     fn is_recorded(&self) -> bool {
         self.gate.is_recorded()
     }

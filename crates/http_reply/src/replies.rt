@@ -1,6 +1,6 @@
 //! Replies, and streams of messages.
 ghost use Rattle.std.specs.Prelude.{◌≡◌, ◌<◌, ◌≤◌, [], codes, decimal, if◌then◌else◌, length};
-ghost use Rattle.std.specs.Prelude.{IfErr};
+ghost use Rattle.std.specs.Prelude.{IfErr, OnOk};
 ghost use Rattle.http_reply.specs.Counts.{failures_of, inner_of};
 ghost use Rattle.http_reply.specs.Replies as spec;
 ghost use Rattle.http_reply.specs.Replies.{chunk, last_chunk, reply_bytes, stream_head};
@@ -10,8 +10,9 @@ ghost use Rattle.http_reply.specs.Sends.{Sends, failures_after};
 use crate::counted::Counted;
 use crate::front::Front;
 use crate::hexadecimal::hexadecimal;
-use crate::sending::ReplyBuffer;
+use crate::sending::{ReplyBuffer, put};
 use itoa::Buffer;
+use std::alloc::AllocError;
 use std::io::Write;
 
 /// Writes a reply (RFC 9112, section 2.1) of a status and a JSON body: the status line, the fields
@@ -98,6 +99,16 @@ pub fn write_chunk<W: Write>(
     let mut digits = [0; 16];
     let length = hexadecimal(message.len() as u64 + 1, &mut digits);
     buffer.send(w, &[length, b"\r\n", message, b"\n\r\n"])
+}
+
+/// Puts a message and a line feed, as one chunk of a stream (RFC 9112, section 7.1), in place of what
+/// a text had. Fails for want of memory. Copies the message once.
+pub fn put_chunk(text: &mut Vec<u8>, message: &[u8]) -> Result<(), AllocError>
+    ensures { OnOk result (text.new.items ≡ chunk message.now) }
+{
+    let mut digits = [0; 16];
+    let length = hexadecimal(message.len() as u64 + 1, &mut digits);
+    put(text, &[length, b"\r\n", message, b"\n\r\n"])
 }
 
 /// Writes the end of a stream: the chunk of length 0, and no trailer (RFC 9112, section 7.1). Fails
