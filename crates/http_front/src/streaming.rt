@@ -252,7 +252,7 @@ impl<'s, L: EngineName, G: Gate, C, R: Wait + time::Clock> Keeper<'s, L, G, C, R
                 Heard::More => {
                     let _ = self.watching.next.wet.push(number);
                 }
-                Heard::Left => self.end(number),
+                Heard::Left => self.close(number),
             }
         }
     }
@@ -270,12 +270,12 @@ impl<'s, L: EngineName, G: Gate, C, R: Wait + time::Clock> Keeper<'s, L, G, C, R
         while let Some(number) = self.watching.now.due.pop() {
             let events = self.shared.events(self.rt);
             match self.streams.turn(&events, number) {
-                Turn::Quiet | Turn::Blocked => {}
-                Turn::Wanting => self.wanting = true,
-                Turn::Again => {
+                None | Some(Turn::Quiet | Turn::Blocked) => {}
+                Some(Turn::Wanting) => self.wanting = true,
+                Some(Turn::Again) => {
                     let _ = self.watching.next.due.push(number);
                 }
-                Turn::Over => self.end(number),
+                Some(Turn::Done | Turn::Broken | Turn::Cut) => self.end(number),
             }
         }
     }
@@ -293,17 +293,22 @@ impl<'s, L: EngineName, G: Gate, C, R: Wait + time::Clock> Keeper<'s, L, G, C, R
         }
     }
 
+    /// A stream ends in order, as far as its client takes it, and its watch is ended.
+    fn close(&mut self, number: u64) {
+        let events = self.shared.events(self.rt);
+        self.streams.close(number);
+        let _ = self.streams.turn(&events, number);
+        self.end(number);
+    }
+
     /// The server ends: each stream ends in order.
     fn end_all(&mut self) {
         self.take_handed();
-        let events = self.shared.events(self.rt);
         for _ in 0..MOST_CLOSED {
             let Some(number) = self.streams.first() else {
                 return;
             };
-            self.streams.close(number);
-            let _ = self.streams.turn(&events, number);
-            self.end(number);
+            self.close(number);
         }
     }
 }

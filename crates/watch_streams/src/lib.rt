@@ -21,7 +21,9 @@
 mod line;
 mod streams;
 mod telling;
+mod turning;
 
 pub use line::Line;
-pub use streams::{Streams, Turn};
+pub use streams::Streams;
 pub use telling::{Next, tell};
+pub use turning::{Turn, turn};

@@ -1,13 +1,13 @@
 //! The stream of a watch between two waits.
-ghost use Rattle.std.specs.Prelude.{◌≡◌, ◌<◌, [], ◌++◌, drop, length, true, false, OnOk, OnErr};
+ghost use Rattle.std.specs.Prelude.{◌≡◌, ◌++◌, true, OnOk, OnErr};
 ghost use Rattle.http_reply.specs.Replies.{chunk, last_chunk};
 ghost use Rattle.watch_streams.specs.Lines.{Sends, begun_at, is_out, with_unsent};
 
-use http_reply::put_chunk;
+use http_reply::{Counted, put_chunk};
 use std::alloc::{AllocError, Global};
-use std::io;
-use std::io::Write;
+use std::io::{ErrorKind, Write};
 use std::marker::Model;
+use std::io;
 
 /// A line that is out gives the room of a longer rest back, in bytes.
 const MOST_KEPT: usize = 65_536;
@@ -18,23 +18,24 @@ const LAST_CHUNK: &[u8] = b"0\r\n\r\n";
 /// The stream of a watch between two waits: the number of the watch, that of its connection, whoever
 /// writes it, what has not gone out yet, and whether the stream has ended.
 ///
-/// Contracts see the bytes that the writer is known to hold, and those that have not gone out.
+/// Contracts see the bytes that the writer is known to hold, how often it failed, and the bytes that
+/// have not gone out.
 #[derive(Drop)]
 pub struct Line<W: Write> {
     number: u64,
     call: u64,
-    w: W,
+    w: Counted<W>,
     /// What was to go out at last; the first `sent` bytes of it have.
     rest: Vec<u8>,
     sent: usize,
     ended: bool,
     /// How often it was looked at since its writer took a byte.
     looks: u32,
-    ghost within: { sent ≤ length rest.items },
 }
 
 impl<W: Write> Model for Line<W> {
-    ghost use Rattle.std.specs.Prelude.{drop};
+    ghost use Rattle.std.specs.Prelude.{◌≤◌, drop, length};
+    ghost use Rattle.http_reply.specs.Counts.{failures_of, inner_of};
     ghost use Rattle.watch_streams.specs.Lines.{LineState};
 
     ghost Value = { LineState };
@@ -42,10 +43,13 @@ impl<W: Write> Model for Line<W> {
     ghost view = { λ l. record {
       number = l.number;
       call = l.call;
-      wrote = W.contents l.w;
+      wrote = W.contents (inner_of l.w);
+      failures = failures_of l.w;
       unsent = drop l.sent l.rest.items;
       ended = l.ended;
     } };
+
+    ghost invariant = { λ l. l.sent ≤ length l.rest.items };
 }
 
 impl<W: Write> Line<W> {
@@ -56,7 +60,7 @@ impl<W: Write> Line<W> {
         Line {
             number,
             call,
-            w,
+            w: Counted::new(w),
             rest: Vec::new(alloc),
             sent: 0,
             ended: false,
@@ -78,9 +82,9 @@ impl<W: Write> Line<W> {
         self.call
     }
 
-    /// Whoever writes it.
+    /// Whoever writes it, lent.
     pub fn writer(&self) -> &W {
-        &self.w
+        self.w.get_ref()
     }
 
     /// Whether all has gone out. Takes no memory.
@@ -97,8 +101,8 @@ impl<W: Write> Line<W> {
         self.ended
     }
 
-    /// A message is to go out, as one chunk. `AllocError` comes where no memory was found for it, and
-    /// then nothing has changed. Copies the message once.
+    /// A message is to go out, as one chunk, where all before it has. `AllocError` comes where no
+    /// memory was found for it, and then nothing has changed. Copies the message once.
     pub fn put(&mut self, message: &[u8]) -> Result<(), AllocError>
         requires { is_out self.old ≡ true }
         ensures ok { OnOk result (self.new ≡ with_unsent (chunk message.now) self.old) }
@@ -124,18 +128,32 @@ impl<W: Write> Line<W> {
         Ok(())
     }
 
-    /// Makes one write of what has not gone out, and gives how many bytes were taken. Fails as the
-    /// write does, and then nothing has changed.
-    pub fn send(&mut self, alloc: Global) -> io::Result<usize>
+    /// Makes one write of what has not gone out, and gives how many bytes were taken. Where it fails,
+    /// or takes none, nothing has changed, and the error says whether it may be made again: the writer
+    /// takes nothing now, or a signal came.
+    pub fn send(&mut self, alloc: Global) -> Result<usize, bool>
         ensures { Sends self.old self.new result }
     {
-        let taken = self.w.write(&self.rest[self.sent..])?;
-        self.sent += taken;
-        if taken > 0 {
-            self.looks = 0;
+        match self.w.write(&self.rest[self.sent..]) {
+            Ok(taken) if taken > 0 => {
+                self.sent += taken;
+                self.looks = 0;
+                self.let_go(alloc);
+                Ok(taken)
+            }
+            Ok(_) => Err(false),
+            Err(error) => Err(may_be_made_again(&error)),
         }
-        self.let_go(alloc);
-        Ok(taken)
+    }
+
+    /// Gives the room of a long rest back that has gone out.
+    fn let_go(&mut self, alloc: Global)
+        ensures { self.new ≡ self.old }
+    {
+        if self.sent == self.rest.len() && self.rest.capacity() > MOST_KEPT {
+            self.rest = Vec::new(alloc);
+            self.sent = 0;
+        }
     }
 
     /// Takes note that it was looked at, and says whether anything has not gone out.
@@ -153,14 +171,9 @@ impl<W: Write> Line<W> {
     pub fn is_stale(&self, looks: u32) -> bool {
         self.looks >= looks
     }
+}
 
-    /// Gives the room of a long rest back that has gone out.
-    fn let_go(&mut self, alloc: Global)
-        ensures { self.new ≡ self.old }
-    {
-        if self.sent == self.rest.len() && self.rest.capacity() > MOST_KEPT {
-            self.rest = Vec::new(alloc);
-            self.sent = 0;
-        }
-    }
+/// Whether a write that failed so may be made again.
+fn may_be_made_again(error: &io::Error) -> bool {
+    matches!(error.kind(), ErrorKind::WouldBlock | ErrorKind::Interrupted)
 }

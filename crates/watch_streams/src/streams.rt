@@ -1,37 +1,13 @@
 //! The streams that stand, and the client that has their watches told.
-ghost use Rattle.std.specs.Prelude.{◌≡◌};
-
 use crate::line::Line;
-use crate::telling::{Next, tell};
+use crate::turning::{Turn, turn};
 use engine_lock::{Client, EngineName};
 use http_peer::Gate;
 use recorded_engine::Recorded;
 use std::alloc::{AllocError, Global};
 use std::collections::BTreeMap;
-use std::io::{ErrorKind, Write};
+use std::io::Write;
 use std::sync::Wait;
-
-/// How many writes and messages a turn makes at most.
-const MOST_STEPS: u64 = 16;
-
-/// After so many looks at which its writer has taken no byte a stream is over.
-const MOST_LOOKS: u32 = 10;
-
-/// Where a stream stands after a turn.
-#[derive(Clone, Copy, Debug, PartialEq, Eq)]
-pub enum Turn {
-    /// There is nothing to be told now, and all has gone out.
-    Quiet,
-    /// Its writer takes no more now.
-    Blocked,
-    /// No memory was found for its next message, which was not told: it may be asked for again.
-    Wanting,
-    /// There may be more at once.
-    Again,
-    /// Nothing more goes out: it has ended and all has gone out, a write failed or took nothing, or no
-    /// memory was found to let a message go out.
-    Over,
-}
 
 /// The streams that stand, each by the number of its watch, and the client of the engine that has
 /// these told.
@@ -77,8 +53,7 @@ impl<L: EngineName, W: Write + Drop> Streams<L, W> {
     }
 
     /// Adds the numbers of those streams to a list of which something has not gone out, in rising
-    /// order, up to the first that finds no memory there. Each of these that took nothing since it was
-    /// called ten times before fails at its next turn.
+    /// order, up to the first that finds no memory there.
     pub fn look(&mut self, list: &mut Vec<u64>) {
         for (number, line) in self.lines.iter_mut() {
             if line.ages() && list.push(*number).is_err() {
@@ -95,36 +70,15 @@ impl<L: EngineName, W: Write + Drop> Streams<L, W> {
         Ok(())
     }
 
-    /// A turn of a stream: what has not gone out does, as far as it is taken, and then it is told what
-    /// there is, and so on, up to 16 such steps. `Over` where no such stream stands.
+    /// A turn of a stream; none where no such stream stands.
     pub fn turn<G: Gate, R: Wait>(
         &mut self,
         events: &Recorded<'_, L, G, R>,
         number: u64,
-    ) -> Turn {
-        for _ in 0..MOST_STEPS {
-            if let Some(turn) = self.step(events, number) {
-                return turn;
-            }
-        }
-        Turn::Again
-    }
-
-    /// One step of a turn; `None` where another may follow.
-    fn step<G: Gate, R: Wait>(
-        &mut self,
-        events: &Recorded<'_, L, G, R>,
-        number: u64,
     ) -> Option<Turn> {
-        let Some(line) = self.lines.get_mut(&number) else {
-            return Some(Turn::Over);
-        };
-        match tell(events, &mut self.client, line) {
-            Next::Told | Next::Ended => None,
-            Next::Quiet => Some(Turn::Quiet),
-            Next::Wanting => Some(Turn::Wanting),
-            Next::Cut => Some(Turn::Over),
-            Next::Waits => sent(self.alloc, line),
+        match self.lines.get_mut(&number) {
+            Some(line) => Some(turn(self.alloc, events, &mut self.client, line)),
+            None => None,
         }
     }
 
@@ -142,22 +96,5 @@ impl<L: EngineName, W: Write + Drop> Streams<L, W> {
                 let _ = line.end();
             }
         }
-    }
-}
-
-/// One write of what has not gone out; what the turn comes to, where none is to follow.
-fn sent<W: Write>(alloc: Global, line: &mut Line<W>) -> Option<Turn> {
-    if line.is_out() {
-        return Some(Turn::Over);
-    }
-    match line.send(alloc) {
-        Ok(0) => Some(Turn::Over),
-        Ok(_) => None,
-        Err(error) => match error.kind() {
-            ErrorKind::WouldBlock if line.is_stale(MOST_LOOKS) => Some(Turn::Over),
-            ErrorKind::WouldBlock => Some(Turn::Blocked),
-            ErrorKind::Interrupted => None,
-            _ => Some(Turn::Over),
-        },
     }
 }

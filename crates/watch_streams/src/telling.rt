@@ -1,5 +1,4 @@
 //! What a stream is told next, by an engine.
-ghost use Rattle.std.specs.Prelude.{◌≡◌};
 ghost use Rattle.watch_streams.specs.Streams.{TellsNext};
 
 use crate::line::Line;
@@ -17,7 +16,7 @@ pub enum Next {
     Told,
     /// There is nothing to be told now.
     Quiet,
-    /// Its watch was cancelled, or is no more: the last chunk is to go out.
+    /// Its watch is no more, as it is behind a message that cancels it: the last chunk is to go out.
     Ended,
     /// No memory was found for the message, and it was not told: it may be asked for again.
     Wanting,

@@ -15,11 +15,10 @@ impl<L: EngineName> Engine<L> {
         self.news.load(Ordering::SeqCst) && self.news.swap(false, Ordering::SeqCst)
     }
 
-    /// Puts the numbers of the watches that are behind in place of what a list had, in rising order:
-    /// each has something to be told. Where the list finds no memory, they are the first of them. A
-    /// hint, of which no clause tells. One holding of the lock, linear in the number of the watches.
+    /// Adds the numbers of the watches that are behind to a list, in rising order: each has something
+    /// to be told. Where the list finds no memory, they are the first of them. A hint, of which no
+    /// clause tells. One holding of the lock, linear in the number of the watches.
     pub fn behind<R: Wait>(&self, rt: &R, numbers: &mut Vec<u64>) {
-        numbers.clear();
         locked(rt, &self.state).behind(numbers);
     }
 
