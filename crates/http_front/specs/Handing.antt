@@ -1,5 +1,5 @@
 -- What an engine answers a connection whose streams go on elsewhere.
-use Rattle.std.specs.Prelude.{◌≡◌, ◌×◌, ℕ, Option, None, Some, ⊥}
+use Rattle.std.specs.Prelude.{◌≡◌, ℕ, Option, None, Some}
 use Rattle.kv_model.specs.declared.ids.Ids.{Ids}
 use Rattle.http_head.specs.Requests.{Asked}
 use Rattle.json_gateway.specs.declared.outcome.Outcome.{Outcome}

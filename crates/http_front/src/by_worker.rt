@@ -9,6 +9,7 @@ use http_loop::{Answering, Told};
 use http_peer::{Clock, Gate};
 use json_gateway::Outcome;
 use std::alloc::Global;
+use std::marker::Model;
 use std::sync::Wait;
 use std::time;
 
@@ -19,11 +20,18 @@ pub(crate) struct Serving<L: EngineName> {
     pub(crate) handed: Option<u64>,
 }
 
+impl<L: EngineName> Model for Serving<L> {
+    ghost use Rattle.http_front.specs.Handing.{Hands};
+
+    ghost Value = { Hands };
+
+    ghost view = { λ s. record { client = s.client; handed = s.handed } };
+}
+
 impl<L: EngineName> Serving<L> {
     /// Nothing goes on elsewhere yet.
     pub(crate) fn new(client: Client<L>) -> Self
-        ensures client { result.client ≡ client }
-        ensures handed { result.handed ≡ None }
+        ensures { result ≡ record { client = client; handed = None } }
     {
         Serving {
             client,

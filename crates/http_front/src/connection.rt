@@ -8,6 +8,8 @@ ghost use Rattle.http_loop.specs.Texts.{IsOfConnection};
 ghost use Rattle.http_loop.specs.Turned.{NotBegun, Serves, progress};
 ghost use Rattle.engine_lock.specs.Locked.{Caller};
 ghost use Rattle.http_front.specs.Engines.{Answers, Finishes, Tells};
+ghost use Rattle.http_front.specs.Handing as handing;
+ghost use Rattle.http_front.specs.Handing.{Hands};
 
 use crate::by_engine::ByEngine;
 use crate::by_worker::{ByWorker, Serving};
@@ -61,7 +63,7 @@ where
     Out: Write,
     ensures serves { NotBegun client.old client.new
         (Out.contents (inner_of w.old)) (Out.contents (inner_of w.new)) result
-        ⊎ Serves Caller (IsAnswered Caller (Answers engine.now) (Tells engine.now) Finishes)
+        ⊎ Serves Caller (IsAnswered Caller (Answers engine.now) (Tells engine.now (G.Left gate.now call)) Finishes)
         18446744073709551615
         (progress client.old (In.remaining (inner_of r.old)) [] (Out.contents (inner_of w.old)))
         (Out.contents (inner_of w.new)) client.new result }
@@ -100,6 +102,15 @@ where
     R: Wait + time::Clock,
     In: Read,
     Out: Write,
+    ensures serves { NotBegun serving.old serving.new
+        (Out.contents (inner_of w.old)) (Out.contents (inner_of w.new)) result
+        ⊎ Serves Hands (IsAnswered Hands (handing.Answers engine.now) handing.Tells handing.Finishes)
+        18446744073709551615
+        (progress serving.old (In.remaining (inner_of r.old)) [] (Out.contents (inner_of w.old)))
+        (Out.contents (inner_of w.new)) serving.new result }
+    ensures reader { failures_of r.new ≡ failures_after_read result (failures_of r.old) }
+    ensures writer { failures_of w.new ≡ failures_after result (failures_of w.old) }
+    ensures fault { IfErr result IsOfConnection }
 {
     let events = Recorded { rt, engine, gate };
     let by = ByEngine {

@@ -1,6 +1,7 @@
 //! Replies, and streams of messages.
 ghost use Rattle.std.specs.Prelude.{◌≡◌, ◌<◌, ◌≤◌, [], codes, decimal, if◌then◌else◌, length};
-ghost use Rattle.std.specs.Prelude.{IfErr, OnOk};
+ghost use Rattle.std.specs.Prelude.{◌+◌, false, IfErr, OnOk};
+ghost use Rattle.std.specs.Fmt.{digits};
 ghost use Rattle.http_reply.specs.Counts.{failures_of, inner_of};
 ghost use Rattle.http_reply.specs.Replies as spec;
 ghost use Rattle.http_reply.specs.Replies.{chunk, last_chunk, reply_bytes, stream_head};
@@ -96,8 +97,8 @@ pub fn write_chunk<W: Write>(
         × (1024 < length (chunk message.now))) }
     ensures room { buffer.old ≤ buffer.new }
 {
-    let mut digits = [0; 16];
-    let length = hexadecimal(message.len() as u64 + 1, &mut digits);
+    let mut places = [0; 16];
+    let length = length_of(message, &mut places);
     buffer.send(w, &[length, b"\r\n", message, b"\n\r\n"])
 }
 
@@ -106,8 +107,8 @@ pub fn write_chunk<W: Write>(
 pub fn put_chunk(text: &mut Vec<u8>, message: &[u8]) -> Result<(), AllocError>
     ensures { OnOk result (text.new.items ≡ chunk message.now) }
 {
-    let mut digits = [0; 16];
-    let length = hexadecimal(message.len() as u64 + 1, &mut digits);
+    let mut places = [0; 16];
+    let length = length_of(message, &mut places);
     put(text, &[length, b"\r\n", message, b"\n\r\n"])
 }
 
@@ -123,6 +124,13 @@ pub fn write_last_chunk<W: Write>(buffer: &mut ReplyBuffer, w: &mut Counted<W>) 
     ensures room { buffer.old ≤ buffer.new }
 {
     buffer.send(w, &[b"0\r\n\r\n"])
+}
+
+/// The length of a message and its line feed, in hexadecimal.
+fn length_of<'a>(message: &[u8], places: &'a mut [u8; 16]) -> &'a [u8]
+    ensures { result.now ≡ digits 16 false (length message.now + 1) }
+{
+    hexadecimal(message.len() as u64 + 1, places)
 }
 
 /// The reason phrase of a status (RFC 9110, section 15).

@@ -1,5 +1,5 @@
 -- What the stream of a watch is told by an engine, on behalf of one of its clients.
-use Rattle.std.specs.Prelude.{◌≡◌, ◌×◌, ◌⊎◌, ℕ, List, [], Bool, true, false, Vec}
+use Rattle.std.specs.Prelude.{◌≡◌, ◌⊎◌, ℕ, List, [], Bool, true, false, Vec}
 use Rattle.std.specs.Global.{Global}
 use Rattle.kv_model.specs.declared.ids.Ids.{Ids}
 use Rattle.json_gateway.specs.declared.outcome.Message.{Message}

@@ -1,5 +1,5 @@
 -- A turn of a stream: writes of what has not gone out, and messages of the engine, one after the other.
-use Rattle.std.specs.Prelude.{◌≡◌, ◌×◌, ℕ, ◌==◌, List, [], ◌∷◌, ◌++◌, Bool, true, false, Option, None, Some, Result, Ok, Err, if◌then◌else◌, ⊥}
+use Rattle.std.specs.Prelude.{◌≡◌, ℕ, ◌==◌, List, [], ◌∷◌, ◌++◌, Bool, true, false, Option, None, Some, Result, Ok, Err, if◌then◌else◌}
 use Rattle.std.specs.Io.KnownBytes.{Appends, append_known}
 use Rattle.kv_model.specs.declared.ids.Ids.{Ids}
 use Rattle.json_gateway.specs.declared.outcome.Message.{Message}
@@ -14,13 +14,12 @@ use Rattle.watch_streams.specs.declared.telling.Next.TheVariants as next
 use Rattle.watch_streams.specs.declared.turning.Turn.{Turn}
 use Rattle.watch_streams.specs.declared.turning.Turn.TheVariants as turn
 
--- one write, and what the turn comes to by it
-abbrev pub SentIs : LineState → Option Turn → LineState → Type 0
-SentIs l None new = (n : ℕ) × Sends l new (Ok n)
-SentIs l (Some turn.Done) new = (is_out l ≡ true) × (new ≡ l)
-SentIs l (Some turn.Blocked) new = Sends l new (Err true)
-SentIs l (Some turn.Broken) new = (again : Bool) × Sends l new (Err again)
-SentIs l (Some _) new = ⊥
+-- one write, and what the turn comes to by it, where it is the last step
+pub data SentIs (l : LineState) : Option Turn → LineState → Type 0 where
+  some : {new : LineState} (n : ℕ) → Sends l new (Ok n) → SentIs l None new
+  none : is_out l ≡ true → SentIs l (Some turn.Done) l
+  blocked : {new : LineState} → Sends l new (Err true) → SentIs l (Some turn.Blocked) new
+  broken : {new : LineState} (again : Bool) → Sends l new (Err again) → SentIs l (Some turn.Broken) new
 
 -- one step: a message, or a write of what has not gone out; and what the turn comes to, where it is the last
 pub data Steps (ids : Ids) (c : Caller) (l : LineState) : Option Turn → Caller → LineState → Type 0 where
@@ -36,10 +35,10 @@ pub data Goes (ids : Ids) (c : Caller) (l : LineState) : Caller → LineState �
   stays : Goes ids c l c l
   more : {c' d : Caller} {l' m : LineState} → Goes ids c l c' l' → Steps ids c' l' None d m → Goes ids c l d m
 
--- a turn, whose last step says what it comes to, or which has more steps to come
-abbrev pub Turned : Ids → Caller → LineState → Turn → Caller → LineState → Type 0
-Turned ids c l turn.Again d m = Goes ids c l d m
-Turned ids c l t d m = (c' : Caller) × (l' : LineState) × Goes ids c l c' l' × Steps ids c' l' (Some t) d m
+-- a turn: its last step says what it comes to; or there are more steps to come
+pub data Turned (ids : Ids) (c : Caller) (l : LineState) : Turn → Caller → LineState → Type 0 where
+  on : {d : Caller} {m : LineState} → Goes ids c l d m → Turned ids c l turn.Again d m
+  last : {c' d : Caller} {l' m : LineState} {t : Turn} → Goes ids c l c' l' → Steps ids c' l' (Some t) d m → Turned ids c l t d m
 
 abbrev pub is_cut : Turn → Bool
 is_cut turn.Cut = true
