@@ -93,11 +93,11 @@ where
     In: BufRead,
     Out: Write,
 {
-    fn direct(&mut self, engine: &Engine<L>, client: &mut Client<L>) {
+    fn direct<T: Gate>(&mut self, engine: &Engine<L>, client: &mut Client<L>, gate: &T) {
         let events = Recorded {
             rt: self.rt,
             engine,
-            gate: self.gate,
+            gate,
         };
         let orders = Orders { events };
         self.told = control(self.alloc, &orders, client, self.r, self.w);

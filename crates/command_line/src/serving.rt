@@ -17,7 +17,7 @@ use json_gateway::{Core, Ids};
 use std::alloc::Global;
 use std::io::Write;
 use std::marker::Brand;
-use std::net::TcpListener;
+use std::net::{Net, TcpListener};
 use std::sync::Wait;
 use std::thread::Threads;
 use std::time::Instant;
@@ -56,7 +56,7 @@ fn millis_between(start: Instant, now: Instant) -> u64
 /// `Fault::Memory` where memory is wanting for the engine, and with `Fault::Server` as
 /// `http_front::pool` fails; then nothing is written. Fails with `Fault::Write` where the line could
 /// not be written; then a front of it was.
-pub fn serve_on<R: Wait + Threads + time::Clock + Sync, W: Write>(
+pub fn serve_on<R: Wait + Threads + time::Clock + Net + Sync, W: Write>(
     rt: &R,
     alloc: Global,
     listener: &TcpListener,
@@ -87,7 +87,7 @@ pub fn serve_by<G, R, W: Write>(
 ) -> Result<(), Fault>
 where
     G: Gate + Sync,
-    R: Wait + Threads + time::Clock + Sync,
+    R: Wait + Threads + time::Clock + Net + Sync,
     ensures ok { OnOk result ((core : _) × IsStanding core
         × Appends (W.contents w.old) (W.contents w.new) (closing_line core.store.revision)) }
     ensures unwritten { IfErr result (λ fault. is_write fault ≡ false → w.new ≡ w.old) }
@@ -140,7 +140,7 @@ fn write_line<W: Write>(w: &mut W, revision: u64) -> io::Result<()>
 }
 
 /// Runs a server, and gives the revision of its core when it has ended.
-fn run_server<G: Gate + Sync, R: Wait + Threads + time::Clock + Sync>(
+fn run_server<G: Gate + Sync, R: Wait + Threads + time::Clock + Net + Sync>(
     rt: &R,
     alloc: Global,
     listener: &TcpListener,
@@ -157,11 +157,12 @@ fn run_server<G: Gate + Sync, R: Wait + Threads + time::Clock + Sync>(
     }
 }
 
-/// How many clients a server has: one for each worker, and one for the leases that end.
+/// How many clients a server has: one for each worker, one for the leases that end or for the lines
+/// that control it, and one for the streams of watches.
 pub(crate) fn clients_of(serve: &Serve<'_>) -> u64
-    ensures { result ≡ min (serve.now.workers + 1) (2 ^ 64 - 1) }
+    ensures { result ≡ min (serve.now.workers + 2) (2 ^ 64 - 1) }
 {
-    serve.workers.saturating_add(1)
+    serve.workers.saturating_add(2)
 }
 
 fn closed_revision<L: EngineName + Send + Sync, G: Gate + Sync, R>(
@@ -173,7 +174,7 @@ fn closed_revision<L: EngineName + Send + Sync, G: Gate + Sync, R>(
     gate: &G,
 ) -> Result<u64, Fault>
 where
-    R: Wait + Threads + time::Clock + Sync,
+    R: Wait + Threads + time::Clock + Net + Sync,
     requires name { opening.name ≡ L.Ledger.name }
     requires parts { opening.parts ≡ L.Ledger.parts }
     requires book { opening.book ≡ L.book }
@@ -238,7 +239,7 @@ fn run_pool<L: EngineName + Send + Sync, G: Gate + Sync, R>(
     gate: &G,
 ) -> Result<u64, Fault>
 where
-    R: Wait + Threads + time::Clock + Sync,
+    R: Wait + Threads + time::Clock + Net + Sync,
     requires cluster { engine.cluster ≡ serve.now.cluster }
     requires member { engine.member ≡ serve.now.member }
     ensures revision { IfOk result IsOfCore }

@@ -10,6 +10,7 @@ ghost use Rattle.engine_lock.specs.Locked.{left, plus, rise, rise_of_expiry, tol
 ghost use Rattle.engine_lock.specs.declared.past.Given.TheVariants as given;
 
 mod orders;
+mod watching;
 mod writing;
 
 use crate::asked::Asked;
@@ -23,6 +24,7 @@ use request_core::store::Core;
 use std::alloc::{AllocError, Global};
 use std::hint::spin_loop;
 use std::marker::Model;
+use std::sync::atomic::AtomicBool;
 use std::sync::ledger::Ledger;
 use std::sync::{Mutex, MutexGuard, Wait};
 use std::thread::yield_now;
@@ -42,6 +44,8 @@ pub struct Engine<L: EngineName> {
     alloc: Global,
     ids: Ids,
     state: Mutex<State<L>>,
+    /// Whether a watch fell behind since somebody asked.
+    news: AtomicBool,
 }
 
 impl<L: EngineName> Model for Engine<L> {
@@ -79,6 +83,7 @@ impl<L: EngineName> Engine<L> {
             alloc,
             ids,
             state: Mutex::new(State::new(alloc, opening, false)),
+            news: AtomicBool::new(false),
         }
     }
 
@@ -249,7 +254,10 @@ impl<L: EngineName> Engine<L> {
             (rise_of_expiry result)) { reader = client.new.reader } }
     {
         client.leave();
-        locked(rt, &self.state).expire(rt, client, now)
+        let mut state = locked(rt, &self.state);
+        let step = state.expire(rt, client, now);
+        self.note_news(&mut state);
+        step
     }
 
     /// Ends the engine, and gives back its core, where every client that it made came back. Then
@@ -266,7 +274,12 @@ impl<L: EngineName> Engine<L> {
         ensures clients { IfErr result (λ f. f.clients ≡ clients) }
         ensures ids { IfErr result (λ f. f.engine ≡ self) }
     {
-        let Engine { alloc, ids, state } = self;
+        let Engine {
+            alloc,
+            ids,
+            state,
+            news,
+        } = self;
         let state = state.into_inner();
         if state.has_all(&clients) {
             return Ok(state.finish(rt, clients));
@@ -275,6 +288,7 @@ impl<L: EngineName> Engine<L> {
             alloc,
             ids,
             state: Mutex::new(state),
+            news,
         };
         Err(CloseFault { engine, clients })
     }

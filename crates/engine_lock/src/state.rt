@@ -24,6 +24,7 @@ ghost use Rattle.engine_lock.specs.Locked.{plus, rise, rise_of_expiry, told_to, 
 ghost use Rattle.engine_lock.specs.declared.past.Given.TheVariants as given;
 
 mod orders;
+mod watching;
 mod writing;
 
 use crate::MOST_CLIENTS;

@@ -56,11 +56,12 @@ answers : (ids : Ids) (c c' : Caller) (a : Asked) (o : Outcome) → Answers ids 
 answers ids c c' a o (inl did) = done ids c c' (asking_by a did.command) did.command o did.does
 answers ids c c' a o (inr refused) = let e = ap (λ (c : Caller). c.made) refused.same in omega (arith, e)
 
-tells : (ids : Ids) (c c' : Caller) (n : ℕ) (x : Told) → Tells ids c n x c' → c'.made ≡ c.made
-tells ids c c' n (told.Text x) h = ap (λ (c : Caller). c.made) h.1
-tells ids c c' n told.End (inl h) = ap (λ (c : Caller). c.made) h
-tells ids c c' n told.End (inr h) = ap (λ (c : Caller). c.made) h
-tells ids c c' n told.Memory h = absurd h
+tells : (ids : Ids) (Left : Type 0) (c c' : Caller) (n : ℕ) (x : Told) → Tells ids Left c n x c' → c'.made ≡ c.made
+tells ids Left c c' n (told.Text x) h = ap (λ (c : Caller). c.made) h.1
+tells ids Left c c' n told.End (inl h) = ap (λ (c : Caller). c.made) h
+tells ids Left c c' n told.End (inr h) = ap (λ (c : Caller). c.made) h.1
+tells ids Left c c' n told.Memory h = absurd h
+tells ids Left c c' n told.Away h = absurd h
 
 finishes : (c c' : Caller) (w : Option ℕ) → Finishes c w c' → c'.made ≡ c.made
 finishes c c' None h = ap (λ (c : Caller). c.made) h
@@ -68,32 +69,33 @@ finishes c c' (Some n) h = ap (λ (c : Caller). c.made) h.2
 
 -- ---- a request
 
-messages : (ids : Ids) (n k : ℕ) (s t : Caller) (out : List ℕ) (r : Result Bool Front) → AreMessages Caller (Tells ids) n k s out t r → t.made ≡ s.made
-messages ids n _ s t out r (AreMessages.quiet k h sent) = tells ids s t n told.End h
-messages ids n _ s t _ r (AreMessages.more {t = u} {out} k x h later) = messages ids n k u t out r later ∙ tells ids s u n (told.Text x) h
-messages ids n _ s t out _ (AreMessages.cut k x h sent) = tells ids s t n (told.Text x) h
-messages ids n _ s t _ _ (AreMessages.untold k h) = tells ids s t n told.Memory h
-messages ids n _ s _ out r (AreMessages.spent sent) = refl
+messages : (ids : Ids) (Left : Type 0) (n k : ℕ) (s t : Caller) (out : List ℕ) (r : Result Bool Front) → AreMessages Caller (Tells ids Left) n k s out t r → t.made ≡ s.made
+messages ids Left n _ s t out r (AreMessages.quiet k h sent) = tells ids Left s t n told.End h
+messages ids Left n _ s t _ r (AreMessages.more {t = u} {out} k x h later) = messages ids Left n k u t out r later ∙ tells ids Left s u n (told.Text x) h
+messages ids Left n _ s t out _ (AreMessages.cut k x h sent) = tells ids Left s t n (told.Text x) h
+messages ids Left n _ s t _ _ (AreMessages.untold k h) = tells ids Left s t n told.Memory h
+messages ids Left n _ s t _ _ (AreMessages.away k h) = tells ids Left s t n told.Away h
+messages ids Left n _ s _ out r (AreMessages.spent sent) = refl
 
-streams : (ids : Ids) (n : ℕ) (created : List ℕ) (s t : Caller) (out : List ℕ) (r : Result Bool Front) → IsStream Caller (Tells ids) n created s out t r
+streams : (ids : Ids) (Left : Type 0) (n : ℕ) (created : List ℕ) (s t : Caller) (out : List ℕ) (r : Result Bool Front) → IsStream Caller (Tells ids Left) n created s out t r
     → t.made ≡ s.made
-streams ids n created s _ out _ (IsStreamOf.headless sent) = refl
-streams ids n created s _ _ _ (IsStreamOf.uncreated out sent) = refl
-streams ids n created s t _ r (IsStreamOf.whole {out} later) = messages ids n _ s t out r later
+streams ids Left n created s _ out _ (IsStreamOf.headless sent) = refl
+streams ids Left n created s _ _ _ (IsStreamOf.uncreated out sent) = refl
+streams ids Left n created s t _ r (IsStreamOf.whole {out} later) = messages ids Left n _ s t out r later
 
-is_told : (ids : Ids) (w : Option ℕ) (x : Settled) (close : Bool) (s t : Caller) (out : List ℕ) (r : Result Bool Front)
-    → IsTold Caller (Tells ids) w x close s out t r → t.made ≡ s.made
-is_told ids None x close s t out r h = ap (λ (c : Caller). c.made) h.0
-is_told ids (Some n) x close s t out r h = streams ids n _ s t out r h
+is_told : (ids : Ids) (Left : Type 0) (w : Option ℕ) (x : Settled) (close : Bool) (s t : Caller) (out : List ℕ) (r : Result Bool Front)
+    → IsTold Caller (Tells ids Left) w x close s out t r → t.made ≡ s.made
+is_told ids Left None x close s t out r h = ap (λ (c : Caller). c.made) h.0
+is_told ids Left (Some n) x close s t out r h = streams ids Left n _ s t out r h
 
-module _ (ids : Ids) where
+module _ (ids : Ids) (Left : Type 0) where
   abbrev Is : Caller → Asked → List ℕ → Caller → Result Bool Front → Type 0
-  Is = IsAnswered Caller (Answers ids) (Tells ids) Finishes
+  Is = IsAnswered Caller (Answers ids) (Tells ids Left) Finishes
 
   answered : (s t : Caller) (a : Asked) (out : List ℕ) (r : Result Bool Front) → Is s a out t r → s.made ≤ t.made
   answered s t a out r d =
       let first = answers ids s d.done a d.outcome d.answers in
-      let told = is_told ids (streamed d.outcome.settled d.outcome.watch) d.outcome.settled a.close d.done d.written out r d.told in
+      let told = is_told ids Left (streamed d.outcome.settled d.outcome.watch) d.outcome.settled a.close d.done d.written out r d.told in
       let last = finishes d.written t d.outcome.watch d.finishes in
       omega (arith, first, told, last)
 

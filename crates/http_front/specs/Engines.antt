@@ -162,12 +162,13 @@ abbrev pub Answers : Ids → Caller → Asked → Outcome → Caller → Type 0
 Answers ids c a o c' = Did ids c a o c' ⊎ Refused c a o c'
 
 -- A stream is told what the engine told its watch, from a core that had all changes that the client had made. It ends
--- where there is no such watch, or its client has left.
-abbrev pub Tells : Ids → Caller → ℕ → Told → Caller → Type 0
-Tells ids c n (told.Text x) c' = lock.TellsTo ids c.made n (message.Text x)
+-- where there is no such watch, or where somebody said that its client has left.
+abbrev pub Tells : Ids → Type 0 → Caller → ℕ → Told → Caller → Type 0
+Tells ids Left c n (told.Text x) c' = lock.TellsTo ids c.made n (message.Text x)
     × (c' ≡ plus (left c) (given.Told n (message.Text x)))
-Tells ids c n told.End c' = (c' ≡ plus (left c) (given.Told n message.NoWatch)) ⊎ (c' ≡ left c)
-Tells ids c n told.Memory c' = ⊥
+Tells ids Left c n told.End c' = (c' ≡ plus (left c) (given.Told n message.NoWatch)) ⊎ (Left × (c' ≡ left c))
+Tells ids Left c n told.Memory c' = ⊥
+Tells ids Left c n told.Away c' = ⊥
 
 -- Behind a reply the watch that its request made is ended.
 abbrev pub Finishes : Caller → Option ℕ → Caller → Type 0

@@ -4,6 +4,7 @@ ghost use Rattle.trim_core.specs.Told.{told_of};
 ghost use Rattle.json_gateway.specs.Endings.{is_done};
 ghost use Rattle.engine_lock.specs.Locked.{Trims};
 
+use crate::handing::Waking;
 use crate::shared::Shared;
 use engine_lock::{Client, EngineName};
 use http_peer::{Clock, Gate};
@@ -61,7 +62,12 @@ pub(crate) fn keep_expiring<L: EngineName, G: Gate, C: Clock, R: Wait + time::Cl
     shared: &Shared<'_, L, G, C>,
     client: Client<L>,
 ) -> Client<L> {
-    let events = shared.events(rt);
+    let waking = Waking::new(shared.gate, &shared.handing, true);
+    let events = Recorded {
+        rt,
+        engine: shared.engine,
+        gate: &waking,
+    };
     let mut client = client;
     for _ in rt.forever() {
         if shared.ended.load(Ordering::SeqCst) {

@@ -40,7 +40,7 @@ where
 {
     ghost Answers = { λ by. engines.Answers by.events.engine.now };
 
-    ghost Tells = { λ by. engines.Tells by.events.engine.now };
+    ghost Tells = { λ by. engines.Tells by.events.engine.now (G.Left by.events.gate.now by.call) };
 
     ghost Finishes = { λ by. engines.Finishes };
 

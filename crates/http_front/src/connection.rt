@@ -8,8 +8,11 @@ ghost use Rattle.http_loop.specs.Texts.{IsOfConnection};
 ghost use Rattle.http_loop.specs.Turned.{NotBegun, Serves, progress};
 ghost use Rattle.engine_lock.specs.Locked.{Caller};
 ghost use Rattle.http_front.specs.Engines.{Answers, Finishes, Tells};
+ghost use Rattle.http_front.specs.Handing as handing;
+ghost use Rattle.http_front.specs.Handing.{Hands};
 
 use crate::by_engine::ByEngine;
+use crate::by_worker::{ByWorker, Serving};
 use engine_lock::{Client, Engine, EngineName};
 use http_loop::serve_all;
 use http_peer::{Clock, Gate};
@@ -60,7 +63,7 @@ where
     Out: Write,
     ensures serves { NotBegun client.old client.new
         (Out.contents (inner_of w.old)) (Out.contents (inner_of w.new)) result
-        ⊎ Serves Caller (IsAnswered Caller (Answers engine.now) (Tells engine.now) Finishes)
+        ⊎ Serves Caller (IsAnswered Caller (Answers engine.now) (Tells engine.now (G.Left gate.now call)) Finishes)
         18446744073709551615
         (progress client.old (In.remaining (inner_of r.old)) [] (Out.contents (inner_of w.old)))
         (Out.contents (inner_of w.new)) client.new result }
@@ -76,4 +79,44 @@ where
         call,
     };
     serve_all(alloc, &by, client, r, w, u64::MAX)
+}
+
+/// As [`work`], for a client whose streams go on elsewhere: behind the created message of a watch
+/// nothing more is written, the connection is left, and the watch stands, whose number `serving` then
+/// has.
+pub(crate) fn work_on<L, G, C, R, In, Out>(
+    rt: &R,
+    alloc: Global,
+    engine: &Engine<L>,
+    serving: &mut Serving<L>,
+    gate: &G,
+    clock: &C,
+    call: u64,
+    r: &mut Counted<In>,
+    w: &mut Counted<Out>,
+) -> Result<u64, Front>
+where
+    L: EngineName,
+    G: Gate,
+    C: Clock,
+    R: Wait + time::Clock,
+    In: Read,
+    Out: Write,
+    ensures serves { NotBegun serving.old serving.new
+        (Out.contents (inner_of w.old)) (Out.contents (inner_of w.new)) result
+        ⊎ Serves Hands (IsAnswered Hands (handing.Answers engine.now) handing.Tells handing.Finishes)
+        18446744073709551615
+        (progress serving.old (In.remaining (inner_of r.old)) [] (Out.contents (inner_of w.old)))
+        (Out.contents (inner_of w.new)) serving.new result }
+    ensures reader { failures_of r.new ≡ failures_after_read result (failures_of r.old) }
+    ensures writer { failures_of w.new ≡ failures_after result (failures_of w.old) }
+    ensures fault { IfErr result IsOfConnection }
+{
+    let events = Recorded { rt, engine, gate };
+    let by = ByEngine {
+        events,
+        clock,
+        call,
+    };
+    serve_all(alloc, &ByWorker { by }, serving, r, w, u64::MAX)
 }

@@ -3,8 +3,10 @@ ghost use Rattle.std.specs.Prelude.{IfOk, IfErr};
 ghost use Rattle.engine_lock.specs.Fits.{IsStanding};
 ghost use Rattle.http_front.specs.Ends.{IsOfServer};
 
+use crate::handing::Waking;
 use crate::shared::Shared;
-use crate::threads::{Served, clients_of, closed, join_all, start_all, with_client};
+use crate::threads::{Keeping, Served, clients_of, closed, join_all, join_streaming};
+use crate::threads::{keeping_of, start_all, start_streaming, with_client};
 use engine_lock::{Client, Engine, EngineName};
 use http_peer::{Clock, Gate};
 use http_reply::Front;
@@ -26,8 +28,9 @@ const WAKE_WAIT: u64 = 100;
 /// Who runs a server by hand.
 pub trait Directing<L: EngineName> {
     /// Comes once the workers have started, on the thread that started them, with a client that no
-    /// connection has. The server ends when this returns.
-    fn direct(&mut self, engine: &Engine<L>, client: &mut Client<L>);
+    /// connection has, and the gate that is to be told of its events. The server ends when this
+    /// returns.
+    fn direct<G: Gate>(&mut self, engine: &Engine<L>, client: &mut Client<L>, gate: &G);
 }
 
 /// How much a server serves.
@@ -90,10 +93,29 @@ where
         Ok(clients) => clients,
         Err(front) => return Err(front),
     };
-    let shared = Shared::new(&engine, gate, &Standing, listener, limits.connections);
-    let Served { clients, trouble } = run_directed(rt, alloc, &shared, clients, client, director);
+    let (keeping, handing) = match keeping_of(rt, alloc, &engine) {
+        Ok(made) => made,
+        Err(front) => return Err(front),
+    };
+    let connections = limits.connections;
+    let shared = Shared::new(&engine, gate, &Standing, listener, connections, handing);
+    let threads = Directed {
+        clients,
+        client,
+        keeping,
+    };
+    let Served { clients, trouble } = run_directed(rt, alloc, &shared, threads, director);
     drop(shared);
     closed(rt, engine, clients, trouble)
+}
+
+/// What the threads of such a server begin with.
+#[derive(Drop)]
+struct Directed<L: EngineName> {
+    clients: Vec<Client<L>>,
+    /// The director's.
+    client: Client<L>,
+    keeping: Keeping<L>,
 }
 
 /// Starts the workers, lets the director run, and joins them.
@@ -101,8 +123,7 @@ fn run_directed<L, G, D, R>(
     rt: &R,
     alloc: Global,
     shared: &Shared<'_, L, G, Standing>,
-    clients: Vec<Client<L>>,
-    client: Client<L>,
+    threads: Directed<L>,
     director: &mut D,
 ) -> Served<L>
 where
@@ -112,7 +133,7 @@ where
     R: Wait + Threads + time::Clock + Net + Sync,
 {
     thread::scope(thread::scope_env(), rt, move |scope| {
-        serve_directed(scope, rt, alloc, shared, clients, client, director)
+        serve_directed(scope, rt, alloc, shared, threads, director)
     })
 }
 
@@ -122,8 +143,7 @@ fn serve_directed<'s, E, L, G, D, R>(
     rt: &'s R,
     alloc: Global,
     shared: &'s Shared<'s, L, G, Standing>,
-    clients: Vec<Client<L>>,
-    client: Client<L>,
+    threads: Directed<L>,
     director: &mut D,
 ) -> Served<L>
 where
@@ -132,14 +152,23 @@ where
     D: Directing<L>,
     R: Wait + Threads + time::Clock + Net + Sync + 's,
 {
+    let Directed {
+        clients,
+        client,
+        keeping,
+    } = threads;
     let mut client = client;
-    let (working, trouble) = start_all(scope, rt, alloc, shared, clients, true);
+    let keeper = start_streaming(scope, rt, alloc, shared, keeping);
+    let (working, trouble) = start_all(scope, rt, alloc, shared, clients, keeper.is_some());
     if trouble.is_none() {
-        director.direct(shared.engine, &mut client);
+        let gate = Waking::new(shared.gate, &shared.handing, true);
+        director.direct(shared.engine, &mut client, &gate);
     }
     shared.ended.store(true, Ordering::SeqCst);
+    shared.handing.wake();
     wake(rt, shared.listener);
     let served = join_all(rt, alloc, working, trouble);
+    let served = join_streaming(rt, shared, served, keeper);
     with_client(served, client)
 }
 

@@ -31,9 +31,12 @@
 mod background;
 mod beside;
 mod by_engine;
+mod by_worker;
 mod connection;
 mod directed;
+mod handing;
 mod shared;
+mod streaming;
 mod threads;
 mod workers;
 

@@ -1,6 +1,7 @@
 //! What the threads of a server share.
 ghost use Rattle.std.specs.Prelude.{◌≡◌};
 
+use crate::handing::Handing;
 use engine_lock::{Engine, EngineName};
 use http_peer::Door;
 use recorded_engine::Recorded;
@@ -17,6 +18,8 @@ pub(crate) struct Shared<'s, L: EngineName, G, C> {
     pub(crate) listener: &'s TcpListener,
     /// Under which a worker accepts a connection.
     pub(crate) door: Mutex<Door>,
+    /// By which streams that have begun are handed over.
+    pub(crate) handing: Handing,
     /// Whether the server ends: no further connection is let in, each worker ends after the request
     /// that it is in, and so do the threads beside them. Without a director it is set once the workers
     /// have ended.
@@ -31,6 +34,7 @@ impl<'s, L: EngineName, G, C> Shared<'s, L, G, C> {
         clock: &'s C,
         listener: &'s TcpListener,
         connections: u64,
+        handing: Handing,
     ) -> Self {
         Shared {
             engine,
@@ -38,6 +42,7 @@ impl<'s, L: EngineName, G, C> Shared<'s, L, G, C> {
             clock,
             listener,
             door: Mutex::new(Door::new(connections)),
+            handing,
             ended: AtomicBool::new(false),
         }
     }

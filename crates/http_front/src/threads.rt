@@ -4,14 +4,16 @@ ghost use Rattle.engine_lock.specs.Fits.{IsStanding};
 ghost use Rattle.http_front.specs.Ends.{IsOfServer, fault_of};
 
 use crate::background::{keep_expiring, keep_trimming};
+use crate::handing::Handing;
 use crate::shared::Shared;
+use crate::streaming::{Watching, keep_streams};
 use crate::workers::{Worked, keep_working};
 use engine_lock::{Client, Engine, EngineName};
 use http_peer::{Clock, Gate};
 use http_reply::Front;
 use request_core::store::Core;
 use std::alloc::Global;
-use std::net::TcpListener;
+use std::net::{Net, TcpListener};
 use std::sync::Wait;
 use std::sync::atomic::Ordering;
 use std::thread::{JoinHandle, Scope, Threads};
@@ -55,7 +57,7 @@ where
     L: EngineName + Send + Sync,
     G: Gate + Sync,
     C: Clock + Sync,
-    R: Wait + Threads + time::Clock + Sync,
+    R: Wait + Threads + time::Clock + Net + Sync,
     ensures stands { IfOk result (λ core. IsStanding core) }
     ensures fault { IfErr result IsOfServer }
 {
@@ -66,10 +68,46 @@ where
         Ok(clients) => clients,
         Err(front) => return Err(front),
     };
-    let shared = Shared::new(&engine, gate, clock, listener, connections);
-    let Served { clients, trouble } = run_threads(rt, alloc, &shared, clients, expirer);
+    let (keeping, handing) = match keeping_of(rt, alloc, &engine) {
+        Ok(made) => made,
+        Err(front) => return Err(front),
+    };
+    let shared = Shared::new(&engine, gate, clock, listener, connections, handing);
+    let beside = Beside { expirer, keeping };
+    let Served { clients, trouble } = run_threads(rt, alloc, &shared, clients, beside);
     drop(shared);
     closed(rt, engine, clients, trouble)
+}
+
+/// What the thread that looks after streams begins with.
+#[derive(Drop)]
+pub(crate) struct Keeping<L: EngineName> {
+    pub(crate) client: Client<L>,
+    pub(crate) watching: Watching,
+}
+
+/// What the threads beside the workers begin with.
+#[derive(Drop)]
+struct Beside<L: EngineName> {
+    expirer: Client<L>,
+    keeping: Keeping<L>,
+}
+
+/// What the thread that looks after streams begins with, and by what streams are handed to it.
+pub(crate) fn keeping_of<L: EngineName, R: Wait + Net>(
+    rt: &R,
+    alloc: Global,
+    engine: &Engine<L>,
+) -> Result<(Keeping<L>, Handing), Front>
+    ensures fault { IfErr result IsOfServer }
+{
+    let Ok(client) = engine.client(rt) else {
+        return Err(Front::Unclosed);
+    };
+    match Watching::new(rt, alloc) {
+        Ok((watching, handing)) => Ok((Keeping { client, watching }, handing)),
+        Err(_) => Err(Front::Spawn),
+    }
 }
 
 /// Why a server ends before its connections do.
@@ -151,7 +189,7 @@ fn run_threads<L, G, C, R>(
     alloc: Global,
     shared: &Shared<'_, L, G, C>,
     clients: Vec<Client<L>>,
-    expirer: Client<L>,
+    beside: Beside<L>,
 ) -> Served<L>
 where
     L: EngineName + Send + Sync,
@@ -160,7 +198,7 @@ where
     R: Wait + Threads + time::Clock + Sync,
 {
     thread::scope(thread::scope_env(), rt, move |scope| {
-        serve_trimmed(scope, rt, alloc, shared, clients, expirer)
+        serve_trimmed(scope, rt, alloc, shared, clients, beside)
     })
 }
 
@@ -171,7 +209,7 @@ fn serve_trimmed<'s, E, L, G, C, R>(
     alloc: Global,
     shared: &'s Shared<'s, L, G, C>,
     clients: Vec<Client<L>>,
-    expirer: Client<L>,
+    beside: Beside<L>,
 ) -> Served<L>
 where
     L: EngineName + Send + Sync + 's,
@@ -186,7 +224,7 @@ where
         alloc,
         shared,
         clients,
-        expirer,
+        beside,
         trimmer.is_some(),
     );
     if let Some(handle) = trimmer {
@@ -203,7 +241,7 @@ fn serve_expiring<'s, E, L, G, C, R>(
     alloc: Global,
     shared: &'s Shared<'s, L, G, C>,
     clients: Vec<Client<L>>,
-    expirer: Client<L>,
+    beside: Beside<L>,
     trims: bool,
 ) -> Served<L>
 where
@@ -212,17 +250,32 @@ where
     C: Clock + Sync + 's,
     R: Wait + Threads + time::Clock + Sync + 's,
 {
+    let Beside { expirer, keeping } = beside;
     let expirer = start_expiring(scope, rt, shared, expirer);
-    let all = trims && expirer.is_some();
+    let keeper = start_streaming(scope, rt, alloc, shared, keeping);
+    let all = trims && expirer.is_some() && keeper.is_some();
     let (working, trouble) = start_all(scope, rt, alloc, shared, clients, all);
-    let mut served = join_all(rt, alloc, working, trouble);
+    let served = join_all(rt, alloc, working, trouble);
+    let served = join_streaming(rt, shared, served, keeper);
     shared.ended.store(true, Ordering::SeqCst);
-    if let Some(handle) = expirer {
-        if served.clients.push(handle.join(rt)).is_err() {
-            served.trouble = Some(Trouble::Memory);
-        }
+    match expirer {
+        Some(handle) => with_client(served, handle.join(rt)),
+        None => served,
     }
-    served
+}
+
+/// Joins the thread that looks after streams, once no further one is handed to it.
+pub(crate) fn join_streaming<L: EngineName, G, C, R: Threads>(
+    rt: &R,
+    shared: &Shared<'_, L, G, C>,
+    served: Served<L>,
+    keeper: Option<JoinHandle<Client<L>>>,
+) -> Served<L> {
+    shared.handing.close();
+    match keeper {
+        Some(handle) => with_client(served, handle.join(rt)),
+        None => served,
+    }
 }
 
 /// Starts a worker for each client, and tells why one has none. No connection comes in before all
@@ -283,6 +336,27 @@ where
     R: Wait + time::Clock + Sync + 's,
 {
     match scope.spawn(move || keep_expiring(rt, shared, client)) {
+        Ok(handle) => Some(handle),
+        Err(_) => None,
+    }
+}
+
+/// Starts the thread that looks after streams; `None` where no thread could be started.
+pub(crate) fn start_streaming<'s, E, L, G, C, R>(
+    scope: &Scope<'s, E>,
+    rt: &'s R,
+    alloc: Global,
+    shared: &'s Shared<'s, L, G, C>,
+    keeping: Keeping<L>,
+) -> Option<JoinHandle<Client<L>>>
+where
+    L: EngineName + Send + Sync + 's,
+    G: Gate + Sync + 's,
+    C: Clock + Sync + 's,
+    R: Wait + time::Clock + Sync + 's,
+{
+    let Keeping { client, watching } = keeping;
+    match scope.spawn(move || keep_streams(rt, alloc, shared, watching, client)) {
         Ok(handle) => Some(handle),
         Err(_) => None,
     }

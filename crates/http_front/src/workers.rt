@@ -1,6 +1,8 @@
 //! A worker: one connection after the other, each to its end.
 
-use crate::connection::work;
+use crate::by_worker::Serving;
+use crate::connection::work_on;
+use crate::handing::{Handed, Waking};
 use crate::shared::Shared;
 use engine_lock::{Client, EngineName};
 use http_peer::{Clock, Coming, Gate, Going, Peer, PeerGate};
@@ -32,21 +34,22 @@ where
     C: Clock,
     R: Wait + time::Clock,
 {
-    let mut client = client;
+    let mut serving = Serving::new(client);
     for _ in rt.forever() {
         match next(rt, shared) {
             Ok(Some((call, stream))) => {
-                serve(rt, alloc, shared, &mut client, call, &stream);
+                serve(rt, alloc, shared, &mut serving, call, &stream);
+                hand_on(rt, shared, &mut serving, call, stream);
             }
             Ok(None) => {
                 return Worked {
-                    client,
+                    client: serving.client,
                     failed: false,
                 };
             }
             Err(_) => {
                 return Worked {
-                    client,
+                    client: serving.client,
                     failed: true,
                 };
             }
@@ -73,12 +76,43 @@ fn next<L: EngineName, G, C, R: Wait>(
     came
 }
 
-/// Serves a connection to its end. What ends it is the peer's affair.
+/// Hands the stream of a watch over that has begun on a connection, if one has. Where no memory is
+/// found for that, the watch is ended, and the connection.
+fn hand_on<L, G, C, R>(
+    rt: &R,
+    shared: &Shared<'_, L, G, C>,
+    serving: &mut Serving<L>,
+    call: u64,
+    stream: TcpStream,
+)
+where
+    L: EngineName,
+    G: Gate,
+    C: Clock,
+    R: Wait + time::Clock,
+{
+    let Some(number) = serving.handed.take() else {
+        return;
+    };
+    let handed = Handed {
+        call,
+        number,
+        stream,
+    };
+    if shared.handing.hand(rt, handed).is_err() {
+        let events = shared.events(rt);
+        let _ = events.drop_watch(&mut serving.client, number);
+        shared.gate.after(call);
+    }
+}
+
+/// Serves a connection to its end, or until the stream of a watch has begun on it. What ends it is the
+/// peer's affair.
 fn serve<L, G, C, R>(
     rt: &R,
     alloc: Global,
     shared: &Shared<'_, L, G, C>,
-    client: &mut Client<L>,
+    serving: &mut Serving<L>,
     call: u64,
     stream: &TcpStream,
 )
@@ -89,17 +123,18 @@ where
     R: Wait + time::Clock,
 {
     let peer = Peer::new(stream, shared.listener, &shared.door, &shared.ended);
+    let waking = Waking::new(shared.gate, &shared.handing, false);
     let gate = PeerGate {
-        gate: shared.gate,
+        gate: &waking,
         peer: &peer,
     };
     let mut r = Counted::new(Coming { peer: &peer });
     let mut w = Counted::new(Going { peer: &peer });
-    let _ = work(
+    let _ = work_on(
         rt,
         alloc,
         shared.engine,
-        client,
+        serving,
         &gate,
         shared.clock,
         call,

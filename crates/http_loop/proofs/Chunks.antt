@@ -55,6 +55,11 @@ module _ (S : Type 0) (Tells : S → ℕ → Told → S → Type 0) (n : ℕ) (s
   untold a b k l is t v g x tells e = by_one a b b k l is t v g x tells v (Err front.Memory)
       (by_none b (λ out. AreMessages S Tells n (1 + l) t out v (Err front.Memory)) (AreMessages.untold l (subst (λ (x : Told). Tells t n x v) e tells)))
 
+  pub away : (a b : Option (List ℕ)) (k l : ℕ) → k ≡ 1 + l → (t v : S) → Grows a b (Chunks S Tells n k s t) → (x : Told) → Tells t n x v → x ≡ told.Away
+      → Grows a b (λ out. AreMessages S Tells n most_messages s out v (Ok true))
+  away a b k l is t v g x tells e = by_one a b b k l is t v g x tells v (Ok true)
+      (by_none b (λ out. AreMessages S Tells n (1 + l) t out v (Ok true)) (AreMessages.away l (subst (λ (x : Told). Tells t n x v) e tells)))
+
 -- ---- a stream
 
 module _ (S : Type 0) (Tells : S → ℕ → Told → S → Type 0) (n : ℕ) (created : List ℕ) (s : S) where

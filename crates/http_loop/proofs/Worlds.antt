@@ -57,6 +57,7 @@ messages n _ old new _ r (any.AreMessages.more {t} {out} k x tells later) s h l 
     record { after = m.after; stands = m.stands; is = AreMessages.told told.0 m.is }
 messages n _ old new out _ (any.AreMessages.cut k x tells sent) s h l = record { after = with_world s (deliver s.world n).1; stands = (tells s h).1; is = AreMessages.unsent (tells s h).0 sent }
 messages n _ old new _ _ (any.AreMessages.untold k tells) s h l = record { after = s; stands = subst (λ (x : CoreState). Stands x s) (sym tells) h; is = AreMessages.untold }
+messages n _ old new _ _ (any.AreMessages.away k tells) s h l = absurd tells
 messages n _ old _ out r (any.AreMessages.spent sent) s h l =
     record { after = s; stands = h; is = AreMessages.quiet (quiet_at ids_alone s.world n h.world.sound (omega (arith, l))) sent }
 

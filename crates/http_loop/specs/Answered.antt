@@ -35,6 +35,8 @@ pub data AreMessages (S : Type 0) (Tells : S → ℕ → Told → S → Type 0) 
       → IsSent true (chunk x.items) out (Err f) → AreMessages S Tells n (1 + k) s out t (Err f)
   -- no memory was found for one
   untold : {s t : S} (k : ℕ) → Tells s n told.Memory t → AreMessages S Tells n (1 + k) s [] t (Err front.Memory)
+  -- the stream goes on elsewhere
+  away : {s t : S} (k : ℕ) → Tells s n told.Away t → AreMessages S Tells n (1 + k) s [] t (Ok true)
   -- as many as there may be were told
   spent : {s : S} {out : List ℕ} {r : Result Bool Front} → IsSent true last_chunk out r
       → AreMessages S Tells n 0 s out s r

@@ -40,6 +40,7 @@ Tells old n (told.Text x) new = (s : Standing) → Stands old s → (message_to 
     × Stands new (with_world s (deliver s.world n).1)
 Tells old n told.End new = (s : Standing) → Stands old s → (message_to ids_alone s.world n ≡ None) × Stands new s
 Tells old n told.Memory new = new ≡ old
+Tells old n told.Away new = ⊥
 
 abbrev pub Finishes : CoreState → Option ℕ → CoreState → Type 0
 Finishes old watch new = (s : Standing) → Stands old s → Stands new (dropped watch s)

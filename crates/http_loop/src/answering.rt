@@ -17,6 +17,8 @@ pub enum Told {
     End,
     /// No memory was found for the text: the stream is cut.
     Memory,
+    /// The stream goes on elsewhere: nothing more of it is written here, and its watch stands.
+    Away,
 }
 
 ghost use Rattle.http_loop.specs.declared.answering.Told.{Told as ToldOf};

@@ -16,8 +16,8 @@ use std::io::Write;
 const MOST_MESSAGES: u128 = 18_446_744_073_709_551_616;
 
 /// Writes the stream of a watch that was made: its head, the message that it was created as the
-/// first chunk, and its messages until no further one comes; then the last chunk. The watch may
-/// stand after it: whoever calls finishes it.
+/// first chunk, and its messages until no further one comes; then the last chunk. Where the stream
+/// goes on elsewhere no last chunk comes. The watch may stand after it: whoever calls finishes it.
 pub(crate) fn stream<S, A: Answering<S>, W: Write>(
     alloc: Global,
     by: &A,
@@ -41,7 +41,8 @@ pub(crate) fn stream<S, A: Answering<S>, W: Write>(
     }
 }
 
-/// Writes the messages of a watch until no further one comes, and the last chunk.
+/// Writes the messages of a watch until no further one comes, and the last chunk; or until the stream
+/// goes on elsewhere.
 fn write_messages<S, A: Answering<S>, W: Write>(
     alloc: Global,
     by: &A,
@@ -64,6 +65,7 @@ fn write_messages<S, A: Answering<S>, W: Write>(
             },
             Told::End => return write_end(buffer, w),
             Told::Memory => return Err(Front::Memory),
+            Told::Away => return Ok(true),
         }
     }
     write_end(buffer, w)

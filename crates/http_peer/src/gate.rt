@@ -1,8 +1,12 @@
 //! What a server asks of whoever runs it: when a request may go on, what time it is, and whether a
 //! client has left; and whether its events are written down.
+ghost use Rattle.std.specs.Prelude.{◌≡◌, ℕ, true, ⊤};
 
 /// Is told of each request of a server. A test holds requests back by it.
 pub trait Gate {
+    /// What it is that the client of a connection of this number has left.
+    ghost Left: { Self → ℕ → Type 0 } = { λ _ _. ⊤ };
+
     /// Comes before the request of a connection of this number is handed to the engine.
     fn before(&self, call: u64);
 
@@ -14,9 +18,15 @@ pub trait Gate {
 
     /// Whether the client of the connection has left. A stream asks it while it rests, and ends
     /// where it has.
-    fn has_left(&self, _call: u64) -> bool {
+    fn has_left(&self, _call: u64) -> bool
+        ensures { result ≡ true → Left self.now _call }
+    {
         false
     }
+
+    /// Comes behind an event by which a watch fell behind, when the engine is held no more: there is
+    /// something to be told. A hint, of which no clause tells.
+    fn changed(&self) {}
 
     /// Whether the events are to be written down that the server makes. It says the same at each
     /// call.

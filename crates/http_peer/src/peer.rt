@@ -130,7 +130,7 @@ impl<'s> Peer<'s> {
     }
 }
 
-/// Whether a read ended since no byte had come, or a signal came.
+/// Whether a read or a write ended since no byte could come or go, or a signal came.
 fn has_waited(error: &io::Error) -> bool {
     matches!(error.kind(), ErrorKind::WouldBlock | ErrorKind::Interrupted)
 }
@@ -162,6 +162,10 @@ impl<'p, 's, G: Gate> Gate for PeerGate<'p, 's, G> {
         self.peer.is_ending() || self.peer.has_left() || self.gate.has_left(call)
     }
 
+    fn changed(&self) {
+        self.gate.changed();
+    }
+
     fn is_recorded(&self) -> bool {
         self.gate.is_recorded()
     }
@@ -171,7 +175,7 @@ impl<'p, 's, G: Gate> Gate for PeerGate<'p, 's, G> {
     }
 }
 
-/// What comes from the client of a connection. It ends, too, where no byte of a next request has
+/// What comes from the client of a connection. A signal ends no read. It ends, too, where no byte of a next request has
 /// come for a second, and another client waits for a worker, and none is free; and where the server
 /// ends, between requests, or within one once no byte of it has come for a second.
 #[derive(Drop)]
@@ -189,7 +193,7 @@ impl<'p, 's> Read for Coming<'p, 's> {
         let mut stream = self.peer.stream;
         for waits in 1..u64::MAX {
             match stream.read(buf) {
-                Err(error) if error.kind() == ErrorKind::WouldBlock => {}
+                Err(error) if has_waited(&error) => {}
                 came => return came,
             }
             if self.peer.is_over(awaits, waits) {
@@ -204,7 +208,7 @@ impl<'p, 's> Read for Coming<'p, 's> {
     }
 }
 
-/// What goes to the client of a connection. A write fails, too, where no byte has been taken for ten
+/// What goes to the client of a connection. A signal ends no write. A write fails, too, where no byte has been taken for ten
 /// seconds.
 #[derive(Drop)]
 pub struct Going<'p, 's> {
@@ -217,7 +221,7 @@ impl<'p, 's> Write for Going<'p, 's> {
         let mut stream = self.peer.stream;
         for _ in 0..MOST_WRITE_WAITS {
             match stream.write(buf) {
-                Err(error) if error.kind() == ErrorKind::WouldBlock => {}
+                Err(error) if has_waited(&error) => {}
                 went => return went,
             }
         }

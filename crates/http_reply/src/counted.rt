@@ -48,6 +48,13 @@ impl<T> Counted<T> {
         self.failures
     }
 
+    /// The reader or writer, lent.
+    pub fn get_ref(&self) -> &T
+        ensures { result.now ≡ inner_of self.now }
+    {
+        &self.inner
+    }
+
     /// The reader or writer, as its calls have left it.
     pub fn into_inner(self) -> T
         ensures { result ≡ inner_of self }

@@ -29,5 +29,5 @@ mod sending;
 pub use counted::Counted;
 pub use front::Front;
 pub use refusals::write_refusal;
-pub use replies::{write_chunk, write_last_chunk, write_reply, write_stream_head};
+pub use replies::{put_chunk, write_chunk, write_last_chunk, write_reply, write_stream_head};
 pub use sending::ReplyBuffer;

@@ -1,6 +1,7 @@
 //! Replies, and streams of messages.
 ghost use Rattle.std.specs.Prelude.{◌≡◌, ◌<◌, ◌≤◌, [], codes, decimal, if◌then◌else◌, length};
-ghost use Rattle.std.specs.Prelude.{IfErr};
+ghost use Rattle.std.specs.Prelude.{◌+◌, false, IfErr, OnOk};
+ghost use Rattle.std.specs.Fmt.{digits};
 ghost use Rattle.http_reply.specs.Counts.{failures_of, inner_of};
 ghost use Rattle.http_reply.specs.Replies as spec;
 ghost use Rattle.http_reply.specs.Replies.{chunk, last_chunk, reply_bytes, stream_head};
@@ -10,8 +11,9 @@ ghost use Rattle.http_reply.specs.Sends.{Sends, failures_after};
 use crate::counted::Counted;
 use crate::front::Front;
 use crate::hexadecimal::hexadecimal;
-use crate::sending::ReplyBuffer;
+use crate::sending::{ReplyBuffer, put};
 use itoa::Buffer;
+use std::alloc::AllocError;
 use std::io::Write;
 
 /// Writes a reply (RFC 9112, section 2.1) of a status and a JSON body: the status line, the fields
@@ -95,9 +97,19 @@ pub fn write_chunk<W: Write>(
         × (1024 < length (chunk message.now))) }
     ensures room { buffer.old ≤ buffer.new }
 {
-    let mut digits = [0; 16];
-    let length = hexadecimal(message.len() as u64 + 1, &mut digits);
+    let mut places = [0; 16];
+    let length = length_of(message, &mut places);
     buffer.send(w, &[length, b"\r\n", message, b"\n\r\n"])
+}
+
+/// Puts a message and a line feed, as one chunk of a stream (RFC 9112, section 7.1), in place of what
+/// a text had. Fails for want of memory. Copies the message once.
+pub fn put_chunk(text: &mut Vec<u8>, message: &[u8]) -> Result<(), AllocError>
+    ensures { OnOk result (text.new.items ≡ chunk message.now) }
+{
+    let mut places = [0; 16];
+    let length = length_of(message, &mut places);
+    put(text, &[length, b"\r\n", message, b"\n\r\n"])
 }
 
 /// Writes the end of a stream: the chunk of length 0, and no trailer (RFC 9112, section 7.1). Fails
@@ -112,6 +124,13 @@ pub fn write_last_chunk<W: Write>(buffer: &mut ReplyBuffer, w: &mut Counted<W>) 
     ensures room { buffer.old ≤ buffer.new }
 {
     buffer.send(w, &[b"0\r\n\r\n"])
+}
+
+/// The length of a message and its line feed, in hexadecimal.
+fn length_of<'a>(message: &[u8], places: &'a mut [u8; 16]) -> &'a [u8]
+    ensures { result.now ≡ digits 16 false (length message.now + 1) }
+{
+    hexadecimal(message.len() as u64 + 1, places)
 }
 
 /// The reason phrase of a status (RFC 9110, section 15).

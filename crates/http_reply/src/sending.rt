@@ -62,7 +62,7 @@ impl ReplyBuffer {
 }
 
 /// Makes a text of the pieces. Fails for want of memory, where the text has no room for them.
-fn put(text: &mut Vec<u8>, pieces: &[&[u8]]) -> Result<(), AllocError>
+pub(crate) fn put(text: &mut Vec<u8>, pieces: &[&[u8]]) -> Result<(), AllocError>
     ensures ok { OnOk result (text.new.items ≡ joined pieces.now) }
     ensures full { OnErr result (vec_capacity text.old < length (joined pieces.now)) }
     ensures capacity { vec_capacity text.old ≤ vec_capacity text.new }

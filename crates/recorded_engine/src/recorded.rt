@@ -51,7 +51,15 @@ impl<'e, L: EngineName, G: Gate, R: Wait> Recorded<'e, L, G, R> {
     {
         let submitted = self.engine.submit_request(self.rt, client, now, asked);
         self.gate.recorded(self);
+        self.tell_news();
         submitted
+    }
+
+    /// Tells the gate where a watch has fallen behind.
+    fn tell_news(&self) {
+        if self.engine.take_news() {
+            self.gate.changed();
+        }
     }
 
     /// [`Engine::deliver_for`].
@@ -103,6 +111,7 @@ impl<'e, L: EngineName, G: Gate, R: Wait> Recorded<'e, L, G, R> {
     {
         let step = self.engine.expire_once(self.rt, client, now);
         self.gate.recorded(self);
+        self.tell_news();
         step
     }
 

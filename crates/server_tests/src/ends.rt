@@ -7,14 +7,14 @@ use http_front::{OpenGate, pool};
 use http_reply::Front;
 use std::alloc::Global;
 use std::marker::Brand;
-use std::net::TcpListener;
+use std::net::{Net, TcpListener};
 use std::sync::Wait;
 use std::test::Fail;
 use std::thread::Threads;
 use std::time;
 
 /// How a server with so many workers ends: by the revision of the core that is left.
-fn ended<L: EngineName + Send + Sync, R: Wait + Threads + time::Clock + Sync>(
+fn ended<L: EngineName + Send + Sync, R: Wait + Threads + time::Clock + Net + Sync>(
     rt: &R,
     alloc: Global,
     opening: Opening,
@@ -32,7 +32,7 @@ fn ended<L: EngineName + Send + Sync, R: Wait + Threads + time::Clock + Sync>(
     }
 }
 
-fn run_ended<R: Wait + Threads + time::Clock + Sync>(
+fn run_ended<R: Wait + Threads + time::Clock + Net + Sync>(
     rt: &R,
     alloc: Global,
     listener: &TcpListener,
@@ -44,13 +44,13 @@ fn run_ended<R: Wait + Threads + time::Clock + Sync>(
     }
 }
 
-/// An engine has 64 places for clients, and the thread that ends leases takes one.
+/// An engine has 64 places for clients, of which the threads for leases and for streams take one each.
 #[test]
 fn workers_that_have_no_place(rt: HostRuntime) -> Result<(), Fail> {
     let alloc = rt.alloc();
     let listener = TcpListener::bind(&rt, "127.0.0.1:0")?;
     assert_eq!(rt; run_ended(&rt, alloc, &listener, 0), Ok(1));
-    assert_eq!(rt; run_ended(&rt, alloc, &listener, 63), Ok(1));
-    assert_eq!(rt; run_ended(&rt, alloc, &listener, 64), Err(Front::Unclosed));
+    assert_eq!(rt; run_ended(&rt, alloc, &listener, 62), Ok(1));
+    assert_eq!(rt; run_ended(&rt, alloc, &listener, 63), Err(Front::Unclosed));
     Ok(())
 }

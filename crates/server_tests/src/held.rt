@@ -7,7 +7,7 @@ use http_front::{Gate, pool};
 use std::alloc::Global;
 use std::io::Write;
 use std::marker::Brand;
-use std::net::{TcpListener, TcpStream};
+use std::net::{Net, TcpListener, TcpStream};
 use std::sync::Wait;
 use std::sync::atomic::{AtomicBool, Ordering};
 use std::test::Fail;
@@ -49,7 +49,7 @@ impl<'x, R: time::Clock> Gate for SecondFirst<'x, R> {
 
 /// Serves two connections with two workers: whether the first was held until the second was
 /// answered, and the revision of the core that is left.
-fn served<L: EngineName + Send + Sync, R: Wait + Threads + time::Clock + Sync>(
+fn served<L: EngineName + Send + Sync, R: Wait + Threads + time::Clock + Net + Sync>(
     rt: &R,
     alloc: Global,
     opening: Opening,
@@ -73,7 +73,7 @@ fn served<L: EngineName + Send + Sync, R: Wait + Threads + time::Clock + Sync>(
     }
 }
 
-fn run_served<R: Wait + Threads + time::Clock + Sync>(
+fn run_served<R: Wait + Threads + time::Clock + Net + Sync>(
     rt: &R,
     alloc: Global,
     listener: &TcpListener,

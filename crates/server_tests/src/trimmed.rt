@@ -7,7 +7,7 @@ use http_front::{Gate, pool};
 use std::alloc::Global;
 use std::io::Write;
 use std::marker::Brand;
-use std::net::{Shutdown, TcpListener, TcpStream};
+use std::net::{Net, Shutdown, TcpListener, TcpStream};
 use std::sync::Wait;
 use std::test::Fail;
 use std::thread::Threads;
@@ -32,7 +32,7 @@ impl<'x, R: time::Clock> Gate for Slowly<'x, R> {
 }
 
 /// Serves one connection: the revision of the core that is left, and how many versions it has.
-fn served<L: EngineName + Send + Sync, R: Wait + Threads + time::Clock + Sync>(
+fn served<L: EngineName + Send + Sync, R: Wait + Threads + time::Clock + Net + Sync>(
     rt: &R,
     alloc: Global,
     opening: Opening,
@@ -53,7 +53,7 @@ fn served<L: EngineName + Send + Sync, R: Wait + Threads + time::Clock + Sync>(
     }
 }
 
-fn run_served<R: Wait + Threads + time::Clock + Sync>(
+fn run_served<R: Wait + Threads + time::Clock + Net + Sync>(
     rt: &R,
     alloc: Global,
     listener: &TcpListener,

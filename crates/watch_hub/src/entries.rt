@@ -35,6 +35,8 @@ pub(crate) struct Entries {
     guards: Guards,
     /// Where this is false, no watch waits for a revision above the next one.
     waiting: bool,
+    /// Whether a watch fell behind since this was asked for last. No clause rests on it.
+    news: bool,
 }
 
 impl Model for Entries {
@@ -59,6 +61,7 @@ impl Entries {
             places: Vec::new(alloc),
             guards: Guards::new(alloc),
             waiting: false,
+            news: false,
         }
     }
 
@@ -120,8 +123,34 @@ impl Entries {
     pub(crate) fn note(&mut self, versions: &[Version], now: u64)
         ensures { self.new ≡ map (noted versions.now now) self.old }
     {
-        let waiting = note_each(&mut self.slab, &self.guards, self.waiting, versions, now);
+        let waiting = note_each(
+            &mut self.slab,
+            &self.guards,
+            self.waiting,
+            versions,
+            now,
+            &mut self.news,
+        );
         self.waiting = waiting;
+    }
+
+    /// Whether a watch fell behind since this was asked last. Constant time.
+    pub(crate) fn take_news(&mut self) -> bool
+        ensures { self.new ≡ self.old }
+    {
+        let news = self.news;
+        self.news = false;
+        news
+    }
+
+    /// Adds the numbers of the watches that are behind to a list, in rising order, up to the first
+    /// that finds no memory there. Linear time.
+    pub(crate) fn behind(&self, numbers: &mut Vec<u64>) {
+        for place in &self.places {
+            if is_behind(&self.slab, place.key) && numbers.push(place.number).is_err() {
+                return;
+            }
+        }
     }
 
     /// The watch of a number moves past a revision, by what is kept.
@@ -135,6 +164,14 @@ impl Entries {
             let waiting = either(self.waiting, tables.revision() < last);
             self.waiting = waiting;
         }
+    }
+}
+
+/// Whether the watch under a key is behind, or late.
+fn is_behind(slab: &Slab<Entry>, key: usize) -> bool {
+    match slab.get(key) {
+        Some(entry) => entry.late || entry.first.is_some(),
+        None => false,
     }
 }
 

@@ -167,6 +167,21 @@ impl WatchHub {
         self.entries.note(versions, now);
     }
 
+    /// Whether a watch that was caught up fell behind since this was asked last. A hint, of which no
+    /// clause tells. Takes no memory, and constant time.
+    pub fn take_news(&mut self) -> bool
+        ensures { self.new ≡ self.old }
+    {
+        self.entries.take_news()
+    }
+
+    /// Adds the numbers of the watches that are behind, or late, to a list, in rising order: each
+    /// has something to be told. Up to the first that finds no memory in the list; a hint, of which no
+    /// clause tells. The time is linear in the number of the watches that stand.
+    pub fn behind(&self, numbers: &mut Vec<u64>) {
+        self.entries.behind(numbers);
+    }
+
     /// What a delivery to the watch of a number needs. `NoWatch` comes where no watch has the
     /// number. Takes no memory. Logarithmic time.
     pub fn pending(&self, number: u64) -> Result<Pending<'_>, Refusal>

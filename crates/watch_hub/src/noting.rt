@@ -3,7 +3,7 @@ ghost use Rattle.std.specs.Prelude.{◌≡◌, ◌≢◌, ℕ, ◌∷◌, [], tr
 ghost use Rattle.std.specs.Prelude.{option_and_then};
 ghost use Rattle.slab.specs.Slab.{get, slab_len};
 ghost use Rattle.store_laws.specs.Stands.{noted};
-ghost use Rattle.watch_hub.specs.Entries.{seen_in, AreGuarded, AreReached, IsAnyAhead};
+ghost use Rattle.watch_hub.specs.Entries.{seen_in, tracked_of, AreGuarded, AreReached, IsAnyAhead};
 
 use crate::entry::Entry;
 use crate::guards::Guards;
@@ -13,13 +13,15 @@ use std::slice;
 
 /// Each watch takes note of the versions of a new revision, which is now the present one. Where one
 /// may wait for a later revision, all are walked. Else a version is noted by the watches that have
-/// its key in their range, which the guards find. The answer is whether a watch waits then.
+/// its key in their range, which the guards find. The answer is whether a watch waits then. `news` is
+/// set where a watch that was caught up falls behind.
 pub(crate) fn note_each(
     slab: &mut Slab<Entry>,
     guards: &Guards,
     waiting: bool,
     versions: &[Version],
     now: u64,
+    news: &mut bool,
 ) -> bool
     requires guarded { AreGuarded (seen_in slab.old) guards.now }
     requires reached { waiting ≡ false → AreReached (seen_in slab.old) }
@@ -30,34 +32,51 @@ pub(crate) fn note_each(
     ensures ahead { result ≡ true → IsAnyAhead (seen_in slab.new) }
 {
     if waiting {
-        note_all(slab, versions, now);
+        note_all(slab, versions, now, news);
         return is_any_ahead(slab);
     }
-    note_guarded(slab, guards, versions, now);
+    note_guarded(slab, guards, versions, now, news);
     false
 }
 
 /// The watch at a place takes note.
-fn note_at(slab: &mut Slab<Entry>, place: usize, versions: &[Version], now: u64)
+fn note_at(
+    slab: &mut Slab<Entry>,
+    place: usize,
+    versions: &[Version],
+    now: u64,
+    news: &mut bool,
+)
     ensures here { seen_in slab.new place
         ≡ option_map (noted versions.now now) (seen_in slab.old place) }
     ensures others { (other : ℕ) → other ≢ place → get slab.new other ≡ get slab.old other }
     ensures count { slab_len slab.new ≡ slab_len slab.old }
 {
     if let Some(entry) = slab.get_mut(place) {
-        entry.note(versions, now);
+        note_entry(entry, versions, now, news);
+    }
+}
+
+/// A watch takes note.
+fn note_entry(entry: &mut Entry, versions: &[Version], now: u64, news: &mut bool)
+    ensures { tracked_of entry.new ≡ noted versions.now now (tracked_of entry.old) }
+{
+    let was_caught_up = entry.first.is_none();
+    entry.note(versions, now);
+    if was_caught_up && entry.first.is_some() {
+        *news = true;
     }
 }
 
 /// The watch at each place takes note.
-fn note_all(slab: &mut Slab<Entry>, versions: &[Version], now: u64)
+fn note_all(slab: &mut Slab<Entry>, versions: &[Version], now: u64, news: &mut bool)
     ensures each { (place : ℕ) → seen_in slab.new place
         ≡ option_map (noted versions.now now) (seen_in slab.old place) }
     ensures count { slab_len slab.new ≡ slab_len slab.old }
 {
     let places = slab.capacity();
     for place in 0..places {
-        note_at(slab, place, versions, now);
+        note_at(slab, place, versions, now, news);
     }
 }
 
@@ -85,7 +104,13 @@ fn is_any_ahead(slab: &Slab<Entry>) -> bool
 }
 
 /// The versions are noted one after another, by the watches that have their keys in their ranges.
-fn note_guarded(slab: &mut Slab<Entry>, guards: &Guards, versions: &[Version], now: u64)
+fn note_guarded(
+    slab: &mut Slab<Entry>,
+    guards: &Guards,
+    versions: &[Version],
+    now: u64,
+    news: &mut bool,
+)
     requires guarded { AreGuarded (seen_in slab.old) guards.now }
     requires reached { AreReached (seen_in slab.old) }
     ensures each { (place : ℕ) → seen_in slab.new place
@@ -94,12 +119,18 @@ fn note_guarded(slab: &mut Slab<Entry>, guards: &Guards, versions: &[Version], n
     ensures reached { AreReached (seen_in slab.new) }
 {
     for version in versions {
-        note_key(slab, guards, version, now);
+        note_key(slab, guards, version, now, news);
     }
 }
 
 /// One version is noted by the watches that have its key in their range.
-fn note_key(slab: &mut Slab<Entry>, guards: &Guards, version: &Version, now: u64)
+fn note_key(
+    slab: &mut Slab<Entry>,
+    guards: &Guards,
+    version: &Version,
+    now: u64,
+    news: &mut bool,
+)
     requires guarded { AreGuarded (seen_in slab.old) guards.now }
     requires reached { AreReached (seen_in slab.old) }
     ensures each { (place : ℕ) → seen_in slab.new place
@@ -110,7 +141,7 @@ fn note_key(slab: &mut Slab<Entry>, guards: &Guards, version: &Version, now: u64
     let versions = slice::from_ref(version);
     let mut left = guards.count_begun(key);
     while let Some((index, place)) = guards.last_open(left, key) {
-        note_at(slab, place, versions, now);
+        note_at(slab, place, versions, now, news);
         left = index;
     }
 }

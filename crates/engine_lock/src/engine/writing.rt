@@ -11,6 +11,7 @@ use crate::opening::{EngineName, Opening};
 use crate::state::State;
 use json_gateway::Ids;
 use std::alloc::Global;
+use std::sync::atomic::AtomicBool;
 use std::sync::{Mutex, Wait};
 
 impl<L: EngineName> Engine<L> {
@@ -32,6 +33,7 @@ impl<L: EngineName> Engine<L> {
             alloc,
             ids,
             state: Mutex::new(State::new(alloc, opening, true)),
+            news: AtomicBool::new(false),
         }
     }
 
@@ -50,7 +52,10 @@ impl<L: EngineName> Engine<L> {
             { reader = client.new.reader } }
     {
         client.leave();
-        locked(rt, &self.state).submit(rt, self.alloc, &self.ids, client, now, asked)
+        let mut state = locked(rt, &self.state);
+        let submitted = state.submit(rt, self.alloc, &self.ids, client, now, asked);
+        self.note_news(&mut state);
+        submitted
     }
 
     /// Puts the lines that were not taken yet in place of what a list had. Says whether they are all:

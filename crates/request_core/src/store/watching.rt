@@ -20,6 +20,21 @@ impl Core {
     ghost use Rattle.request_core.specs.Commands.{CarriesOut, Refuses};
     ghost use Rattle.request_core.specs.State.{after_watch, tables_of, with_watches};
 
+    /// Whether a watch that was caught up fell behind since this was asked last. A hint, of which no
+    /// clause tells. Takes no memory, and constant time.
+    pub fn take_news(&mut self) -> bool
+        ensures { self.new ≡ self.old }
+    {
+        self.hub.take_news()
+    }
+
+    /// Adds the numbers of the watches that are behind, or late, to a list, in rising order: each has
+    /// something to be told. Up to the first that finds no memory in the list; a hint, of which no
+    /// clause tells. The time is linear in the number of the watches.
+    pub fn behind(&self, numbers: &mut Vec<u64>) {
+        self.hub.behind(numbers);
+    }
+
     /// A watch takes a place of the hub.
     pub(crate) fn apply_watch<'c>(
         &mut self,

@@ -1,5 +1,5 @@
 use Rattle.std.proofs.Common.{◌-◌, arith, refl, ◌∙◌}
-use Rattle.http_loop.proofs.Chunks.{cut, ends_spent, none_yet, on, quiet, untold}
+use Rattle.http_loop.proofs.Chunks.{away, cut, ends_spent, none_yet, on, quiet, untold}
 use Rattle.http_loop.proofs.streaming.write_messages.Goals as goal
 
 pub loop-left-init : goal.loop-left-init
@@ -26,6 +26,11 @@ pub returns-in-Memory-clause-does : goal.returns-in-Memory-clause-does
 returns-in-Memory-clause-does g c =
     untold _ (g.A.Answering.Tells c.args.by.now) c.args.number c.args.state.now _ _ c.loop-left.left (c.loop-left.left - 1) (omega (arith, c.loop-left-test.true)) c.loop-left.state
     c.tell.new.state c.loop-left.invariant.1 _ c.in-Memory.ensures refl
+
+pub returns-in-Away-clause-does : goal.returns-in-Away-clause-does
+returns-in-Away-clause-does g c =
+    away _ (g.A.Answering.Tells c.args.by.now) c.args.number c.args.state.now _ _ c.loop-left.left (c.loop-left.left - 1) (omega (arith, c.loop-left-test.true)) c.loop-left.state
+    c.tell.new.state c.loop-left.invariant.1 _ c.in-Away.ensures refl
 
 pub returns-clause-does : goal.returns-clause-does
 returns-clause-does g c =

@@ -1,0 +1,83 @@
+//! An engine answers a connection whose streams go on elsewhere.
+ghost use Rattle.std.specs.Prelude.{◌≡◌, None};
+ghost use Rattle.http_front.specs.Handing as handing;
+
+use crate::by_engine::ByEngine;
+use engine_lock::{Client, EngineName};
+use http_input::Request;
+use http_loop::{Answering, Told};
+use http_peer::{Clock, Gate};
+use json_gateway::Outcome;
+use std::alloc::Global;
+use std::marker::Model;
+use std::sync::Wait;
+use std::time;
+
+/// A client that answers connections, and the watch whose stream goes on elsewhere, if there is one.
+#[derive(Drop)]
+pub(crate) struct Serving<L: EngineName> {
+    pub(crate) client: Client<L>,
+    pub(crate) handed: Option<u64>,
+}
+
+impl<L: EngineName> Model for Serving<L> {
+    ghost use Rattle.http_front.specs.Handing.{Hands};
+
+    ghost Value = { Hands };
+
+    ghost view = { λ s. record { client = s.client; handed = s.handed } };
+}
+
+impl<L: EngineName> Serving<L> {
+    /// Nothing goes on elsewhere yet.
+    pub(crate) fn new(client: Client<L>) -> Self
+        ensures { result ≡ record { client = client; handed = None } }
+    {
+        Serving {
+            client,
+            handed: None,
+        }
+    }
+}
+
+/// What answers a connection, as [`ByEngine`] does, but for its streams: behind the created message
+/// such a one goes on elsewhere.
+#[derive(Drop)]
+pub(crate) struct ByWorker<'e, L: EngineName, G, C, R> {
+    pub(crate) by: ByEngine<'e, L, G, C, R>,
+}
+
+impl<'e, L, G, C, R> Answering<Serving<L>> for ByWorker<'e, L, G, C, R>
+where
+    L: EngineName,
+    G: Gate,
+    C: Clock,
+    R: Wait + time::Clock,
+{
+    ghost Answers = { λ w. handing.Answers w.by.events.engine.now };
+
+    ghost Tells = { λ w. handing.Tells };
+
+    ghost Finishes = { λ w. handing.Finishes };
+
+    fn awaits(&self) {
+        Answering::<Client<L>>::awaits(&self.by);
+    }
+
+    fn answer(&self, alloc: Global, state: &mut Serving<L>, request: &Request<'_>) -> Outcome {
+        self.by.answer(alloc, &mut state.client, request)
+    }
+
+    /// The stream goes on elsewhere.
+    fn tell(&self, _alloc: Global, state: &mut Serving<L>, number: u64) -> Told {
+        state.handed = Some(number);
+        Told::Away
+    }
+
+    /// The watch is ended where its stream does not go on elsewhere.
+    fn finish(&self, state: &mut Serving<L>, watch: Option<u64>) {
+        if state.handed.is_none() {
+            self.by.finish(&mut state.client, watch);
+        }
+    }
+}

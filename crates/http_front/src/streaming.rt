@@ -1,0 +1,343 @@
+//! The thread that looks after the streams that have begun.
+use crate::handing::{Handed, Handing, WOKEN};
+use crate::shared::Shared;
+use engine_lock::{Client, EngineName};
+use http_peer::Gate;
+use mio::net::TcpStream;
+use mio::{Events, Interest, Poll, Token};
+use recorded_engine::Recorded;
+use std::alloc::{AllocError, Global};
+use std::io::{ErrorKind, Read};
+use std::net::Net;
+use std::sync::Wait;
+use std::sync::atomic::Ordering;
+use std::time::{Duration, Instant};
+use std::{io, mem, time};
+use watch_streams::{Streams, Turn};
+
+/// How many sockets are found ready at once.
+const MOST_READY: usize = 256;
+
+/// How many streams a round has room for: each may come by three ways.
+const ROOM: usize = 4096;
+
+/// How long a wait is at most, in milliseconds: then all streams are looked at.
+const LOOK: u64 = 1000;
+
+/// How long a wait is at most where a message found no memory.
+const SOON: u64 = 10;
+
+/// How many bytes are thrown away at once.
+const WASTE: usize = 4096;
+
+/// How many reads throw bytes away before others come.
+const MOST_WASTED: u64 = 256;
+
+/// How many streams end at most, once the server ends: more than can stand.
+const MOST_CLOSED: u64 = 65_536;
+
+/// The streams that have a turn in a round.
+#[derive(Drop)]
+struct Round {
+    /// Of which a client may have sent something, or left.
+    wet: Vec<u64>,
+    /// Of which something may be told, or go out.
+    due: Vec<u64>,
+}
+
+impl Round {
+    /// None. Fails for want of memory.
+    fn new(alloc: Global) -> Result<Round, AllocError> {
+        Ok(Round {
+            wet: Vec::with_capacity(alloc, ROOM)?,
+            due: Vec::with_capacity(alloc, ROOM)?,
+        })
+    }
+
+    fn is_empty(&self) -> bool {
+        self.wet.is_empty() && self.due.is_empty()
+    }
+}
+
+/// What the thread waits with.
+#[derive(Drop)]
+pub(crate) struct Watching {
+    poll: Poll,
+    ready: Events,
+    now: Round,
+    next: Round,
+}
+
+impl Watching {
+    /// All that a thread waits with, and by what it is woken. Fails where the system has no more files,
+    /// or for want of memory.
+    pub(crate) fn new<R: Net>(rt: &R, alloc: Global) -> io::Result<(Watching, Handing)> {
+        let poll = Poll::new(rt)?;
+        let handing = Handing::new(alloc, &poll)?;
+        match Watching::with_room(alloc, poll) {
+            Ok(watching) => Ok((watching, handing)),
+            Err(AllocError) => Err(io::Error::from(ErrorKind::OutOfMemory)),
+        }
+    }
+
+    fn with_room(alloc: Global, poll: Poll) -> Result<Watching, AllocError> {
+        Ok(Watching {
+            poll,
+            ready: Events::with_capacity(alloc, MOST_READY)?,
+            now: Round::new(alloc)?,
+            next: Round::new(alloc)?,
+        })
+    }
+
+    /// Waits for the sockets, and notes which have a turn in this round; says whether it was woken.
+    fn wait(&mut self, most: Duration) -> bool {
+        mem::swap(&mut self.now, &mut self.next);
+        let _ = self.poll.poll(&mut self.ready, Some(most));
+        let mut woken = false;
+        for event in self.ready.iter() {
+            if event.token() == WOKEN {
+                woken = true;
+            } else {
+                let number = event.token().0 as u64;
+                let _ = self.now.wet.push(number);
+                let _ = self.now.due.push(number);
+            }
+        }
+        woken
+    }
+}
+
+/// The streams that stand, and what is shared with the workers.
+#[derive(Drop)]
+struct Keeper<'s, L: EngineName, G, C, R> {
+    rt: &'s R,
+    shared: &'s Shared<'s, L, G, C>,
+    watching: Watching,
+    streams: Streams<L, TcpStream>,
+    /// Whether a message found no memory.
+    wanting: bool,
+    /// When all streams were looked at last.
+    looked: Option<Instant>,
+}
+
+/// Looks after the streams that are handed over until no further one is and all have ended, or until
+/// the server ends. Hands the client back.
+pub(crate) fn keep_streams<L: EngineName, G: Gate, C, R: Wait + time::Clock>(
+    rt: &R,
+    alloc: Global,
+    shared: &Shared<'_, L, G, C>,
+    watching: Watching,
+    client: Client<L>,
+) -> Client<L> {
+    let mut keeper = Keeper {
+        rt,
+        shared,
+        watching,
+        streams: Streams::new(alloc, client),
+        wanting: false,
+        looked: Instant::now(rt).ok(),
+    };
+    for _ in rt.forever() {
+        keeper.round();
+        if shared.ended.load(Ordering::SeqCst) {
+            keeper.end_all();
+            break;
+        }
+        if shared.handing.is_closed() && keeper.streams.is_empty() {
+            break;
+        }
+    }
+    let Keeper { streams, .. } = keeper;
+    streams.into_client()
+}
+
+impl<'s, L: EngineName, G: Gate, C, R: Wait + time::Clock> Keeper<'s, L, G, C, R> {
+    /// Waits, and gives each stream its turn of which something may be there.
+    fn round(&mut self) {
+        let most = self.most_wait();
+        let woken = self.watching.wait(most);
+        if woken {
+            self.take_handed();
+        }
+        if self.is_time_to_look() {
+            self.look();
+        } else if woken || self.wanting {
+            self.find_behind();
+        }
+        self.wanting = false;
+        self.hear_wet();
+        self.turn_due();
+    }
+
+    /// How long the next wait is at most.
+    fn most_wait(&self) -> Duration {
+        if !self.watching.next.is_empty() {
+            return Duration::ZERO;
+        }
+        if self.wanting {
+            return Duration::from_millis(SOON);
+        }
+        Duration::from_millis(LOOK)
+    }
+
+    /// Whether a second has gone since all streams were looked at.
+    fn is_time_to_look(&mut self) -> bool {
+        let now = Instant::now(self.rt).ok();
+        let is_time = match (self.looked, now) {
+            (Some(looked), Some(now)) => {
+                now.saturating_duration_since(looked) >= Duration::from_millis(LOOK)
+            }
+            _ => true,
+        };
+        if is_time {
+            self.looked = now;
+        }
+        is_time
+    }
+
+    /// Takes those that were handed over, and has their sockets watched.
+    fn take_handed(&mut self) {
+        let handing = &self.shared.handing;
+        while let Some(handed) = handing.take(self.rt) {
+            let number = handed.number;
+            if !self.begin(handed) {
+                self.end(number);
+            } else {
+                let _ = self.watching.now.wet.push(number);
+                let _ = self.watching.now.due.push(number);
+            }
+        }
+    }
+
+    /// A stream begins; says whether it could.
+    fn begin(&mut self, handed: Handed) -> bool {
+        let Handed {
+            call,
+            number,
+            stream,
+        } = handed;
+        if stream.set_nonblocking(true).is_err() {
+            return false;
+        }
+        let mut stream = TcpStream::from_std(stream);
+        let both = Interest::READABLE | Interest::WRITABLE;
+        let registry = self.watching.poll.registry();
+        if registry
+            .register(&mut stream, Token(number as usize), both)
+            .is_err()
+        {
+            return false;
+        }
+        self.streams.begin(number, call, stream).is_ok()
+    }
+
+    /// Those whose watches are behind have a turn.
+    fn find_behind(&mut self) {
+        let engine = self.shared.engine;
+        let _ = engine.take_news();
+        engine.behind(self.rt, &mut self.watching.now.due);
+    }
+
+    /// Once a second each is looked at: those that take nothing end.
+    fn look(&mut self) {
+        self.find_behind();
+        self.streams.look(&mut self.watching.now.due);
+    }
+
+    /// What clients have sent is thrown away; those that have left have their streams ended.
+    fn hear_wet(&mut self) {
+        while let Some(number) = self.watching.now.wet.pop() {
+            match self.heard(number) {
+                Heard::Nothing => {}
+                Heard::More => {
+                    let _ = self.watching.next.wet.push(number);
+                }
+                Heard::Left => self.close(number),
+            }
+        }
+    }
+
+    /// What the client of a stream has sent.
+    fn heard(&self, number: u64) -> Heard {
+        match self.streams.get(number) {
+            Some(line) => heard_of(line.writer()),
+            None => Heard::Nothing,
+        }
+    }
+
+    /// Each stream has its turn.
+    fn turn_due(&mut self) {
+        while let Some(number) = self.watching.now.due.pop() {
+            let events = self.shared.events(self.rt);
+            match self.streams.turn(&events, number) {
+                None | Some(Turn::Quiet | Turn::Blocked) => {}
+                Some(Turn::Wanting) => self.wanting = true,
+                Some(Turn::Again) => {
+                    let _ = self.watching.next.due.push(number);
+                }
+                Some(Turn::Done | Turn::Broken | Turn::Cut) => self.end(number),
+            }
+        }
+    }
+
+    /// A stream and its watch are ended.
+    fn end(&mut self, number: u64) {
+        let events = self.shared.events(self.rt);
+        let call = match self.streams.get(number) {
+            Some(line) => line.call(),
+            None => 0,
+        };
+        self.streams.end(&events, number);
+        if call > 0 {
+            self.shared.gate.after(call);
+        }
+    }
+
+    /// A stream ends in order, as far as its client takes it, and its watch is ended.
+    fn close(&mut self, number: u64) {
+        let events = self.shared.events(self.rt);
+        self.streams.close(number);
+        let _ = self.streams.turn(&events, number);
+        self.end(number);
+    }
+
+    /// The server ends: each stream ends in order.
+    fn end_all(&mut self) {
+        self.take_handed();
+        for _ in 0..MOST_CLOSED {
+            let Some(number) = self.streams.first() else {
+                return;
+            };
+            self.close(number);
+        }
+    }
+}
+
+/// What a client has sent.
+#[derive(Clone, Copy, PartialEq, Eq)]
+enum Heard {
+    /// No more than was thrown away.
+    Nothing,
+    /// There may be more.
+    More,
+    /// It has ended its sending side, or the connection is broken.
+    Left,
+}
+
+/// Throws away what a client has sent, a mebibyte at most.
+fn heard_of(stream: &TcpStream) -> Heard {
+    let mut waste = [0; WASTE];
+    let mut stream = stream;
+    for _ in 0..MOST_WASTED {
+        match stream.read(&mut waste) {
+            Ok(0) => return Heard::Left,
+            Ok(_) => {}
+            Err(error) => match error.kind() {
+                ErrorKind::WouldBlock => return Heard::Nothing,
+                ErrorKind::Interrupted => {}
+                _ => return Heard::Left,
+            },
+        }
+    }
+    Heard::More
+}

@@ -1,0 +1,137 @@
+-- What goes out by a turn is just what the client was given of the watch.
+use Rattle.std.proofs.Common.{◌≡◌, ℕ, ◌==◌, List, [], ◌∷◌, ◌++◌, take, drop, length, ◌≤◌, Bool, true, false, Option, None, Some, Result, Ok, Err, ⊤, refl, sym, ◌∙◌, ap, subst, append_assoc, if◌then◌else◌, arith}
+use Rattle.std.proofs.lemmas.List.{append-nil, take-append-drop}
+use Rattle.std.specs.Io.KnownBytes.{Appends, Keeps, append_known}
+use Rattle.kv_model.specs.declared.ids.Ids.{Ids}
+use Rattle.json_gateway.specs.declared.outcome.Message.{Message}
+use Rattle.json_gateway.specs.declared.outcome.Message.TheVariants as message
+use Rattle.engine_lock.specs.Locked.{Caller, TellsTo, left, plus}
+use Rattle.engine_lock.specs.declared.past.Given.{Given}
+use Rattle.engine_lock.specs.declared.past.Given.TheVariants as given
+use Rattle.http_reply.specs.Replies.{chunk, last_chunk}
+use Rattle.watch_streams.specs.Lines.{LineState, Sends, is_out, with_unsent}
+use Rattle.watch_streams.specs.Streams.{IsGiven, TellsNext}
+use Rattle.watch_streams.specs.Turns.{Goes, IsExact, SentIs, Steps, bytes_of, chunk_of, goes_out, goes_out_of, is_cut}
+use Rattle.watch_streams.specs.declared.telling.Next.TheVariants as next
+use Rattle.watch_streams.specs.declared.turning.Turn.{Turn}
+use Rattle.watch_streams.specs.declared.turning.Turn.TheVariants as turn
+
+-- ---- known bytes
+
+nothing_more : (a : Option (List ℕ)) → Appends a a []
+nothing_more None = tt
+nothing_more (Some xs) = sym (append-nil xs)
+
+more_after : (a b c : Option (List ℕ)) (x y : List ℕ) → Appends a b x → Appends b c y → Appends a c (x ++ y)
+more_after None b c x y p q = tt
+more_after (Some a) None c x y p q = absurd p
+more_after (Some a) (Some b) None x y p q = absurd q
+more_after (Some a) (Some b) (Some c) x y p q = q ∙ ap (λ z. z ++ y) p ∙ append_assoc a x y
+
+-- what was to go out, and then has
+known_more : (a : Option (List ℕ)) (x : List ℕ) → Appends (append_known a []) (append_known a x) x
+known_more None x = tt
+known_more (Some a) x = ap (λ z. z ++ x) (sym (append-nil a))
+
+known_sent : (a b : Option (List ℕ)) (n : ℕ) (x : List ℕ) → Appends a b (take n x) → Appends (append_known a x) (append_known b (drop n x)) []
+known_sent None b n x p = tt
+known_sent (Some a) None n x p = absurd p
+known_sent (Some a) (Some b) n x p =
+    ap (λ z. z ++ drop n x) p ∙ append_assoc a (take n x) (drop n x) ∙ ap (λ z. a ++ z) (take-append-drop n x) ∙ sym (append-nil (a ++ x))
+
+known_kept : (a b : Option (List ℕ)) (x : List ℕ) → Keeps a b → Appends (append_known a x) (append_known b x) []
+known_kept None b x p = tt
+known_kept (Some a) None x p = absurd p
+known_kept (Some a) (Some b) x p = ap (λ z. z ++ x) p ∙ sym (append-nil (a ++ x))
+
+-- ---- what goes out of a list
+
+goes_out_both : (n : ℕ) (xs ys : List Given) → goes_out n (xs ++ ys) ≡ goes_out n xs ++ goes_out n ys
+goes_out_both n [] ys = refl
+goes_out_both n (x ∷ xs) ys = ap (λ z. goes_out_of n x ++ z) (goes_out_both n xs ys) ∙ sym (append_assoc (goes_out_of n x) (goes_out n xs) (goes_out n ys))
+
+same_number : (n : ℕ) → (n == n) ≡ true
+same_number n = search rules
+
+goes_out_one : (n : ℕ) (m : Message) → goes_out n (given.Told n m ∷ []) ≡ chunk_of m
+goes_out_one n m = append-nil (goes_out_of n (given.Told n m)) ∙ ap (λ (b : Bool). if b then chunk_of m else []) (same_number n)
+
+-- ---- steps
+
+pub exact_stays : (c : Caller) (l : LineState) → IsExact c l c l
+exact_stays c l = record { more = []; grows = sym (append-nil c.given); bytes = nothing_more (bytes_of l); number = refl }
+
+exact_both : (c d e : Caller) (l m k : LineState) → IsExact c l d m → IsExact d m e k → IsExact c l e k
+exact_both c d e l m k p q = record {
+  more = p.more ++ q.more;
+  grows = q.grows ∙ ap (λ z. z ++ q.more) p.grows ∙ append_assoc c.given p.more q.more;
+  bytes = subst (Appends (bytes_of l) (bytes_of k)) (sym (goes_out_both l.number p.more q.more))
+      (more_after (bytes_of l) (bytes_of m) (bytes_of k) (goes_out l.number p.more) (goes_out l.number q.more) p.bytes
+      (subst (λ (n : ℕ). Appends (bytes_of m) (bytes_of k) (goes_out n q.more)) p.number q.bytes));
+  number = q.number ∙ p.number;
+}
+
+-- a message, which is then to go out
+exact_given : (ids : Ids) (c d : Caller) (l m : LineState) (x : Message) → IsGiven ids c l x d → l.unsent ≡ []
+    → m.wrote ≡ l.wrote → m.unsent ≡ chunk_of x → m.number ≡ l.number → IsExact c l d m
+exact_given ids c d l m x g out wrote unsent number = record {
+  more = given.Told l.number x ∷ [];
+  grows = ap (λ (e : Caller). e.given) g.given;
+  bytes = subst (Appends (bytes_of l) (bytes_of m)) (sym (goes_out_one l.number x))
+      (subst (λ (b : Option (List ℕ)). Appends (bytes_of l) b (chunk_of x)) (λ i. append_known (sym wrote i) (sym unsent i))
+      (subst (λ (u : List ℕ). Appends (append_known l.wrote u) (append_known l.wrote (chunk_of x)) (chunk_of x)) (sym out) (known_more l.wrote (chunk_of x))));
+  number = number;
+}
+
+-- nothing that goes out, and a client that was given nothing
+exact_same : (c d : Caller) (l m : LineState) → d.given ≡ c.given → m ≡ l → IsExact c l d m
+exact_same c d l m given same = record {
+  more = [];
+  grows = given ∙ sym (append-nil c.given);
+  bytes = subst (λ (k : LineState). Appends (bytes_of l) (bytes_of k) []) (sym same) (nothing_more (bytes_of l));
+  number = ap (λ (k : LineState). k.number) same;
+}
+
+-- a write
+exact_sent : (c d : Caller) (l m : LineState) (r : Result ℕ Bool) → d.given ≡ c.given → Sends l m r → IsExact c l d m
+exact_sent c d l m (Ok n) given s = record {
+  more = [];
+  grows = given ∙ sym (append-nil c.given);
+  bytes = subst (λ (k : LineState). Appends (bytes_of l) (bytes_of k) []) (sym s.2) (known_sent l.wrote m.wrote n l.unsent s.1);
+  number = ap (λ (k : LineState). k.number) s.2;
+}
+exact_sent c d l m (Err again) given s = record {
+  more = [];
+  grows = given ∙ sym (append-nil c.given);
+  bytes = subst (λ (k : LineState). Appends (bytes_of l) (bytes_of k) []) (sym s.1) (known_kept l.wrote m.wrote l.unsent s.0);
+  number = ap (λ (k : LineState). k.number) s.1;
+}
+
+sent_is : (c d : Caller) (l m : LineState) (r : Option Turn) → d.given ≡ c.given → SentIs l r m → IsExact c l d m
+sent_is c d l m _ given (SentIs.some n s) = exact_sent c d l m (Ok n) given s
+sent_is c d l _ _ given (SentIs.none out) = exact_same c d l l given refl
+sent_is c d l m _ given (SentIs.blocked s) = exact_sent c d l m (Err true) given s
+sent_is c d l m _ given (SentIs.broken again s) = exact_sent c d l m (Err again) given s
+
+-- whether a step lost a message
+cuts : Option Turn → Bool
+cuts None = false
+cuts (Some t) = is_cut t
+
+exact_step : (ids : Ids) (c d : Caller) (l m : LineState) (r : Option Turn) → cuts r ≡ false → Steps ids c l r d m → IsExact c l d m
+exact_step ids c d l m _ k (Steps.told t) =
+    exact_given ids c d l m (message.Text t.0) t.1 t.2 (ap (λ (n : LineState). n.wrote) t.4) (ap (λ (n : LineState). n.unsent) t.4) (ap (λ (n : LineState). n.number) t.4)
+exact_step ids c d l m _ k (Steps.ended t) =
+    exact_given ids c d l m message.NoWatch t.0 t.1 (ap (λ (n : LineState). n.wrote) t.3) (ap (λ (n : LineState). n.unsent) t.3) (ap (λ (n : LineState). n.number) t.3)
+exact_step ids c d l m _ k (Steps.quiet t) = exact_same c d l m (ap (λ (e : Caller). e.given) t.1) t.2
+exact_step ids c d l m _ k (Steps.wanting t) = exact_same c d l m (ap (λ (e : Caller). e.given) t.0) t.1
+exact_step ids c d l m _ k (Steps.cut t) = absurd (search rules)
+exact_step ids c d l m r k (Steps.sent {c'} {l'} t s) =
+    sent_is c d l m r (ap (λ (e : Caller). e.given) t.1) (subst (λ (n : LineState). SentIs n r m) t.2 s)
+
+pub exact_goes : (ids : Ids) (c d : Caller) (l m : LineState) → Goes ids c l d m → IsExact c l d m
+exact_goes ids c _ l _ Goes.stays = exact_stays c l
+exact_goes ids c d l m (Goes.more {c'} {l'} goes step) = exact_both c c' d l l' m (exact_goes ids c c' l l' goes) (exact_step ids c' d l' m None refl step)
+
+pub exact_last : (ids : Ids) (c c' d : Caller) (l l' m : LineState) (t : Turn) → Goes ids c l c' l' → Steps ids c' l' (Some t) d m → is_cut t ≡ false → IsExact c l d m
+exact_last ids c c' d l l' m t goes step k = exact_both c c' d l l' m (exact_goes ids c c' l l' goes) (exact_step ids c' d l' m (Some t) k step)

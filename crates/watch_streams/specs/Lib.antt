@@ -1,0 +1,4 @@
+pub mod Lines
+pub mod Sets
+pub mod Streams
+pub mod Turns

@@ -1,0 +1,34 @@
+-- The stream of a watch between two waits.
+use Rattle.std.specs.Prelude.{◌≡◌, ◌≤◌, ℕ, List, [], ◌++◌, length, take, drop, Bool, true, false, Option, Result, Ok, Err}
+use Rattle.std.specs.Io.KnownBytes.{Appends, Keeps}
+use Rattle.http_reply.specs.Counts.{one_more}
+use Rattle.kv_model.specs.Lists.{is_empty}
+
+-- the number of its watch and of its connection, the bytes that its writer is known to hold and the failures that it
+-- tells, the bytes that have not gone out, and whether it has ended
+pub record LineState : Type 0 where
+  pub number : ℕ
+  pub call : ℕ
+  pub wrote : Option (List ℕ)
+  pub failures : ℕ
+  pub unsent : List ℕ
+  pub ended : Bool
+
+-- as it begins, with such a writer
+abbrev pub begun_at : ℕ → ℕ → Option (List ℕ) → LineState
+begun_at number call wrote = record { number = number; call = call; wrote = wrote; failures = 0; unsent = []; ended = false }
+
+-- all has gone out
+abbrev pub is_out : LineState → Bool
+is_out l = is_empty l.unsent
+
+abbrev pub with_unsent : List ℕ → LineState → LineState
+with_unsent text l = record l { unsent = text }
+
+-- one write: it took so many of the bytes that had not gone out; or it failed, or took none, which its writer counts, and
+-- nothing has changed
+abbrev pub Sends : LineState → LineState → Result ℕ Bool → Type 0
+Sends old new (Ok n) = (n ≤ length old.unsent) × Appends old.wrote new.wrote (take n old.unsent)
+    × (new ≡ record old { wrote = new.wrote; unsent = drop n old.unsent })
+Sends old new (Err blocked) = Keeps old.wrote new.wrote
+    × (new ≡ record old { wrote = new.wrote; failures = one_more old.failures })
