@@ -157,8 +157,9 @@ fn begins_again_at_a_later_compaction(rt: HostRuntime) {
     );
 }
 
-/// 1,024 puts of a, at the revisions from 2 to 1025, and one of b, which fill five pages. The last
-/// put of each is left.
+/// 1,024 puts of a, at the revisions from 2 to 1025, and one of b. The last put of each is left.
+/// The pages that they fill, and those that are left, are counted in the crate `table_tests`, in
+/// `src/trimming.rt`.
 static MANY: [Row; 6] = [
     Row::PutsBelow(1_026),
     Row::Put(1_026, b"b"),

@@ -1,1 +1,2 @@
 pub mod OnePut
+pub mod Behind

@@ -20,3 +20,5 @@ mod pages;
 mod spans;
 #[cfg(test)]
 mod table;
+#[cfg(test)]
+mod trimming;

@@ -1,23 +1,23 @@
-//! A table in pages of 512 places.
+//! A table in pages of 256 places.
 use crate::table::{Row, first_wrong_of_fresh};
 
-// 2,048 puts of one key, at the revisions from 2 to 2049, and one of another make 5 pages. A
+// 1,024 puts of one key, at the revisions from 2 to 1025, and one of another make 5 pages. A
 // compaction at the last one leaves the last put of each key: the one at the end of the fourth
 // page, and the one on the fifth.
 static PAGES: [Row; 13] = [
-    Row::PushBelow(2_051),
-    Row::Len(2_049),
+    Row::PushBelow(1_027),
+    Row::Len(1_025),
     Row::Pages(5),
-    Row::Walk(2_049, 5),
-    Row::WalkFrom(1_026, 1_025),
-    Row::RemoveBelow(2_049),
+    Row::Walk(1_025, 5),
+    Row::WalkFrom(514, 513),
+    Row::RemoveBelow(1_025),
     Row::Len(2),
     Row::Pages(2),
     Row::Walk(2, 2),
-    Row::Get(2_049, 0, Some((2_049, 0))),
-    Row::Get(2_050, 0, Some((2_050, 0))),
+    Row::Get(1_025, 0, Some((1_025, 0))),
+    Row::Get(1_026, 0, Some((1_026, 0))),
     Row::Get(2, 0, None),
-    Row::NextFrom(3, 0, Some((2_049, 0))),
+    Row::NextFrom(3, 0, Some((1_025, 0))),
 ];
 
 #[test]
@@ -25,11 +25,11 @@ fn fills_pages_and_frees_them(rt: HostRuntime) {
     assert_eq!(rt; first_wrong_of_fresh(rt.alloc(), PAGES.as_slice()), None);
 }
 
-// 1,400 changes of the last main revision stand on four pages; they go, and what is before them stays.
+// 600 changes of the last main revision stand on four pages; they go, and what is before them stays.
 static TAKEN_BACK: [Row; 7] = [
     Row::PushBelow(202),
-    Row::PushOf(202, 1_400),
-    Row::Len(1_600),
+    Row::PushOf(202, 600),
+    Row::Len(800),
     Row::Pages(4),
     Row::Retract(202),
     Row::Len(200),

@@ -47,7 +47,7 @@ fn place(version: Option<&Version>) -> Option<(u64, u64)> {
 fn count(walk: Versions<'_>) -> usize {
     let mut walk = walk;
     let mut count: usize = 0;
-    for _ in 0..2_200 {
+    for _ in 0..1_100 {
         if walk.next().is_some() {
             count = count.saturating_add(1);
         }
@@ -59,7 +59,7 @@ fn count(walk: Versions<'_>) -> usize {
 fn slices(walk: Versions<'_>) -> usize {
     let mut walk = walk;
     let mut count: usize = 0;
-    for _ in 0..2_200 {
+    for _ in 0..1_100 {
         if walk.next_slice().is_some() {
             count = count.saturating_add(1);
         }

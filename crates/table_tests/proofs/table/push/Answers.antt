@@ -1,17 +1,12 @@
 -- No version in the table stands from the revision on.
-use Rattle.std.proofs.Common.{◌≡◌, ◌∙◌, None, Some, not, sym, subst}
-use Rattle.std.specs.Prelude.{Option, option_map}
+use Rattle.std.proofs.Common.{not, sym, subst}
 use Rattle.std.specs.List.{find}
 use Rattle.kv_model.specs.declared.version.Rev.{Rev}
-use Rattle.kv_model.specs.declared.version.Version.{Version}
 use Rattle.kv_model.specs.History.{rev_lt}
 use Rattle.version_table.specs.Rising.{IsBehind}
 use Rattle.version_table.proofs.Rising.{behind-none_from}
+use Rattle.table_tests.proofs.Behind.{none}
 use Rattle.table_tests.proofs.table.push.Goals as goal
-
-none : (o : Option Version) → None ≡ option_map (λ (v : Version). v.rev) o → o ≡ None
-none None e = λ _. None
-none (Some v) e = cc
 
 pub push-requires : goal.push-requires
 push-requires c =
