@@ -1,5 +1,6 @@
 //! Texts that are not read, and the line that is named.
 use crate::samples::{TWO_KEYS, stops_at};
+use certificate_text::Unreadable;
 use std::alloc::{AllocError, Global};
 
 /// A line of the text of two keys, what is put in its place, and the line that is unreadable then.
@@ -140,4 +141,39 @@ fn missing(rt: HostRuntime) {
         stops_at(rt.alloc(), b"dump 2\nfloor 0\nrevision 1\nend\nneeds 2"),
         Some(6)
     );
+}
+
+/// Whether a refusal is shown as this text.
+fn is_shown(alloc: Global, refusal: Unreadable, text: &str) -> bool {
+    let shown = format!(in alloc; "{refusal}");
+    let is = match &shown {
+        Ok(shown) => shown.as_str() == text,
+        Err(_) => false,
+    };
+    drop(shown);
+    is
+}
+
+static SHOWN: [(Unreadable, &str); 3] = [
+    (Unreadable::Line(1), "unreadable: line 1"),
+    (
+        Unreadable::Line(1_000_000_007),
+        "unreadable: line 1000000007",
+    ),
+    (Unreadable::Memory, "out of memory"),
+];
+
+/// The first text whose refusal is shown otherwise.
+fn first_shown_wrong(alloc: Global, cases: &[(Unreadable, &'static str)]) -> Option<&'static str> {
+    for (refusal, text) in cases.iter().copied() {
+        if !is_shown(alloc, refusal, text) {
+            return Some(text);
+        }
+    }
+    None
+}
+
+#[test]
+fn shows_each_refusal(rt: HostRuntime) {
+    assert_eq!(rt; first_shown_wrong(rt.alloc(), SHOWN.as_slice()), None);
 }

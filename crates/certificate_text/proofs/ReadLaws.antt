@@ -1,14 +1,14 @@
 -- Reading a text: what it gives, the line that it names, and that texts are read.
-use Rattle.std.proofs.Common.{◌≡◌, ℕ, ◌+◌, ◌-◌, List, length, Bool, Result, Ok, Err, IfOk, IfErr, refl, sym, ap, ◌∙◌}
+use Rattle.std.proofs.Common.{◌≡◌, ℕ, ◌+◌, ◌-◌, List, length, Bool, Result, Ok, Err, IfOk, IfErr, refl, sym, ap, subst, ◌∙◌}
 use Rattle.kv_model.specs.Certificates.{Dump, Claim}
 use Rattle.certificate_text.specs.declared.reading.Unreadable.{Unreadable}
 use Rattle.certificate_text.specs.declared.reading.Unreadable.TheVariants as unreadable
 use Rattle.certificate_text.specs.declared.stop.Stop.{Stop}
 use Rattle.certificate_text.specs.declared.stop.Stop.TheVariants as stop
-use Rattle.certificate_text.specs.Outcomes.{IsToldAs, IsUnreadable, ReadsAll, ReadsBack}
+use Rattle.certificate_text.specs.Outcomes.{IsEarly, IsToldAs, IsUnreadable, ReadsAll, ReadsBack}
 use Rattle.certificate_text.specs.Lines.{lines_of, IsTextOf, IsFirstUnreadable}
 use Rattle.certificate_text.specs.Texts.{AreInLimits}
-use Rattle.certificate_text.specs.Walking.{begins_first, text_read}
+use Rattle.certificate_text.specs.Walking.{Read, begins_first, text_read}
 use Rattle.certificate_text.proofs.LinesLaws.{lines_of_text, text_of_lines, line_number}
 use Rattle.certificate_text.proofs.FormatLaws.{text_takes, text_again, text_stops}
 
@@ -61,3 +61,18 @@ told_whole text (Ok found) r reads told d claims limits is = rw told (back_ok te
 told_whole text (Err (stop.At rest)) r reads told d claims limits is =
     rw told (back_err text (lines_of rest.now) _ d claims reads limits is)
 told_whole text (Err stop.Memory) r reads told d claims limits is = rw told refl
+
+-- ---- before any memory is taken
+
+pub early_past : {X Y Z : Type 0} (m : Read Y) (x : X) (r : Result Z Stop) → IsEarly m (Ok x) → IsEarly m r
+early_past (Ok y) x r h = tt
+early_past (Err ls) x r h = absurd h
+
+pub told_early : (text : List ℕ) (made : Result (Dump × List Claim) Stop) (r : Result (Dump × List Claim) Unreadable) (m : Read (ℕ × ℕ))
+    → IsEarly m made → IsToldAs text made r
+    → (rest : List (List ℕ)) → m ≡ Err rest → r ≡ Err (unreadable.Line (length (lines_of text) - length rest + 1))
+told_early text (Ok found) r m early told rest e = absurd (subst (λ (k : Read (ℕ × ℕ)). IsEarly k (Ok found)) e early)
+told_early text (Err (stop.At s)) r m early told rest e =
+    let same : lines_of s.now ≡ rest = subst (λ (k : Read (ℕ × ℕ)). IsEarly {X = Dump × List Claim} k (Err (stop.At s))) e early in
+    told ∙ ap (λ ls. Err (unreadable.Line (length (lines_of text) - length ls + 1))) same
+told_early text (Err stop.Memory) r m early told rest e = absurd (subst (λ (k : Read (ℕ × ℕ)). IsEarly {X = Dump × List Claim} k (Err stop.Memory)) e early)

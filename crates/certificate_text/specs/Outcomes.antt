@@ -80,6 +80,13 @@ abbrev pub ReadsAll : {X Y : Type 0} → (X → Y) → Result X Stop → Result 
 ReadsAll view (Ok x) r = r ≡ Ok (view x)
 ReadsAll view (Err e) r = FailsAt e r
 
+-- a text whose head is none stops there: memory is taken behind it alone
+abbrev pub IsEarly : {X Y : Type 0} → Read Y → Result X Stop → Type 0
+IsEarly (Ok y) r = ⊤
+IsEarly (Err ls) (Ok x) = ⊥
+IsEarly (Err ls) (Err (stop.At rest)) = lines_of rest.now ≡ ls
+IsEarly (Err ls) (Err stop.Memory) = ⊥
+
 -- how a text stops at a line that gave nothing
 abbrev pub stopped : Bor (List ℕ) → Unfit → Stop
 stopped text unfit.Form = stop.At text

@@ -40,6 +40,14 @@ abbrev pub if_none_left : {A : Type 0} → A → List (List ℕ) → Result A (L
 if_none_left a [] = Ok a
 if_none_left a (line ∷ ls) = Err (line ∷ ls)
 
+-- the first three lines, of which nothing is kept but two numbers
+unfoldable pub head_of : Bool → List (List ℕ) → Read (ℕ × ℕ)
+head_of first ls = do
+  head ← line_by (exactly (dump_head first)) ls
+  floor ← line_by (numbered (codes "floor")) head.1
+  revision ← line_by (numbered (codes "revision")) floor.1
+  Ok ((floor.0, revision.0), revision.1)
+
 unfoldable pub dump_of : Bool → List (List ℕ) → Read Dump
 dump_of first ls = do
   head ← line_by (exactly (dump_head first)) ls
@@ -65,6 +73,9 @@ abbrev pub begins_first : List (List ℕ) → Bool
 begins_first [] = false
 begins_first (line ∷ ls) = same_text line (dump_head true)
 
--- a text in the format of its first line
+-- its first three lines, and the text, in the format of its first line
+abbrev pub head_read : List (List ℕ) → Read (ℕ × ℕ)
+head_read ls = head_of (begins_first ls) ls
+
 abbrev pub text_read : List (List ℕ) → Result (Dump × List Claim) (List (List ℕ))
 text_read ls = read_in (begins_first ls) ls

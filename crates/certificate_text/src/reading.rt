@@ -1,11 +1,13 @@
 //! A text read, line after line.
-ghost use Rattle.std.specs.Prelude.{◌≡◌, ◌+◌, ◌-◌, ◌<◌, ◌≤◌, ⊤, List, [], ◌∷◌, length, codes};
+ghost use Rattle.std.specs.Prelude.{◌≡◌, ◌+◌, ◌-◌, ◌<◌, ◌≤◌, ⊤, ℕ, List, [], ◌∷◌, length, codes};
+ghost use Rattle.std.specs.Prelude.{Err};
 ghost use Rattle.std.specs.Prelude.{MatchOption, IfOk, IfErr};
 ghost use Rattle.kv_model.specs.Certificates.{Dump as SeenDump, Claim as SeenClaim};
 ghost use Rattle.certificate_text.specs.Lines.{lines_of, IsTextOf};
-ghost use Rattle.certificate_text.specs.Outcomes.{IsToldAs, IsUnreadable, Reads, ReadsAll, ReadsBack};
+ghost use Rattle.certificate_text.specs.Outcomes.{IsEarly, IsToldAs, IsUnreadable, Reads, ReadsAll, ReadsBack};
 ghost use Rattle.certificate_text.specs.Outcomes.{ReadsPlainly, stopped};
 ghost use Rattle.certificate_text.specs.Reading as reading;
+ghost use Rattle.certificate_text.specs.declared.reading.Unreadable.TheVariants.{Line};
 ghost use Rattle.certificate_text.specs.Texts as texts;
 ghost use Rattle.certificate_text.specs.Texts.{AreInLimits};
 ghost use Rattle.certificate_text.specs.Walking as walking;
@@ -38,12 +40,15 @@ pub enum Unreadable {
 /// its own.
 ///
 /// Fails with `Unreadable::Line` where the text is that of no dump in either format, and with
-/// `Unreadable::Memory` where memory is wanting.
+/// `Unreadable::Memory` where memory is wanting, which is never so where one of the first three
+/// lines is not of its form.
 pub fn read(alloc: Global, text: &[u8]) -> Result<(Dump, Certificate), Unreadable>
     ensures ok { IfOk result (λ r. IsTextOf text.now r.0 r.1 × AreInLimits r.0 r.1) }
     ensures unreadable { IfErr result (λ e. IsUnreadable text.now e) }
     ensures whole { (d : SeenDump) (claims : List SeenClaim) → AreInLimits d claims
         → IsTextOf text.now d claims → ReadsBack result d claims }
+    ensures early { (rest : List (List ℕ)) → walking.head_read (lines_of text.now) ≡ Err rest
+        → result ≡ Err (Line (length (lines_of text.now) - length rest + 1)) }
 {
     told(text, text_read(alloc, text))
 }
@@ -85,7 +90,8 @@ fn count_lines(text: &[u8]) -> usize
 
 /// Reads a text in the format of its first line.
 fn text_read(alloc: Global, text: &[u8]) -> Result<(Dump, Certificate), Stop<'_>>
-    ensures { ReadsAll (λ x. x) result (walking.text_read (lines_of text.now)) }
+    ensures gives { ReadsAll (λ x. x) result (walking.text_read (lines_of text.now)) }
+    ensures early { IsEarly (walking.head_read (lines_of text.now)) result }
 {
     read_in(alloc, begins_first(text), text)
 }
@@ -103,7 +109,8 @@ fn begins_first(text: &[u8]) -> bool
 /// Reads a text in a format.
 #[tactic(auto, unfolding(crate::specs::Walking::read_in))]
 fn read_in(alloc: Global, is_first: bool, text: &[u8]) -> Result<(Dump, Certificate), Stop<'_>>
-    ensures { ReadsAll (λ x. x) result (walking.read_in is_first (lines_of text.now)) }
+    ensures gives { ReadsAll (λ x. x) result (walking.read_in is_first (lines_of text.now)) }
+    ensures early { IsEarly (walking.head_of is_first (lines_of text.now)) result }
 {
     let (dump, rest) = dump_of(alloc, is_first, text)?;
     let (certificate, rest) = needs_of(alloc, is_first, rest)?;
@@ -113,9 +120,10 @@ fn read_in(alloc: Global, is_first: bool, text: &[u8]) -> Result<(Dump, Certific
     }
 }
 
-#[tactic(auto, unfolding(crate::specs::Walking::dump_of))]
+#[tactic(auto, unfolding(crate::specs::Walking::dump_of, crate::specs::Walking::head_of))]
 fn dump_of(alloc: Global, is_first: bool, text: &[u8]) -> Result<(Dump, &[u8]), Stop<'_>>
-    ensures { Reads (λ x. x) result (walking.dump_of is_first (lines_of text.now)) }
+    ensures gives { Reads (λ x. x) result (walking.dump_of is_first (lines_of text.now)) }
+    ensures early { IsEarly (walking.head_of is_first (lines_of text.now)) result }
 {
     let ((), rest) = expect(dump_head(is_first), text)?;
     let (floor, rest) = number_line(b"floor", rest)?;

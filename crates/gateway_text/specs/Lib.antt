@@ -2,3 +2,4 @@ pub mod Tokens
 pub mod Views
 pub mod Rooms
 pub mod Bare
+pub mod Lengths

@@ -4,12 +4,13 @@
 //! each key and value is made in a second buffer, which grows to the longest of them, and is copied
 //! into the body. So an answer costs two allocations and a few more as the second buffer grows, and
 //! time for the bytes of its body.
-ghost use Rattle.std.specs.Prelude.{◌≡◌, ◌≤◌, ◌+◌, ◌++◌, map, IfOk, OnOk, option_map};
+ghost use Rattle.std.specs.Prelude.{◌≡◌, ◌≤◌, ◌+◌, ◌++◌, Some, length, map, decimal};
+ghost use Rattle.std.specs.Prelude.{IfOk, OnOk, option_map};
 ghost use Rattle.kv_model.specs.Told as told;
 ghost use Rattle.kv_model.specs.Answers as texts;
 ghost use Rattle.kv_model.specs.Answers.{success_response};
 ghost use Rattle.range_view.specs.Replies.{kv_view, reply_view};
-ghost use Rattle.gateway_text.specs.Rooms.{most_of_kv, most_of_kvs};
+ghost use Rattle.gateway_text.specs.Rooms.{Holds, kv_len, most_of_kv, most_of_kvs, text_len, total};
 ghost use Rattle.gateway_text.specs.Tokens.{data_tokens};
 ghost use Rattle.gateway_text.specs.Views.{header_data};
 
@@ -151,20 +152,24 @@ pub(crate) fn write_delete(
 pub(crate) fn frame_of(ids: &Ids, revision: u64, count: u64) -> usize
     ensures least { 44 ≤ result }
     ensures most { result ≤ 256 }
+    ensures text { text_len (texts.header ids.now revision) + 44 + length (decimal count) ≤ result }
 {
     room_of_header(ids, revision) + ANSWER_NAMES + digits(count)
 }
 
 /// Room for the text of a Put's answer that tells what was held before.
 fn room_of_put(ids: &Ids, revision: u64, held: &KvRef<'_>) -> usize
-    ensures { result ≤ 148 + most_of_kv (kv_view held.now) }
+    ensures most { result ≤ 148 + most_of_kv (kv_view held.now) }
+    ensures least { Holds result (text_len (texts.put_text (texts.header ids.now revision)
+        (Some (kv_view held.now)))) }
 {
     room_of_kv(held).saturating_add(room_of_header(ids, revision) + PUT)
 }
 
 /// So much room, and room for these key-values.
 pub(crate) fn room_for(frame: usize, kvs: &[KvRef<'_>]) -> usize
-    ensures { result ≤ frame + most_of_kvs kvs.now }
+    ensures most { result ≤ frame + most_of_kvs kvs.now }
+    ensures least { Holds result (frame + total (map kv_len kvs.now)) }
 {
     let mut room = frame;
     for kv in kvs {

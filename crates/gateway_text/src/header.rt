@@ -1,9 +1,10 @@
 //! The header of an answer.
-ghost use Rattle.std.specs.Prelude.{◌≡◌, ◌≤◌, ◌++◌, IfOk, OnOk};
+ghost use Rattle.std.specs.Prelude.{◌≡◌, ◌<◌, ◌≤◌, ◌^◌, ◌++◌, length, decimal, IfOk, OnOk};
 ghost use Rattle.serde_json.specs.Written.{compact_text};
 ghost use Rattle.kv_model.specs.Answers as answers;
 ghost use Rattle.kv_model.specs.Answers.{header_alone};
 ghost use Rattle.gateway_text.specs.Bare.{bare_text, number_between};
+ghost use Rattle.gateway_text.specs.Rooms.{text_len};
 ghost use Rattle.gateway_text.specs.Tokens.{data_tokens};
 
 use crate::json_text::{JsonText, WriteJson};
@@ -38,7 +39,8 @@ const HEADER_NAMES: usize = 62;
 
 /// Room for the text of a whole header.
 pub(crate) fn room_of_header(ids: &Ids, revision: u64) -> usize
-    ensures { result ≤ 125 }
+    ensures most { result ≤ 125 }
+    ensures least { text_len (answers.header ids.now revision) ≤ result }
 {
     HEADER_NAMES + digits(ids.cluster) + digits(ids.member) + digits(revision)
 }
@@ -88,7 +90,9 @@ fn write_number(out: &mut Vec<u8>, before: &[u8], n: u64, behind: &[u8]) -> Resu
 /// At least as many as the decimal digits of a number, and at most one more: ten bits have three
 /// digits, and five bits of sixteen are a little more than that.
 pub(crate) fn digits(n: u64) -> usize
-    ensures { result ≤ 21 }
+    ensures most { result ≤ 21 }
+    ensures least { length (decimal n) ≤ result }
+    ensures fits { n < 2 ^ 64 }
 {
     let bits = 64 - n.leading_zeros() as usize;
     bits * 5 / 16 + 1

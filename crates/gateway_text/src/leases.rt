@@ -3,10 +3,12 @@
 //!
 //! Each function here fails for want of memory alone, and costs as those of the other answers do.
 ghost use Rattle.std.specs.Prelude.{◌≡◌, ◌≤◌, ◌+◌, ◌*◌, ◌++◌, length, map, codes, IfOk, OnOk};
+ghost use Rattle.std.specs.Prelude.{FitsSigned};
+ghost use Rattle.std.specs.Int.{w64};
 ghost use Rattle.kv_model.specs.Told as told;
 ghost use Rattle.kv_model.specs.Answers as texts;
 ghost use Rattle.kv_model.specs.Answers.{success_response, int_field};
-ghost use Rattle.gateway_text.specs.Rooms.{most_of_key, total};
+ghost use Rattle.gateway_text.specs.Rooms.{Holds, key_len, lease_len, most_of_key, total};
 ghost use Rattle.gateway_text.specs.Tokens.{data_tokens, field_tokens};
 ghost use Rattle.gateway_text.specs.Views.{header_data, lease_data, leases_data};
 ghost use Rattle.gateway_text.specs.Views.{seconds_view, time_left_data};
@@ -206,14 +208,36 @@ impl WriteJson for i64 {
 
 /// Room for a body with these leases.
 fn room_for_leases(leases: &[i64]) -> usize
-    ensures { result ≤ 256 + 32 * length leases.now }
+    ensures most { result ≤ 256 + 32 * length leases.now }
+    ensures least { Holds result (256 + total (map lease_len leases.now)) }
 {
-    leases.len().saturating_mul(ITEM).saturating_add(FRAME)
+    let mut room = FRAME;
+    for lease in leases {
+        room = room.saturating_add(room_of_item(lease));
+    }
+    room
+}
+
+/// Room for a lease in a list, whatever its ID is.
+fn room_of_item(id: &i64) -> usize
+    ensures most { result ≤ 32 }
+    ensures least { Holds result (lease_len id.now) }
+{
+    number_of(id);
+    ITEM
+}
+
+/// The number that an ID is, which fits 64 signed bits.
+fn number_of(id: &i64) -> i64
+    ensures { FitsSigned w64 id.now }
+{
+    *id
 }
 
 /// Room for a body with these keys: base64 has four symbols for three bytes.
 fn room_for_keys(keys: &[&[u8]]) -> usize
-    ensures { result ≤ 256 + total (map (λ k. most_of_key k.now) keys.now) }
+    ensures most { result ≤ 256 + total (map (λ k. most_of_key k.now) keys.now) }
+    ensures least { Holds result (256 + total (map (λ k. key_len k.now) keys.now)) }
 {
     let mut room = FRAME;
     for key in keys {
@@ -223,7 +247,8 @@ fn room_for_keys(keys: &[&[u8]]) -> usize
 }
 
 fn room_of_key(key: &[u8]) -> usize
-    ensures { result ≤ most_of_key key.now }
+    ensures most { result ≤ most_of_key key.now }
+    ensures least { Holds result (key_len key.now) }
 {
     (key.len() / 3).saturating_mul(4).saturating_add(ITEM)
 }

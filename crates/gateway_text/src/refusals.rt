@@ -1,9 +1,11 @@
 //! The bodies of refusals.
-ghost use Rattle.std.specs.Prelude.{◌≡◌, ◌≤◌, ◌+◌, ◌*◌, ℕ, ◌++◌, length, IfOk, OnOk, string_bytes};
+ghost use Rattle.std.specs.Prelude.{◌≡◌, ◌<◌, ◌≤◌, ◌+◌, ◌*◌, ◌^◌, ℕ, ◌++◌, length, IfOk, OnOk};
+ghost use Rattle.std.specs.Prelude.{string_bytes};
 ghost use Rattle.kv_model.specs.declared.refusal.Refusal.TheVariants.{Memory};
 ghost use Rattle.kv_model.specs.Requests as requests;
 ghost use Rattle.kv_model.specs.Answers.{fault, fault_of, fault_of_bad};
 ghost use Rattle.kv_model.specs.Answers.{lost_fault, fault_text, refused};
+ghost use Rattle.gateway_text.specs.Rooms.{ArePlain, Holds, text_len};
 ghost use Rattle.gateway_text.specs.Tokens.{data_tokens};
 ghost use Rattle.gateway_text.specs.Views.{wording_view};
 
@@ -139,7 +141,9 @@ pub fn refusal_text(alloc: Global, wording: &Wording<'_>) -> Result<Vec<u8>, All
 
 /// Room for the body of a refusal, in which the text stands twice.
 fn room_of_refusal(text: &str) -> usize
-    ensures { result ≤ 2 * length text.now + 64 }
+    ensures most { result ≤ 2 * length text.now + 64 }
+    ensures least { (status code : ℕ) → code < 2 ^ 16 → ArePlain text.now
+        → Holds result (text_len (fault_text (fault status code text.now))) }
 {
     text.len().saturating_mul(2).saturating_add(REFUSAL_FRAME)
 }

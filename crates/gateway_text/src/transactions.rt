@@ -1,17 +1,20 @@
 //! The bodies of the answers to transactions (the etcd documentation's TxnResponse and ResponseOp).
-ghost use Rattle.std.specs.Prelude.{◌≡◌, ◌≤◌, ◌+◌, ◌++◌, map, codes, IfOk, OnOk, option_map};
+ghost use Rattle.std.specs.Prelude.{◌≡◌, ◌<◌, ◌≤◌, ◌+◌, ◌^◌, ◌++◌, length, map, codes, decimal};
+ghost use Rattle.std.specs.Prelude.{IfOk, OnOk, option_map};
 ghost use Rattle.std.specs.List.{flat_map};
 ghost use Rattle.kv_model.specs.Told as told;
 ghost use Rattle.kv_model.specs.Answers as texts;
 ghost use Rattle.kv_model.specs.Answers.{success_response, list_field};
 ghost use Rattle.range_view.specs.Replies.{kv_view, reply_view, replies_view};
-ghost use Rattle.gateway_text.specs.Rooms.{most_of_reply, total};
+ghost use Rattle.gateway_text.specs.Lengths.{response_len};
+ghost use Rattle.gateway_text.specs.Rooms.{Holds, most_of_kvs, most_of_reply, most_or, text_len, total};
 ghost use Rattle.gateway_text.specs.Tokens.{data_tokens, field_tokens};
 ghost use Rattle.gateway_text.specs.Views.{header_data, response_of};
 
 use crate::answers::{ANSWER_NAMES, frame_of, room_for, write_delete, write_put, write_range};
 use crate::header::{Header, digits};
 use crate::json_text::JsonText;
+use crate::key_value::room_of_previous;
 use kv_model::ids::Ids;
 use range_view::reply::{KvRef, OpReply, RangeReply};
 use std::alloc::{AllocError, Global};
@@ -181,7 +184,8 @@ fn write_delete_response(
 /// So much room, and room for these responses at a revision.
 #[cycle(room)]
 fn room_of_all(replies: &[OpReply<'_>], revision: u64, frame: usize) -> usize
-    ensures { result ≤ frame + total (map most_of_reply replies.now) }
+    ensures most { result ≤ frame + total (map most_of_reply replies.now) }
+    ensures least { Holds result (frame + total (map (response_len revision) replies.now)) }
 {
     let mut room = frame;
     for reply in replies {
@@ -192,19 +196,62 @@ fn room_of_all(replies: &[OpReply<'_>], revision: u64, frame: usize) -> usize
 
 #[cycle(room)]
 fn room_of_one(reply: &OpReply<'_>, revision: u64) -> usize
-    ensures { result ≤ most_of_reply reply.now }
+    ensures most { result ≤ most_of_reply reply.now }
+    ensures least { Holds result (response_len revision reply.now) }
 {
-    let response = RESPONSE + digits(revision);
     match reply {
-        OpReply::Range(reply) => room_for(
-            response + ANSWER_NAMES + digits(reply.count),
-            &reply.kvs,
-        ),
-        OpReply::Put(Some(kv)) => room_for(response, &[*kv]),
-        OpReply::Put(None) => response,
-        OpReply::Delete { deleted, previous } => {
-            room_for(response + ANSWER_NAMES + digits(*deleted), previous)
-        }
-        OpReply::Inner { replies, .. } => room_of_all(replies, revision, response + ANSWER_NAMES),
+        OpReply::Range(reply) => room_of_range(reply, revision),
+        OpReply::Put(previous) => room_of_put(*previous, revision),
+        OpReply::Delete { deleted, previous } => room_of_delete(*deleted, previous, revision),
+        OpReply::Inner { succeeded, replies } => room_of_inner(*succeeded, replies, revision),
     }
+}
+
+/// Room for the answer to a transaction within another.
+#[cycle(room)]
+fn room_of_inner(succeeded: bool, replies: &[OpReply<'_>], revision: u64) -> usize
+    ensures most { result ≤ 142 + total (map most_of_reply replies.now) }
+    ensures least { Holds result (1 + text_len (texts.response (codes "response_txn")
+        (texts.txn_text (texts.short_header revision) succeeded
+        (texts.responses revision (replies_view replies.now))))) }
+{
+    room_of_all(replies, revision, frame_of_inner(revision))
+}
+
+/// Room for the answer to a Range within a transaction.
+fn room_of_range(reply: &RangeReply<'_>, revision: u64) -> usize
+    ensures most { result ≤ 142 + most_of_kvs reply.now.kvs.items }
+    ensures least { Holds result (1 + text_len (texts.response (codes "response_range")
+        (texts.range_text (texts.short_header revision) (reply_view reply.now)))) }
+{
+    let frame = RESPONSE + ANSWER_NAMES + digits(revision) + digits(reply.count);
+    room_for(frame, &reply.kvs)
+}
+
+/// Room for the answer to a Put within a transaction.
+fn room_of_put(previous: Option<KvRef<'_>>, revision: u64) -> usize
+    ensures most { result ≤ 142 + most_or 0 (option_map kv_view previous.entry) }
+    ensures least { Holds result (1 + text_len (texts.response (codes "response_put")
+        (texts.put_text (texts.short_header revision) (option_map kv_view previous.entry)))) }
+{
+    room_of_previous(previous).saturating_add(RESPONSE + digits(revision))
+}
+
+/// Room for the answer to a DeleteRange within a transaction.
+fn room_of_delete(deleted: u64, previous: &[KvRef<'_>], revision: u64) -> usize
+    ensures most { result ≤ 142 + most_of_kvs previous.now }
+    ensures least { Holds result (1 + text_len (texts.response (codes "response_delete_range")
+        (texts.delete_text (texts.short_header revision) deleted (map kv_view previous.now)))) }
+{
+    let frame = RESPONSE + ANSWER_NAMES + digits(revision) + digits(deleted);
+    room_for(frame, previous)
+}
+
+/// Room for the answer to a transaction within another, without its responses.
+fn frame_of_inner(revision: u64) -> usize
+    ensures most { result ≤ 142 }
+    ensures least { 75 + length (decimal revision) ≤ result }
+    ensures fits { revision < 2 ^ 64 }
+{
+    RESPONSE + ANSWER_NAMES + digits(revision)
 }

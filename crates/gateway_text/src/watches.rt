@@ -1,14 +1,14 @@
 //! The bodies of what watches are told (the etcd documentation's WatchResponse and Event).
 //!
 //! Each function here fails for want of memory alone, and costs as those of the other answers do.
-ghost use Rattle.std.specs.Prelude.{◌≡◌, ◌≤◌, ◌+◌, ℕ, ◌++◌, Some, codes, map, IfOk, OnOk, option_map};
+ghost use Rattle.std.specs.Prelude.{◌≡◌, ◌≤◌, ◌+◌, ℕ, ◌++◌, Some, codes, map, IfOk, OnOk};
 ghost use Rattle.kv_model.specs.Told as told;
 ghost use Rattle.kv_model.specs.Answers as texts;
 ghost use Rattle.kv_model.specs.Answers.{success_response, message_text};
 ghost use Rattle.kv_model.specs.Watches as watches;
 ghost use Rattle.watch_hub.specs.Messages.{event_view};
-ghost use Rattle.range_view.specs.Replies.{kv_view};
-ghost use Rattle.gateway_text.specs.Rooms.{most_of_event, most_of_version, most_or, total};
+ghost use Rattle.gateway_text.specs.Rooms.{Holds, event_len, version_len};
+ghost use Rattle.gateway_text.specs.Rooms.{most_of_event, most_of_version, total};
 ghost use Rattle.gateway_text.specs.Tokens.{data_tokens, field_tokens};
 ghost use Rattle.gateway_text.specs.Views.{cancelled_data, created_data, events_data};
 ghost use Rattle.gateway_text.specs.Views.{header_data, message_data};
@@ -16,10 +16,10 @@ ghost use Rattle.gateway_text.specs.Views.{header_data, message_data};
 use crate::answers::FRAME;
 use crate::header::{Header, digits};
 use crate::json_text::{JsonText, WriteJson};
-use crate::key_value::room_of_kv;
+use crate::key_value::{room_of_base64, room_of_kv, room_of_previous};
 use kv_model::ids::Ids;
 use kv_model::version::{Body, Version};
-use range_view::reply::{KvRef, key_value_of};
+use range_view::reply::key_value_of;
 use std::alloc::{AllocError, Global};
 use watch_hub::Event;
 
@@ -233,7 +233,8 @@ fn write_tombstone(out: &mut JsonText, version: &Version) -> Result<(), AllocErr
 
 /// Room for the text of a message of events.
 fn room_of_events(events: &[Event<'_>]) -> usize
-    ensures { result ≤ 256 + total (map most_of_event events.now) }
+    ensures most { result ≤ 256 + total (map most_of_event events.now) }
+    ensures least { Holds result (256 + total (map event_len events.now)) }
 {
     let mut room = FRAME;
     for event in events {
@@ -243,30 +244,21 @@ fn room_of_events(events: &[Event<'_>]) -> usize
 }
 
 fn room_of_event(event: &Event<'_>) -> usize
-    ensures { result ≤ most_of_event event.now }
+    ensures most { result ≤ most_of_event event.now }
+    ensures least { Holds result (event_len event.now) }
 {
     let version = room_of_version(event.version);
     let previous = room_of_previous(event.previous);
     version.saturating_add(previous).saturating_add(EVENT_NAMES)
 }
 
-/// Room for a put's key-value, or for the key and the revision of a tombstone.
+/// Room for a put's key-value, or for the key and the revision of a tombstone without their names.
 fn room_of_version(version: &Version) -> usize
-    ensures { result ≤ most_of_version version.now }
+    ensures most { result ≤ most_of_version version.now }
+    ensures least { Holds (result + 28) (version_len version.now) }
 {
     match key_value_of(version) {
         Some(kv) => room_of_kv(&kv),
-        None => (version.key.len() / 3 + 1)
-            .saturating_mul(4)
-            .saturating_add(digits(version.rev.main)),
-    }
-}
-
-fn room_of_previous(previous: Option<KvRef<'_>>) -> usize
-    ensures { result ≤ most_or 0 (option_map kv_view previous.entry) }
-{
-    match &previous {
-        Some(kv) => room_of_kv(kv),
-        None => 0,
+        None => room_of_base64(version.key.as_slice()).saturating_add(digits(version.rev.main)),
     }
 }

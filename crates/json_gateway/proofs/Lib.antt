@@ -2,5 +2,6 @@ pub mod Accepted
 pub mod Deliveries
 pub mod Events
 pub mod Keeps
+pub mod Settling
 pub mod Sinks
 pub mod Trims

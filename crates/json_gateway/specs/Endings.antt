@@ -1,5 +1,8 @@
 -- What a command or a request comes to on a core: what is told of it, and what the core then stands for.
-use Rattle.std.specs.Prelude.{◌≡◌, ℕ, ◌+◌, ◌%◌, ◌^◌, ◌||◌, nat_lt, Bool, true, false, Option, Result, Ok, Err, ⊤}
+use Rattle.std.specs.Prelude.{◌≡◌, ℕ, ◌+◌, ◌%◌, ◌^◌, ◌||◌, nat_lt, Bool, true, false, if◌then◌else◌, Option, Result, Ok, Err, ⊤}
+use Rattle.std.specs.Prelude.{Vec}
+use Rattle.std.specs.declared.alloc.AllocError.{AllocError}
+use Rattle.std.specs.declared.alloc.Global.{Global}
 use Rattle.kv_model.specs.declared.refusal.Refusal.TheVariants as refusal
 use Rattle.kv_model.specs.Answers.{Response, Fault, refused, fault_of, fault_of_bad}
 use Rattle.kv_model.specs.Requests as requests
@@ -50,6 +53,24 @@ abbrev pub Settles : Settled → Response → Bool → ℕ → Type 0
 Settles (settled.Reply r) answer changed now = response_of r ≡ answer
 Settles settled.Memory answer changed now = changed ≡ false
 Settles (settled.Lost revision) answer changed now = (changed ≡ true) × (revision ≡ now)
+
+-- ---- by what was made, if memory was found for it
+
+-- an accepted command whose answer found no memory: it is lost where the store has changed, which is at this revision
+abbrev pub unanswered : Bool → ℕ → Settled
+unanswered changed now = if changed then settled.Lost now else settled.Memory
+
+-- an accepted command, by the body of its answer
+abbrev pub answered : Result (Vec ℕ Global) AllocError → Bool → ℕ → Settled
+answered (Ok body) changed now = settled.Reply (record { status = 200; body = body })
+answered (Err e) changed now = unanswered changed now
+
+-- a request that is refused, by the body of its refusal
+abbrev pub worded : ℕ → Result (Vec ℕ Global) AllocError → Settled
+worded status (Ok body) = settled.Reply (record { status = status; body = body })
+worded status (Err e) = settled.Memory
+
+-- ---- refusals
 
 -- A request that is refused ends with its fault's text, or without memory. The want of memory has no text.
 abbrev pub Refuses : Settled → Bool → Fault → Type 0

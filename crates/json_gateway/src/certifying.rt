@@ -1,5 +1,5 @@
 //! What a core keeps, and the certificate of it.
-ghost use Rattle.std.specs.Prelude.{◌≡◌, List, Option, IfOk, IfSome};
+ghost use Rattle.std.specs.Prelude.{◌≡◌, List, Option, Some, None, IfOk, IfSome, OnOk, OnErr};
 ghost use Rattle.kv_model.specs.Certificates.{Claim, claims_of};
 ghost use Rattle.kv_model.specs.Wire.{trim_told};
 ghost use Rattle.trim_core.specs.Told.{told_of};
@@ -10,7 +10,7 @@ use crate::outcome::{Certified, Trimmed};
 use range_view::tables::Trim;
 use request_core::store::Core;
 use std::alloc::{AllocError, Global};
-use witness_core::{Certificate, check};
+use witness_core::{Certificate, Least, NeedFault, check};
 
 /// What a core keeps, and its certificate.
 pub fn certified(core: &Core) -> Result<Certified, AllocError>
@@ -44,6 +44,18 @@ fn checked(alloc: Global, core: &Core) -> Option<Certificate>
     ensures { IfSome result (λ claims. claims ≡ claims_of (dump_kept core.now.store)) }
 {
     let shown = certified(core).ok()?;
-    check(alloc, &shown.dump, &shown.certificate).ok()?;
-    Some(shown.certificate)
+    let verdict = check(alloc, &shown.dump, &shown.certificate);
+    passed(verdict, shown.certificate)
+}
+
+/// A certificate, if it has passed its check. Takes no memory.
+fn passed(verdict: Result<Least, NeedFault>, certificate: Certificate) -> Option<Certificate>
+    ensures shown { OnOk verdict (result ≡ Some certificate) }
+    ensures hidden { OnErr verdict (result ≡ None) }
+    ensures own { IfSome result (λ claims. claims ≡ certificate) }
+{
+    match verdict {
+        Ok(_) => Some(certificate),
+        Err(_) => None,
+    }
 }

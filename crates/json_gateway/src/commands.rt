@@ -1,6 +1,6 @@
 //! One command or one request on a core, from bytes to bytes.
 ghost use Rattle.std.specs.Prelude.{◌≡◌, ◌&&◌, true, false, None, Ok, map, IfOk};
-ghost use Rattle.kv_model.specs.Answers.{Response, success_response, fault_of, response_to};
+ghost use Rattle.kv_model.specs.Answers.{success_response, fault_of, response_to};
 ghost use Rattle.kv_model.specs.Commands.{call_of};
 ghost use Rattle.kv_model.specs.Requests.{request_of};
 ghost use Rattle.store_laws.specs.Stands.{StandsFor};
@@ -14,7 +14,7 @@ ghost use Rattle.request_core.specs.Answers.{is_memory, time_left_view};
 ghost use Rattle.request_core.specs.Commands.{IsToldChange, StoresChange};
 ghost use Rattle.json_gateway.specs.Endings.{Ends, IsCounted, KeepsAs, Refuses, Settles};
 ghost use Rattle.json_gateway.specs.Endings.{fault_of_reading, is_change, is_change_by};
-ghost use Rattle.json_gateway.specs.Endings.{is_physical, is_want};
+ghost use Rattle.json_gateway.specs.Endings.{answered, is_physical, is_want, unanswered, worded};
 ghost use Rattle.json_gateway.specs.Outcomes.{IsBare, is_accepted};
 
 use crate::outcome::{Outcome, Reply, Settled};
@@ -160,7 +160,15 @@ fn settled(alloc: Global, core: &Core, receipt: &Receipt<'_>, ids: &Ids) -> Sett
     ensures { Settles result (success_response ids.now (answer_of receipt.now core.now))
         (has_changed receipt.now) receipt.now.revision }
 {
-    match answer_text(alloc, core, receipt, ids) {
+    answered(answer_text(alloc, core, receipt, ids), receipt)
+}
+
+/// How an accepted command ends, by the body of its answer, if memory was found for it. Takes no
+/// memory.
+fn answered(made: Result<Vec<u8>, AllocError>, receipt: &Receipt<'_>) -> Settled
+    ensures { result ≡ answered made (has_changed receipt.now) receipt.now.revision }
+{
+    match made {
         Ok(body) => Settled::Reply(Reply { status: 200, body }),
         Err(_) => unanswered(receipt),
     }
@@ -168,8 +176,7 @@ fn settled(alloc: Global, core: &Core, receipt: &Receipt<'_>, ids: &Ids) -> Sett
 
 /// How an accepted command ends whose answer found no memory.
 fn unanswered(receipt: &Receipt<'_>) -> Settled
-    ensures { (answer : Response)
-        → Settles result answer (has_changed receipt.now) receipt.now.revision }
+    ensures { result ≡ unanswered (has_changed receipt.now) receipt.now.revision }
 {
     if receipt.has_changed() {
         Settled::Lost(receipt.revision)
@@ -297,11 +304,16 @@ pub fn dismissed(alloc: Global, bad: Bad) -> Settled
 fn refused(alloc: Global, wording: &Wording<'_>) -> Settled
     ensures { Refuses result false (wording_view wording.now) }
 {
-    match refusal_text(alloc, wording) {
-        Ok(body) => Settled::Reply(Reply {
-            status: wording.status,
-            body,
-        }),
+    worded(wording.status, refusal_text(alloc, wording))
+}
+
+/// How a request ends that is refused with this status, by the body of the refusal, if memory was
+/// found for it. Takes no memory.
+fn worded(status: u16, made: Result<Vec<u8>, AllocError>) -> Settled
+    ensures { result ≡ worded status made }
+{
+    match made {
+        Ok(body) => Settled::Reply(Reply { status, body }),
         Err(_) => Settled::Memory,
     }
 }

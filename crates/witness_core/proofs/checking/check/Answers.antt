@@ -1,8 +1,8 @@
 -- The list rises, and then it is judged without memory.
-use Rattle.std.proofs.Common.{◌≡◌, ◌<◌, ◌^◌, ◌∙◌, ap, subst, List}
+use Rattle.std.proofs.Common.{◌<◌, ◌^◌, ◌∙◌, ap, subst, List}
 use Rattle.std.specs.List.{AllByRecursion}
 use Rattle.kv_model.specs.declared.version.Version.{Version}
-use Rattle.kv_model.specs.Certificates.{Dump, first_fall, first_fault}
+use Rattle.kv_model.specs.Certificates.{Dump, first_fall}
 use Rattle.witness_core.specs.declared.fault.NeedFault.TheVariants.{NotRising}
 use Rattle.witness_core.proofs.Faulty.{there, all-there}
 use Rattle.witness_core.proofs.Passing.{Says, said, falls, passed, counted, needed, fewest, first}
