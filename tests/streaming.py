@@ -311,7 +311,6 @@ def controlled(binary, *options):
     return control.Server(binary, *options)
 
 
-
 def resident(server):
     """MiB that the server has in memory."""
     with open('/proc/%d/status' % server.process.pid) as status:
