@@ -304,6 +304,13 @@ class Writer:
 
 # ---- measures and tests
 
+def controlled(binary, *options):
+    """A server that is controlled by lines, as tests/control has it."""
+    control = script('tests/control')
+    control.Wrong = Wrong
+    return control.Server(binary, *options)
+
+
 def resident(server):
     """MiB that the server has in memory."""
     with open('/proc/%d/status' % server.process.pid) as status:
