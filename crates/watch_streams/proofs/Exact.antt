@@ -1,5 +1,7 @@
 -- What goes out by a turn is just what the client was given of the watch.
-use Rattle.std.proofs.Common.{◌≡◌, ℕ, ◌==◌, List, [], ◌∷◌, ◌++◌, take, drop, length, ◌≤◌, Bool, true, false, Option, None, Some, Result, Ok, Err, ⊤, refl, sym, ◌∙◌, ap, subst, append_assoc, if◌then◌else◌, arith}
+use Rattle.std.proofs.Common.{◌≡◌, ◌⊎◌, inl, inr, ℕ, ◌==◌, List, [], ◌∷◌, ◌++◌, take, drop, length, ◌≤◌, Bool, true, false, Option, None, Some, Result, Ok, Err, refl, sym, ◌∙◌, ap, subst, append_assoc, if◌then◌else◌, arith, rules, map, true≢false}
+use Rattle.std.specs.List.{concat}
+use Rattle.std.proofs.lemmas.Bool.Decides.{nat_tests}
 use Rattle.std.proofs.lemmas.List.{append-nil, take-append-drop}
 use Rattle.std.specs.Io.KnownBytes.{Appends, Keeps, append_known}
 use Rattle.kv_model.specs.declared.ids.Ids.{Ids}
@@ -12,6 +14,7 @@ use Rattle.http_reply.specs.Replies.{chunk, last_chunk}
 use Rattle.watch_streams.specs.Lines.{LineState, Sends, is_out, with_unsent}
 use Rattle.watch_streams.specs.Streams.{IsGiven, TellsNext}
 use Rattle.watch_streams.specs.Turns.{Goes, IsExact, SentIs, Steps, bytes_of, chunk_of, goes_out, goes_out_of, is_cut}
+use Rattle.watch_streams.specs.declared.telling.Next.{Next}
 use Rattle.watch_streams.specs.declared.telling.Next.TheVariants as next
 use Rattle.watch_streams.specs.declared.turning.Turn.{Turn}
 use Rattle.watch_streams.specs.declared.turning.Turn.TheVariants as turn
@@ -51,7 +54,7 @@ goes_out_both n [] ys = refl
 goes_out_both n (x ∷ xs) ys = ap (λ z. goes_out_of n x ++ z) (goes_out_both n xs ys) ∙ sym (append_assoc (goes_out_of n x) (goes_out n xs) (goes_out n ys))
 
 same_number : (n : ℕ) → (n == n) ≡ true
-same_number n = search rules
+same_number n = grind (arith, nat_tests)
 
 goes_out_one : (n : ℕ) (m : Message) → goes_out n (given.Told n m ∷ []) ≡ chunk_of m
 goes_out_one n m = append-nil (goes_out_of n (given.Told n m)) ∙ ap (λ (b : Bool). if b then chunk_of m else []) (same_number n)
@@ -110,11 +113,11 @@ exact_sent c d l m (Err again) given s = record {
 sent_is : (c d : Caller) (l m : LineState) (r : Option Turn) → d.given ≡ c.given → SentIs l r m → IsExact c l d m
 sent_is c d l m _ given (SentIs.some n s) = exact_sent c d l m (Ok n) given s
 sent_is c d l _ _ given (SentIs.none out) = exact_same c d l l given refl
-sent_is c d l m _ given (SentIs.blocked s) = exact_sent c d l m (Err true) given s
+sent_is c d l m _ given (SentIs.blocked again s) = exact_sent c d l m (Err again) given s
 sent_is c d l m _ given (SentIs.broken again s) = exact_sent c d l m (Err again) given s
 
 -- whether a step lost a message
-cuts : Option Turn → Bool
+abbrev cuts : Option Turn → Bool
 cuts None = false
 cuts (Some t) = is_cut t
 
@@ -125,13 +128,23 @@ exact_step ids c d l m _ k (Steps.ended t) =
     exact_given ids c d l m message.NoWatch t.0 t.1 (ap (λ (n : LineState). n.wrote) t.3) (ap (λ (n : LineState). n.unsent) t.3) (ap (λ (n : LineState). n.number) t.3)
 exact_step ids c d l m _ k (Steps.quiet t) = exact_same c d l m (ap (λ (e : Caller). e.given) t.1) t.2
 exact_step ids c d l m _ k (Steps.wanting t) = exact_same c d l m (ap (λ (e : Caller). e.given) t.0) t.1
-exact_step ids c d l m _ k (Steps.cut t) = absurd (search rules)
+exact_step ids c d l m _ k (Steps.cut t) = absurd (true≢false k)
 exact_step ids c d l m r k (Steps.sent {c'} {l'} t s) =
     sent_is c d l m r (ap (λ (e : Caller). e.given) t.1) (subst (λ (n : LineState). SentIs n r m) t.2 s)
 
-pub exact_goes : (ids : Ids) (c d : Caller) (l m : LineState) → Goes ids c l d m → IsExact c l d m
-exact_goes ids c _ l _ Goes.stays = exact_stays c l
-exact_goes ids c d l m (Goes.more {c'} {l'} goes step) = exact_both c c' d l l' m (exact_goes ids c c' l l' goes) (exact_step ids c' d l' m None refl step)
+pub exact_goes : (ids : Ids) (c : Caller) (l : LineState) (d : Caller) (m : LineState) → Goes ids c l d m → IsExact c l d m
+exact_goes ids c l _ _ Goes.stays = exact_stays c l
+exact_goes ids c l d m (Goes.more {c'} {l'} goes step) = exact_both c c' d l l' m (exact_goes ids c l c' l' goes) (exact_step ids c' d l' m None refl step)
 
 pub exact_last : (ids : Ids) (c c' d : Caller) (l l' m : LineState) (t : Turn) → Goes ids c l c' l' → Steps ids c' l' (Some t) d m → is_cut t ≡ false → IsExact c l d m
-exact_last ids c c' d l l' m t goes step k = exact_both c c' d l l' m (exact_goes ids c c' l l' goes) (exact_step ids c' d l' m (Some t) k step)
+exact_last ids c c' d l l' m t goes step k = exact_both c c' d l l' m (exact_goes ids c l c' l' goes) (exact_step ids c' d l' m (Some t) k step)
+
+-- ---- what a step comes to
+
+pub told_or_ended : (ids : Ids) (c d : Caller) (l m : LineState) (n : Next) → (n ≡ next.Told) ⊎ (n ≡ next.Ended) → TellsNext ids c l n d m → Steps ids c l None d m
+told_or_ended ids c d l m n (inl e) t = Steps.told (subst (λ (n : Next). TellsNext ids c l n d m) e t)
+told_or_ended ids c d l m n (inr e) t = Steps.ended (subst (λ (n : Next). TellsNext ids c l n d m) e t)
+
+pub unsent_is : (b again : Bool) (l m : LineState) → Sends l m (Err again) → SentIs l (Some (if b then turn.Blocked else turn.Broken)) m
+unsent_is true again l m s = SentIs.blocked again s
+unsent_is false again l m s = SentIs.broken again s

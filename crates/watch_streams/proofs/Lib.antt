@@ -1,1 +1,2 @@
-mod Exact
+pub mod Exact
+pub mod Tests

@@ -1,5 +1,6 @@
 -- A turn of a stream: writes of what has not gone out, and messages of the engine, one after the other.
-use Rattle.std.specs.Prelude.{◌≡◌, ℕ, ◌==◌, List, [], ◌∷◌, ◌++◌, Bool, true, false, Option, None, Some, Result, Ok, Err, if◌then◌else◌}
+use Rattle.std.specs.List.{concat}
+use Rattle.std.specs.Prelude.{◌≡◌, ℕ, ◌==◌, List, [], ◌++◌, map, Bool, true, false, Option, None, Some, Result, Ok, Err, if◌then◌else◌}
 use Rattle.std.specs.Io.KnownBytes.{Appends, append_known}
 use Rattle.kv_model.specs.declared.ids.Ids.{Ids}
 use Rattle.json_gateway.specs.declared.outcome.Message.{Message}
@@ -18,7 +19,7 @@ use Rattle.watch_streams.specs.declared.turning.Turn.TheVariants as turn
 pub data SentIs (l : LineState) : Option Turn → LineState → Type 0 where
   some : {new : LineState} (n : ℕ) → Sends l new (Ok n) → SentIs l None new
   none : is_out l ≡ true → SentIs l (Some turn.Done) l
-  blocked : {new : LineState} → Sends l new (Err true) → SentIs l (Some turn.Blocked) new
+  blocked : {new : LineState} (again : Bool) → Sends l new (Err again) → SentIs l (Some turn.Blocked) new
   broken : {new : LineState} (again : Bool) → Sends l new (Err again) → SentIs l (Some turn.Broken) new
 
 -- one step: a message, or a write of what has not gone out; and what the turn comes to, where it is the last
@@ -57,9 +58,8 @@ abbrev pub goes_out_of : ℕ → Given → List ℕ
 goes_out_of n (given.Told k m) = if k == n then chunk_of m else []
 goes_out_of n _ = []
 
-pub goes_out : ℕ → List Given → List ℕ
-goes_out n [] = []
-goes_out n (g ∷ gs) = goes_out_of n g ++ goes_out n gs
+abbrev pub goes_out : ℕ → List Given → List ℕ
+goes_out n gs = concat (map (goes_out_of n) gs)
 
 -- what its writer is known to hold, with what has not gone out
 abbrev pub bytes_of : LineState → Option (List ℕ)

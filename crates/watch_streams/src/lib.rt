@@ -26,4 +26,4 @@ mod turning;
 pub use line::Line;
 pub use streams::Streams;
 pub use telling::{Next, tell};
-pub use turning::{Turn, turn};
+pub use turning::{Turn, take_turn};

@@ -91,7 +91,7 @@ impl<W: Write> Line<W> {
     pub fn is_out(&self) -> bool
         ensures { result ≡ is_out self.now }
     {
-        self.sent == self.rest.len()
+        self.rest[self.sent..].is_empty()
     }
 
     /// Whether the stream has ended: its last chunk is out, or has not gone out yet.

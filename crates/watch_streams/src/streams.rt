@@ -7,7 +7,7 @@ ghost use Rattle.watch_streams.specs.Lines.{begun_at};
 ghost use Rattle.watch_streams.specs.Sets.{IsEnded, TurnsOf, line_at};
 
 use crate::line::Line;
-use crate::turning::{Turn, turn};
+use crate::turning::{Turn, take_turn};
 use engine_lock::{Client, EngineName};
 use http_peer::Gate;
 use recorded_engine::Recorded;
@@ -27,9 +27,14 @@ pub struct Streams<L: EngineName, W: Write> {
 }
 
 impl<L: EngineName, W: Write> Model for Streams<L, W> {
+    ghost use Rattle.std.specs.Coded.{codes};
+    ghost use Rattle.engine_lock.specs.contracts.past.Given as given;
+    ghost use Rattle.snapshot_feed.specs.contracts.reader.SnapReader as reads;
     ghost use Rattle.watch_streams.specs.Sets.{SetState};
 
     ghost Value = { SetState };
+
+    ghost coded = { Prim.hlevel (codes, given.the_row.coded, reads.the_row.coded) };
 
     ghost view = { λ s. record { client = s.client; lines = s.lines.entries } };
 }
@@ -107,7 +112,7 @@ impl<L: EngineName, W: Write + Drop> Streams<L, W> {
             (λ t. TurnsOf events.now.engine.now number self.old t self.new) }
     {
         match self.lines.get_mut(&number) {
-            Some(line) => Some(turn(self.alloc, events, &mut self.client, line)),
+            Some(line) => Some(take_turn(self.alloc, events, &mut self.client, line)),
             None => None,
         }
     }

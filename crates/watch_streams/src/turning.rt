@@ -1,5 +1,6 @@
 //! A turn of a stream: what has not gone out does, and then it is told what there is.
-ghost use Rattle.std.specs.Prelude.{◌≡◌, false};
+ghost use Rattle.std.specs.Prelude.{◌≡◌, false, if◌then◌else◌};
+ghost use Rattle.watch_streams.specs.declared.turning.Turn.TheVariants as turns;
 ghost use Rattle.watch_streams.specs.Turns.{IsExact, SentIs, Steps, Turned, is_cut};
 
 use crate::line::Line;
@@ -41,7 +42,7 @@ pub enum Turn {
 ///
 /// What goes out is in order, each once, and nothing besides: the chunks of the messages that the
 /// engine told its watch, and the last chunk where the watch is no more (`Goes`).
-pub fn turn<L: EngineName, G: Gate, R: Wait, W: Write>(
+pub fn take_turn<L: EngineName, G: Gate, R: Wait, W: Write>(
     alloc: Global,
     events: &Recorded<'_, L, G, R>,
     client: &mut Client<L>,
@@ -85,7 +86,13 @@ fn sent<W: Write>(alloc: Global, line: &mut Line<W>) -> Option<Turn>
     }
     match line.send(alloc) {
         Ok(_) => None,
-        Err(true) if !line.is_stale(MOST_LOOKS) => Some(Turn::Blocked),
-        Err(_) => Some(Turn::Broken),
+        Err(again) => Some(unsent(again && !line.is_stale(MOST_LOOKS))),
     }
+}
+
+/// What a turn comes to by a write that failed, or took nothing.
+fn unsent(again: bool) -> Turn
+    ensures { result ≡ (if again then turns.Blocked else turns.Broken) }
+{
+    if again { Turn::Blocked } else { Turn::Broken }
 }
