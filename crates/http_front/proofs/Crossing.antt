@@ -14,6 +14,7 @@ use Rattle.http_peer.specs.contracts.door.Door as Door
 use Rattle.http_front.specs.contracts.shared.Shared as Shared
 use Rattle.http_front.specs.contracts.workers.Worked as Worked
 use Rattle.http_peer.proofs.door.Door.TheSendSync as door
+use Rattle.http_front.proofs.handing.Handing.TheSendSync as handing
 
 pub shared_sync : (a : NamedLft) (T G C : RattleType) (n : names.Ghosts T.Denot) (g : ledger.Ghosts T.Denot) → IsSync G → IsSync C
     → IsSync (Shared.the_row a T G C n g)
@@ -27,7 +28,7 @@ shared_sync a T G C n g s u =
           shr_sync _ _ _ u,
           (
             shr_sync _ _ _ listener,
-            (mutex.the_sync Door.the_row door.the_send, (flag.the_field_sync, tt)),
+            (mutex.the_sync Door.the_row door.the_send, (handing.the_sync, (flag.the_field_sync, tt))),
           ),
         ),
       ),

@@ -21,9 +21,14 @@ pub(crate) struct Serving<L: EngineName> {
 }
 
 impl<L: EngineName> Model for Serving<L> {
+    ghost use Rattle.std.specs.Coded.{codes};
+    ghost use Rattle.engine_lock.specs.contracts.past.Given as given;
+    ghost use Rattle.snapshot_feed.specs.contracts.reader.SnapReader as reads;
     ghost use Rattle.http_front.specs.Handing.{Hands};
 
     ghost Value = { Hands };
+
+    ghost coded = { Prim.hlevel (codes, given.the_row.coded, reads.the_row.coded) };
 
     ghost view = { λ s. record { client = s.client; handed = s.handed } };
 }
