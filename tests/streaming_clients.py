@@ -16,6 +16,7 @@ import subprocess
 import sys
 import time
 
+sys.dont_write_bytecode = True
 import streaming
 
 base, expect, coded, revision_of = streaming.base, streaming.expect, streaming.coded, streaming.revision_of
