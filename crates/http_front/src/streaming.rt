@@ -24,8 +24,11 @@ const ROOM: usize = 4096;
 /// How long a wait is at most, in milliseconds: then all streams are looked at.
 const LOOK: u64 = 1000;
 
-/// How long a wait is at most where a message found no memory.
+/// How long a wait is at most where a message found no memory, or the server ends.
 const SOON: u64 = 10;
+
+/// How many such waits streams have to end in order, once the server ends.
+const MOST_ROUNDS: u64 = 200;
 
 /// How many bytes are thrown away at once.
 const WASTE: usize = 4096;
@@ -116,6 +119,8 @@ struct Keeper<'s, L: EngineName, G, C, R> {
     streams: Streams<L, TcpStream>,
     /// Whether a message found no memory.
     wanting: bool,
+    /// Whether the server ends.
+    ending: bool,
     /// When all streams were looked at last.
     looked: Option<Instant>,
 }
@@ -135,6 +140,7 @@ pub(crate) fn keep_streams<L: EngineName, G: Gate, C, R: Wait + time::Clock>(
         watching,
         streams: Streams::new(alloc, client),
         wanting: false,
+        ending: false,
         looked: Instant::now(rt).ok(),
     };
     for _ in rt.forever() {
@@ -174,7 +180,7 @@ impl<'s, L: EngineName, G: Gate, C, R: Wait + time::Clock> Keeper<'s, L, G, C, R
         if !self.watching.next.is_empty() {
             return Duration::ZERO;
         }
-        if self.wanting {
+        if self.wanting || self.ending {
             return Duration::from_millis(SOON);
         }
         Duration::from_millis(LOOK)
@@ -301,14 +307,23 @@ impl<'s, L: EngineName, G: Gate, C, R: Wait + time::Clock> Keeper<'s, L, G, C, R
         self.end(number);
     }
 
-    /// The server ends: each stream ends in order.
+    /// The server ends: each stream ends in order, as far as its client takes it within two seconds.
     fn end_all(&mut self) {
+        self.ending = true;
         self.take_handed();
+        self.streams.close_all(&mut self.watching.now.due);
+        self.turn_due();
+        for _ in 0..MOST_ROUNDS {
+            if self.streams.is_empty() {
+                return;
+            }
+            self.round();
+        }
         for _ in 0..MOST_CLOSED {
             let Some(number) = self.streams.first() else {
                 return;
             };
-            self.close(number);
+            self.end(number);
         }
     }
 }

@@ -1,5 +1,5 @@
 //! The stream of a watch between two waits.
-ghost use Rattle.std.specs.Prelude.{◌≡◌, ◌++◌, true, OnOk, OnErr};
+ghost use Rattle.std.specs.Prelude.{◌≡◌, ◌++◌, true, IfOk, OnOk, OnErr};
 ghost use Rattle.http_reply.specs.Replies.{chunk, last_chunk};
 ghost use Rattle.watch_streams.specs.Lines.{Sends, begun_at, is_out, with_unsent};
 
@@ -11,6 +11,9 @@ use std::io;
 
 /// A line that is out gives the room of a longer rest back, in bytes.
 const MOST_KEPT: usize = 65_536;
+
+/// The room that a line has at least, in bytes: its last chunk wants no memory where all else is out.
+const LEAST_ROOM: usize = 64;
 
 /// The last chunk of a stream (RFC 9112, section 7.1).
 const LAST_CHUNK: &[u8] = b"0\r\n\r\n";
@@ -53,19 +56,22 @@ impl<W: Write> Model for Line<W> {
 }
 
 impl<W: Write> Line<W> {
-    /// A stream of which all that was to go out has. Takes no memory.
-    pub fn new(alloc: Global, number: u64, call: u64, w: W) -> Self
-        ensures { result ≡ begun_at number call (W.contents w) }
+    /// A stream of which all that was to go out has. Fails for want of memory for the least room.
+    pub fn new(alloc: Global, number: u64, call: u64, w: W) -> Result<Self, AllocError>
+    where
+        W: Drop,
+        ensures { IfOk result (λ l. l ≡ begun_at number call (W.contents w)) }
     {
-        Line {
+        let rest = Vec::with_capacity(alloc, LEAST_ROOM)?;
+        Ok(Line {
             number,
             call,
             w: Counted::new(w),
-            rest: Vec::new(alloc),
+            rest,
             sent: 0,
             ended: false,
             looks: 0,
-        }
+        })
     }
 
     /// The number of its watch.
@@ -117,12 +123,13 @@ impl<W: Write> Line<W> {
     }
 
     /// The stream ends: its last chunk is to go out, behind what has not. `AllocError` comes where no
-    /// memory was found for it, and then nothing has changed.
+    /// memory was found for it, as it may where something has not gone out, and then nothing has changed.
     pub fn end(&mut self) -> Result<(), AllocError>
         ensures ok { OnOk result (self.new
             ≡ record self.old { unsent = self.old.unsent ++ last_chunk; ended = true }) }
         ensures err { OnErr result (self.new ≡ self.old) }
     {
+        self.clear();
         self.rest.extend_from_slice(LAST_CHUNK)?;
         self.ended = true;
         Ok(())
@@ -146,13 +153,25 @@ impl<W: Write> Line<W> {
         }
     }
 
-    /// Gives the room of a long rest back that has gone out.
+    /// Where all has gone out, its place is free again.
+    fn clear(&mut self)
+        ensures { self.new ≡ self.old }
+    {
+        if self.sent == self.rest.len() {
+            self.rest.clear();
+            self.sent = 0;
+        }
+    }
+
+    /// Gives the room of a long rest back that has gone out, where there is memory for a short one.
     fn let_go(&mut self, alloc: Global)
         ensures { self.new ≡ self.old }
     {
         if self.sent == self.rest.len() && self.rest.capacity() > MOST_KEPT {
-            self.rest = Vec::new(alloc);
-            self.sent = 0;
+            if let Ok(rest) = Vec::with_capacity(alloc, LEAST_ROOM) {
+                self.rest = rest;
+                self.sent = 0;
+            }
         }
     }
 

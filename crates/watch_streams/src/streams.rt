@@ -97,7 +97,7 @@ impl<L: EngineName, W: Write + Drop> Streams<L, W> {
         }) }
         ensures err { OnErr result (self.new ≡ self.old) }
     {
-        let line = Line::new(self.alloc, number, call, w);
+        let line = Line::new(self.alloc, number, call, w)?;
         self.lines.insert(number, line)?;
         Ok(())
     }
@@ -124,6 +124,21 @@ impl<L: EngineName, W: Write + Drop> Streams<L, W> {
     {
         let _ = self.lines.remove(&number);
         let _ = events.drop_watch(&mut self.client, number);
+    }
+
+    /// Each stream ends in order: its last chunk is to go out. Where no memory is found for that, it is
+    /// not. Adds their numbers to a list, in rising order, up to the first that finds no memory there.
+    pub fn close_all(&mut self, list: &mut Vec<u64>)
+        ensures { self.new.client ≡ self.old.client }
+    {
+        for (number, line) in self.lines.iter_mut() {
+            if !line.has_ended() {
+                let _ = line.end();
+            }
+            if list.push(*number).is_err() {
+                return;
+            }
+        }
     }
 
     /// A stream ends in order: its last chunk is to go out. Where no memory is found for that, it is
