@@ -125,8 +125,8 @@ struct Keeper<'s, L: EngineName, G, C, R> {
     looked: Option<Instant>,
 }
 
-/// Looks after the streams that are handed over until no further one is and all have ended, or until
-/// the server ends. Hands the client back.
+/// Looks after the streams that are handed over until no further one is and all have ended; once the
+/// server ends they end in order. Hands the client back.
 pub(crate) fn keep_streams<L: EngineName, G: Gate, C, R: Wait + time::Clock>(
     rt: &R,
     alloc: Global,
@@ -145,11 +145,13 @@ pub(crate) fn keep_streams<L: EngineName, G: Gate, C, R: Wait + time::Clock>(
     };
     for _ in rt.forever() {
         keeper.round();
+        let is_closed = shared.handing.is_closed();
         if shared.ended.load(Ordering::SeqCst) {
             keeper.end_all();
-            break;
+        } else if is_closed {
+            keeper.take_handed();
         }
-        if shared.handing.is_closed() && keeper.streams.is_empty() {
+        if is_closed && keeper.streams.is_empty() {
             break;
         }
     }
