@@ -5,8 +5,10 @@ ghost use Rattle.http_front.specs.Ends.{IsOfServer};
 
 use crate::handing::Waking;
 use crate::shared::Shared;
-use crate::threads::{Keeping, Served, clients_of, closed, join_all, join_streaming};
-use crate::threads::{keeping_of, start_all, start_streaming, with_client};
+use crate::threads::{
+    Keeping, Served, clients_of, closed, join_all, join_streaming, keeping_of, start_all,
+    start_streaming, with_client,
+};
 use engine_lock::{Client, Engine, EngineName};
 use http_peer::{Clock, Gate};
 use http_reply::Front;
@@ -59,8 +61,8 @@ impl Clock for Standing {
 /// trimming step is made but those that a physical Compact waits for.
 ///
 /// When the director has returned, no further connection is let in; a connection on which no byte of
-/// a next request has come is closed within some 100 ms, a watch ends within some 20 ms, and a
-/// request that has begun to come is answered, if no second passes without a byte of it. Then
+/// a next request has come is closed within some 100 ms, the stream of a watch ends at once, as far as
+/// its client takes what is under way within two seconds, and a request that has begun to come is answered, if no second passes without a byte of it. Then
 /// the engine is closed. The director may return after `connections` have come and gone, too: no
 /// further one is let in, and the server still ends when it returns.
 ///

@@ -23,25 +23,27 @@ use std::{thread, time};
 /// core: it stands for a world of the model to which events lead from the opening one, with all
 /// changes that the connections made.
 ///
-/// It runs `workers` threads, each with one connection at a time, to that connection's end; one
-/// thread that trims; and one that ends leases. A worker accepts under a lock, which is free again
-/// before the connection is served. Once `connections` of them were accepted, at most 2^63 - 1, no
+/// It runs `workers` threads, each with one connection at a time, to that connection's end or until the
+/// stream of a watch has begun on it; one thread that looks after all such streams; one that trims; and
+/// one that ends leases. A worker accepts under a lock, which is free again before the connection is
+/// served. Once `connections` of them were accepted, at most 2^63 - 1, no
 /// further one is; the server ends when all of them have.
 ///
 /// No client keeps a worker for nothing. A connection on which no byte of a next request has come
-/// for a second is closed, between requests, where another one waits and no worker is free. A watch
-/// whose client has ended its sending side ends within some 20 ms, and what its client sent after
-/// the request is thrown away. A write of which no byte is taken for 10 s fails, and ends the
-/// connection. A client that has begun a request, be it as slow as it will, keeps its own worker.
+/// for a second is closed, between requests, where another one waits and no worker is free. The stream
+/// of a watch keeps none: what its client sends after the request is thrown away, it ends once that has
+/// ended its sending side, and a message is made only once the one before has gone out. A write of which
+/// no byte is taken for 10 s fails, and ends the connection. A client that has begun a request, be it as slow as it will, keeps its own worker.
 ///
 /// Fails, when all threads have ended, with
 ///
 /// - `Front::Memory`, where the lists of clients and of threads find no memory: no connection is
 ///   accepted then, unless it was the list of the clients that came back at the end;
-/// - `Front::Spawn`, where a thread could not be started: none is accepted then, either;
+/// - `Front::Spawn`, where a thread could not be started, or the system has no file for the set of
+///   streams: none is accepted then, either;
 /// - `Front::Accept`, where an accept failed; the worker that made it has ended there, and the
 ///   others went on;
-/// - `Front::Unclosed`, where the engine has no place for a client of each worker and one more, or
+/// - `Front::Unclosed`, where the engine has no place for a client of each worker and two more, or
 ///   where it made clients beside these, which cannot come back.
 pub fn pool<L, G, C, R>(
     rt: &R,
@@ -218,15 +220,7 @@ where
     R: Wait + Threads + time::Clock + Sync + 's,
 {
     let trimmer = start_trimming(scope, rt, shared);
-    let served = serve_expiring(
-        scope,
-        rt,
-        alloc,
-        shared,
-        clients,
-        beside,
-        trimmer.is_some(),
-    );
+    let served = serve_expiring(scope, rt, alloc, shared, clients, beside, trimmer.is_some());
     if let Some(handle) = trimmer {
         handle.join(rt);
     }

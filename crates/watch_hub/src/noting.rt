@@ -40,13 +40,7 @@ pub(crate) fn note_each(
 }
 
 /// The watch at a place takes note.
-fn note_at(
-    slab: &mut Slab<Entry>,
-    place: usize,
-    versions: &[Version],
-    now: u64,
-    news: &mut bool,
-)
+fn note_at(slab: &mut Slab<Entry>, place: usize, versions: &[Version], now: u64, news: &mut bool)
     ensures here { seen_in slab.new place
         ≡ option_map (noted versions.now now) (seen_in slab.old place) }
     ensures others { (other : ℕ) → other ≢ place → get slab.new other ≡ get slab.old other }
@@ -124,13 +118,7 @@ fn note_guarded(
 }
 
 /// One version is noted by the watches that have its key in their range.
-fn note_key(
-    slab: &mut Slab<Entry>,
-    guards: &Guards,
-    version: &Version,
-    now: u64,
-    news: &mut bool,
-)
+fn note_key(slab: &mut Slab<Entry>, guards: &Guards, version: &Version, now: u64, news: &mut bool)
     requires guarded { AreGuarded (seen_in slab.old) guards.now }
     requires reached { AreReached (seen_in slab.old) }
     ensures each { (place : ℕ) → seen_in slab.new place

@@ -5,9 +5,9 @@ ghost use Rattle.watch_streams.specs.Lines.{Sends, begun_at, is_out, with_unsent
 
 use http_reply::{Counted, put_chunk};
 use std::alloc::{AllocError, Global};
+use std::io;
 use std::io::{ErrorKind, Write};
 use std::marker::Model;
-use std::io;
 
 /// A line that is out gives the room of a longer rest back, in bytes.
 const MOST_KEPT: usize = 65_536;
