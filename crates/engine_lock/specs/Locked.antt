@@ -99,6 +99,11 @@ abbrev pub told_to : Caller → ℕ → Result Message AllocError → Caller
 told_to c number (Err e) = c
 told_to c number (Ok m) = if is_quiet m then c else plus c (given.Told number m)
 
+-- what a trimming step came to: the step, or that no memory was found for it
+abbrev pub trimmed_to : Caller → Result Trim Refusal → Caller
+trimmed_to c (Ok t) = plus c (given.Trimmed t)
+trimmed_to c (Err e) = plus c given.Untrimmed
+
 -- the outcome of a command, and its share of it
 abbrev pub with_done : Caller → Given → ℕ → Caller
 with_done c one up = record c { made = c.made + up; given = c.given ++ one ∷ [] }

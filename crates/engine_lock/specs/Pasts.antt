@@ -9,4 +9,5 @@ as_given (entry.Done command now outcome) = given.Done command.value now.value o
 as_given (entry.Told number message) = given.Told number.value message.value
 as_given (entry.Dropped number stood) = given.Dropped number.value stood.value
 as_given (entry.Trimmed step) = given.Trimmed step.value
+as_given entry.Untrimmed = given.Untrimmed
 as_given (entry.Expired now step) = given.Expired now.value step.value

@@ -1,9 +1,9 @@
 //! A client of an engine, its share of the changes, what it was given, and its reader.
-ghost use Rattle.std.specs.Prelude.{◌≡◌, [], true, OnOk, OnErr, IfErr};
+ghost use Rattle.std.specs.Prelude.{◌≡◌, [], true, OnOk, OnErr, IfOk, IfErr};
 ghost use mathlib.Core.List.{IsPrefix};
 ghost use Rattle.kv_model.specs.declared.refusal.Refusal.TheVariants.{NoPlace};
 ghost use Rattle.store_laws.specs.Snapshots.{untrimmed_of};
-ghost use Rattle.snapshot_feed.specs.Answers.{AnswersOf, ReadsOrNot};
+ghost use Rattle.snapshot_feed.specs.Answers.{AnswersOf};
 ghost use Rattle.snapshot_feed.specs.States.{appended};
 ghost use Rattle.engine_lock.specs.Fits.{Fits};
 ghost use Rattle.engine_lock.specs.Locked.{IsTold, StaysOut, is_quiet, left, plus, told_to};
@@ -58,6 +58,10 @@ impl<L: EngineName> Model for Client<L> {
 }
 
 impl<L: EngineName> Client<L> {
+    ghost use Rattle.std.specs.Borrow.{sem};
+    ghost use Rattle.engine_lock.specs.Lending.{LendsReading};
+    ghost use Rattle.engine_lock.specs.Readings.{Enters, ReadsOrNot};
+
     /// A client of this share of one part, that made no change yet, and reads by this reader.
     pub(crate) fn of(share: Share<L>, reader: SnapReader) -> Self
         requires parts { share.parts ≡ 1 }
@@ -91,6 +95,7 @@ impl<L: EngineName> Client<L> {
         ensures ok { OnOk result (self.new.reader.inside ≡ true) }
         ensures begins { IsPrefix self.old.reader.known self.new.reader.known }
         ensures book { self.new.reader.book ≡ self.old.reader.book }
+        ensures engine { self.new.reader.book ≡ L.book }
         ensures others { self.new ≡ record self.old { reader = self.new.reader } }
         ensures err { OnErr result (self.new ≡ left self.old) }
         ensures refusal { IfErr result (λ e. e ≡ NoPlace) }
@@ -118,19 +123,35 @@ impl<L: EngineName> Client<L> {
         self.reader.range(alloc, query)
     }
 
-    /// [`Client::enter`] and [`Client::range`]: the answer of some published history that begins
-    /// with all that this client has read and was told of. The client is borrowed while the reply
-    /// lives, and the reading lasts until it is left; what the client knows of afterwards is known
-    /// only where the two are called apart. The refusals are those of the two.
+    /// [`Client::enter`], and lends the client to be read by [`Client::range`]. Once what was lent is
+    /// gone, the client is in the reading that was read, and knows of the front of this engine's
+    /// publications that was shown there. The refusal is that of [`Client::enter`].
+    pub fn read(&mut self) -> Result<&Client<L>, Refusal>
+        ensures* after { sem 𝓛 (LendsReading L.row (record { book = L.book })
+            (record { name = L.Ledger.name; parts = L.Ledger.parts }) self.entry result) }
+        ensures enters { IfOk result (λ c. Enters self.old c.now) }
+        ensures engine { IfOk result (λ c. c.now.reader.book ≡ L.book) }
+        ensures refusal { IfErr result (λ e. e ≡ NoPlace) }
+    {
+        match self.enter() {
+            Ok(()) => Ok(self),
+            Err(refusal) => Err(refusal),
+        }
+    }
+
+    /// [`Client::read`] and [`Client::range`]: the answer of what the client knows of once it has
+    /// entered, which begins with all that it has read and was told of. The client is borrowed while
+    /// the reply lives, and the reading lasts until it is left; what the client knows of afterwards
+    /// is known where the two are called apart. The refusals are those of the two.
     pub fn range_serializable(
         &mut self,
         alloc: Global,
         query: &RangeQuery,
     ) -> Result<RangeReply<'_>, Refusal>
-        ensures { ReadsOrNot self.old.reader.known query.now result }
+        ensures { ReadsOrNot L.book self.old query.now result }
     {
-        match self.enter() {
-            Ok(()) => self.range(alloc, query),
+        match self.read() {
+            Ok(client) => client.range(alloc, query),
             Err(refusal) => Err(refusal),
         }
     }
@@ -199,6 +220,13 @@ impl<L: EngineName> Client<L> {
         ensures { self.new ≡ plus self.old (given.Trimmed step.now) }
     {
         self.past.add(Entry::Trimmed(Snapshot::of(step)));
+    }
+
+    /// It had a trimming step refused. Does nothing.
+    pub(crate) fn note_untrimmed(&mut self)
+        ensures { self.new ≡ plus self.old given.Untrimmed }
+    {
+        self.past.add(Entry::Untrimmed);
     }
 
     /// It had a step of expiry made. Does nothing.

@@ -1,12 +1,12 @@
 //! The engine: one event of the core for each holding of its lock.
-ghost use Rattle.std.specs.Prelude.{◌≡◌, ◌+◌, ◌<◌, is_ok, map, sum, length, IfOk, IfErr, OnErr};
+ghost use Rattle.std.specs.Prelude.{◌≡◌, ◌+◌, ◌<◌, is_ok, map, sum, length, IfOk, IfErr};
 ghost use Rattle.std.specs.Prelude.{[], ◌∷◌, ◌++◌, MatchBool, None, ⊤};
 ghost use Rattle.kv_model.specs.declared.refusal.Refusal.TheVariants.{Memory, NoPlace, NoWatch};
 ghost use Rattle.engine_lock.specs.Fits.{IsStanding};
 ghost use Rattle.engine_lock.specs.Locked.{Drops, Submits, SubmitsExpiry, Tells, Trims};
 ghost use Rattle.engine_lock.specs.Locked.{DropsFor, TellsTo, TrimsFor};
 ghost use Rattle.engine_lock.specs.Locked.{CatchesUp, knowing};
-ghost use Rattle.engine_lock.specs.Locked.{left, plus, rise, rise_of_expiry, told_to, with_done};
+ghost use Rattle.engine_lock.specs.Locked.{left, plus, rise, rise_of_expiry, told_to, trimmed_to, with_done};
 ghost use Rattle.engine_lock.specs.declared.past.Given.TheVariants as given;
 
 mod orders;
@@ -221,13 +221,12 @@ impl<L: EngineName> Engine<L> {
     }
 
     /// As [`Engine::trim_once`], for a client: it was given just that step, of a core that had all
-    /// changes that the client had made, and nothing where the step is refused. Its reading is left.
+    /// changes that the client had made, or that the step was refused. Its reading is left.
     pub fn trim_once_for<R: Wait>(&self, rt: &R, client: &mut Client<L>) -> Result<Trim, Refusal>
         ensures trims { IfOk result (λ t. Trims t) }
         ensures sees { IfOk result (λ t. TrimsFor client.old.made t) }
-        ensures given { IfOk result (λ t. client.new ≡ plus (left client.old) (given.Trimmed t)) }
+        ensures given { client.new ≡ trimmed_to (left client.old) result }
         ensures refused { IfErr result (λ e. e ≡ Memory) }
-        ensures same { OnErr result (client.new ≡ left client.old) }
     {
         client.leave();
         locked(rt, &self.state).trim_for(rt, client)

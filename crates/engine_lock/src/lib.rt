@@ -28,11 +28,12 @@
 //! close with a, b             the core, at revision 3
 //! ```
 //!
-//! Beside the lock a client reads what was published ([`Client::enter`], [`Client::range`]), and
-//! waits for nobody. Under the lock the feed of what readers are told of fits the core (`Fits` in
-//! `specs/Fits.antt`): what was appended to it says the history that the core stands for, and makes
-//! of the empty tables what the core keeps. [`Engine::submit`] publishes what it appended, and tells
-//! its client of it, so that each later reading of that client begins with it.
+//! Beside the lock a client reads what was published ([`Client::enter`] or [`Client::read`], and
+//! [`Client::range`]), and waits for nobody. Under the lock the feed of what readers are told of
+//! fits the core (`Fits` in `specs/Fits.antt`): what was appended to it says the history that the
+//! core stands for, and makes of the empty tables what the core keeps. [`Engine::submit`] publishes
+//! what it appended, and tells its client of it, so that each later reading of that client begins
+//! with it.
 //!
 //! Where it is asked for, the events are written down under the lock ([`Engine::recorded`],
 //! [`Engine::take_lines`]), as the lines of a script, and the lock keeps that the core stands for the

@@ -28,6 +28,8 @@ pub enum Given {
     },
     /// A trimming step.
     Trimmed(Trim),
+    /// A trimming step was refused for want of memory.
+    Untrimmed,
     /// A step of expiry at the moment `now`.
     Expired {
         now: u64,
@@ -42,6 +44,7 @@ pub(crate) enum Entry {
     Told(Snapshot<u64>, Snapshot<Message>),
     Dropped(Snapshot<u64>, Snapshot<bool>),
     Trimmed(Snapshot<Trim>),
+    Untrimmed,
     Expired(Snapshot<u64>, Snapshot<Result<Expiry, Refusal>>),
 }
 

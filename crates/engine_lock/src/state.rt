@@ -20,7 +20,7 @@ ghost use Rattle.engine_lock.specs.Locked.{CatchesUp, Caller, IsTold, StaysOut};
 ghost use Rattle.engine_lock.specs.Locked.{Drops, EndsWatch, MakesExpiry, Performs};
 ghost use Rattle.engine_lock.specs.Locked.{Submits, SubmitsExpiry, Tells, TellsFrom, Trims};
 ghost use Rattle.engine_lock.specs.Locked.{DropsFor, Sees, TellsTo, TrimsFor};
-ghost use Rattle.engine_lock.specs.Locked.{plus, rise, rise_of_expiry, told_to, with_done};
+ghost use Rattle.engine_lock.specs.Locked.{plus, rise, rise_of_expiry, told_to, trimmed_to, with_done};
 ghost use Rattle.engine_lock.specs.declared.past.Given.TheVariants as given;
 
 mod orders;
@@ -401,14 +401,19 @@ impl<L: EngineName> State<L> {
         ensures trims { IfOk result (λ t. TrimsOnce self.old.core self.new.core t) }
         ensures may { IfOk result (λ t. Trims t) }
         ensures sees { IfOk result (λ t. TrimsFor client.old.made t) }
-        ensures given { IfOk result (λ t. client.new ≡ plus client.old (given.Trimmed t)) }
-        ensures same { OnErr result (client.new ≡ client.old) }
+        ensures given { client.new ≡ trimmed_to client.old result }
         ensures refused { IfErr result (λ e. e ≡ Memory) }
         ensures clients { self.new.clients ≡ self.old.clients }
         ensures unchanged { OnErr result (self.new ≡ self.old) }
     {
         self.see(client);
-        let step = self.trim(rt)?;
+        let step = match self.trim(rt) {
+            Ok(step) => step,
+            Err(refusal) => {
+                client.note_untrimmed();
+                return Err(refusal);
+            }
+        };
         self.lead();
         client.note_trimmed(&step);
         Ok(step)

@@ -20,11 +20,11 @@ pub others : (n : ℕ) (b : Bool) (c c' : Caller) (t : Trim) → TrimsFor c.made
 others n b c c' t h e d later = AreTrimmed.more t h (subst (λ (x : Caller). AreTrimmed 0 b x d) e later)
 
 -- a refusal before others
-pub refusal : (n : ℕ) (b : Bool) (c c' : Caller) → c' ≡ left c → (d : Caller) → AreTrimmed (n + 1) b c' d → AreTrimmed n b c d
+pub refusal : (n : ℕ) (b : Bool) (c c' : Caller) → c' ≡ plus (left c) given.Untrimmed → (d : Caller) → AreTrimmed (n + 1) b c' d → AreTrimmed n b c d
 refusal n b c c' e d later = AreTrimmed.again (subst (λ (x : Caller). AreTrimmed (n + 1) b x d) e later)
 
 -- the refusal by which it is given up
-pub last_refusal : (n : ℕ) (c c' : Caller) → c' ≡ left c → n + 1 ≡ 1000 → AreTrimmed n false c c'
+pub last_refusal : (n : ℕ) (c c' : Caller) → c' ≡ plus (left c) given.Untrimmed → n + 1 ≡ 1000 → AreTrimmed n false c c'
 last_refusal n c c' e is = refusal n false c c' e c' (subst (λ (k : ℕ). AreTrimmed k false c' c') (sym is) AreTrimmed.given_up)
 
 -- ---- an answer that waits for it, or does not

@@ -41,14 +41,14 @@ use Rattle.http_loop.specs.Connections.{path_asked}
 
 -- ---- trimming, for an answer that waits for it
 
--- Trimming steps were made for a client, of which the last so many were refused for want of memory. They end with one
--- that says that trimming is done; or it was given up, after 1,000 refusals in a row.
+-- Trimming steps were made for a client, which was given each, of which the last so many were refused for want of memory.
+-- They end with one that says that trimming is done; or it was given up, after 1,000 refusals in a row.
 pub data AreTrimmed : ℕ → Bool → Caller → Caller → Type 0 where
   last : {n : ℕ} {c : Caller} (t : Trim) → lock.TrimsFor c.made t → is_done (told_of t) ≡ true
       → AreTrimmed n true c (plus (left c) (given.Trimmed t))
   more : {n : ℕ} {b : Bool} {c c' : Caller} (t : Trim) → lock.TrimsFor c.made t
       → AreTrimmed 0 b (plus (left c) (given.Trimmed t)) c' → AreTrimmed n b c c'
-  again : {n : ℕ} {b : Bool} {c c' : Caller} → AreTrimmed (n + 1) b (left c) c' → AreTrimmed n b c c'
+  again : {n : ℕ} {b : Bool} {c c' : Caller} → AreTrimmed (n + 1) b (plus (left c) given.Untrimmed) c' → AreTrimmed n b c c'
   given_up : {c : Caller} → AreTrimmed 1000 false c c
 
 -- the store was changed, and the answer is lost

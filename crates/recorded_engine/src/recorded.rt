@@ -1,12 +1,12 @@
 //! The events of an engine, of each of which the gate is told once it is made.
-ghost use Rattle.std.specs.Prelude.{◌≡◌, is_ok, IfOk, IfErr, OnErr};
+ghost use Rattle.std.specs.Prelude.{◌≡◌, is_ok, IfOk, IfErr};
 ghost use Rattle.kv_model.specs.Follows.Outcome.{said};
 ghost use Rattle.kv_model.specs.Wire.{WireTold};
 ghost use Rattle.kv_model.specs.Wire as events;
 ghost use Rattle.kv_model.specs.declared.refusal.Refusal.TheVariants.{Memory};
 ghost use Rattle.json_gateway.specs.Runs.{trimmed_view};
 ghost use Rattle.engine_lock.specs.Locked.{DropsFor, Submits, SubmitsExpiry, TellsTo, Trims, TrimsFor};
-ghost use Rattle.engine_lock.specs.Locked.{left, plus, rise, rise_of_expiry, told_to, with_done};
+ghost use Rattle.engine_lock.specs.Locked.{left, plus, rise, rise_of_expiry, told_to, trimmed_to, with_done};
 ghost use Rattle.engine_lock.specs.Orders.{Makes};
 ghost use Rattle.engine_lock.specs.declared.past.Given.TheVariants as given;
 
@@ -78,8 +78,8 @@ impl<'e, L: EngineName, G: Gate, R: Wait> Recorded<'e, L, G, R> {
     /// [`Engine::trim_once_for`].
     pub fn trim_for(&self, client: &mut Client<L>) -> Result<Trim, Refusal>
         ensures sees { IfOk result (λ t. TrimsFor client.old.made t) }
-        ensures given { IfOk result (λ t. client.new ≡ plus (left client.old) (given.Trimmed t)) }
-        ensures same { OnErr result (client.new ≡ left client.old) }
+        ensures given { client.new ≡ trimmed_to (left client.old) result }
+        ensures refused { IfErr result (λ e. e ≡ Memory) }
     {
         let step = self.engine.trim_once_for(self.rt, client);
         self.gate.recorded(self);
@@ -89,6 +89,7 @@ impl<'e, L: EngineName, G: Gate, R: Wait> Recorded<'e, L, G, R> {
     /// [`Engine::trim_once`].
     pub fn trim(&self) -> Result<Trim, Refusal>
         ensures trims { IfOk result (λ t. Trims t) }
+        ensures refused { IfErr result (λ e. e ≡ Memory) }
     {
         let step = self.engine.trim_once(self.rt);
         self.gate.recorded(self);

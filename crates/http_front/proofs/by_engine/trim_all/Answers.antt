@@ -13,7 +13,7 @@ loop-preserved-in-Ok g c = (
 )
 
 pub returns-then-refusals-eq-MOST_REFUSALS : goal.returns-then-refusals-eq-MOST_REFUSALS
-returns-then-refusals-eq-MOST_REFUSALS g c = c.loop.invariant.0 _ _ (last_refusal c.loop.refusals _ _ c.in-Err.ensures.same c.if-refusals-eq-MOST_REFUSALS.true)
+returns-then-refusals-eq-MOST_REFUSALS g c = c.loop.invariant.0 _ _ (last_refusal c.loop.refusals _ _ c.in-Err.ensures.given c.if-refusals-eq-MOST_REFUSALS.true)
 
 pub loop-preserved : goal.loop-preserved
-loop-preserved g c = (λ b d later. c.loop.invariant.0 b d (refusal c.loop.refusals b _ _ c.in-Err.ensures.same d later), omega (arith, c.loop.invariant.1, c.if-refusals-eq-MOST_REFUSALS.false))
+loop-preserved g c = (λ b d later. c.loop.invariant.0 b d (refusal c.loop.refusals b _ _ c.in-Err.ensures.given d later), omega (arith, c.loop.invariant.1, c.if-refusals-eq-MOST_REFUSALS.false))
