@@ -87,7 +87,9 @@ fn put_and_read<R: Wait>(
 
 fn run_put<R: Wait>(rt: &R, alloc: Global) -> Option<[(u64, u64); 3]> {
     let mut feed = Feed::new(alloc, rt).ok()?;
-    let mut reader = feed.reader().ok()?;
+    let Ok(mut reader) = feed.reader() else {
+        return None;
+    };
     let read = put_and_read(rt, alloc, &mut feed, &mut reader);
     drop(reader);
     feed.close(rt);
