@@ -36,8 +36,8 @@ const WASTE: usize = 4096;
 /// How many reads throw bytes away before others come.
 const MOST_WASTED: u64 = 256;
 
-/// How many streams end at most, once the server ends: more than can stand.
-const MOST_CLOSED: u64 = 65_536;
+/// How many streams are looked at in a round: more than can stand, and than a round has room for.
+const MOST_AT_ONCE: u64 = 65_536;
 
 /// The streams that have a turn in a round.
 #[derive(Drop)]
@@ -205,8 +205,10 @@ impl<'s, L: EngineName, G: Gate, C, R: Wait + time::Clock> Keeper<'s, L, G, C, R
 
     /// Takes those that were handed over, and has their sockets watched.
     fn take_handed(&mut self) {
-        let handing = &self.shared.handing;
-        while let Some(handed) = handing.take(self.rt) {
+        for _ in 0..MOST_AT_ONCE {
+            let Some(handed) = self.shared.handing.take(self.rt) else {
+                return;
+            };
             let number = handed.number;
             if !self.begin(handed) {
                 self.end(number);
@@ -254,7 +256,10 @@ impl<'s, L: EngineName, G: Gate, C, R: Wait + time::Clock> Keeper<'s, L, G, C, R
 
     /// What clients have sent is thrown away; those that have left have their streams ended.
     fn hear_wet(&mut self) {
-        while let Some(number) = self.watching.now.wet.pop() {
+        for _ in 0..MOST_AT_ONCE {
+            let Some(number) = self.watching.now.wet.pop() else {
+                return;
+            };
             match self.heard(number) {
                 Heard::Nothing => {}
                 Heard::More => {
@@ -275,7 +280,10 @@ impl<'s, L: EngineName, G: Gate, C, R: Wait + time::Clock> Keeper<'s, L, G, C, R
 
     /// Each stream has its turn.
     fn turn_due(&mut self) {
-        while let Some(number) = self.watching.now.due.pop() {
+        for _ in 0..MOST_AT_ONCE {
+            let Some(number) = self.watching.now.due.pop() else {
+                return;
+            };
             let events = self.shared.events(self.rt);
             match self.streams.turn(&events, number) {
                 None | Some(Turn::Quiet | Turn::Blocked) => {}
@@ -321,7 +329,7 @@ impl<'s, L: EngineName, G: Gate, C, R: Wait + time::Clock> Keeper<'s, L, G, C, R
             }
             self.round();
         }
-        for _ in 0..MOST_CLOSED {
+        for _ in 0..MOST_AT_ONCE {
             let Some(number) = self.streams.first() else {
                 return;
             };
