@@ -22,9 +22,9 @@ Tells s n told.Away t = t ≡ record s { handed = Some n }
 Tells s n _ t = ⊥
 
 -- behind a reply the watch that its request made is ended, unless its stream goes on elsewhere
-abbrev pub Finishes : Hands → Option ℕ → Hands → Type 0
-Finishes s w t = FinishesBy s.handed s w t
-
 abbrev pub FinishesBy : Option ℕ → Hands → Option ℕ → Hands → Type 0
 FinishesBy None s w t = engines.Finishes s.client w t.client × (t.handed ≡ None)
 FinishesBy (Some n) s w t = t ≡ s
+
+abbrev pub Finishes : Hands → Option ℕ → Hands → Type 0
+Finishes s w t = FinishesBy s.handed s w t
