@@ -28,7 +28,7 @@ shared_sync a T G C n g s u =
           shr_sync _ _ _ u,
           (
             shr_sync _ _ _ listener,
-            (mutex.the_sync Door.the_row door.the_send, (handing.the_sync, (flag.the_field_sync, tt))),
+            (mutex.the_sync Door.the_row door.the_send, (handing.the_field_sync, (flag.the_field_sync, tt))),
           ),
         ),
       ),

@@ -101,20 +101,15 @@ where
     };
     let connections = limits.connections;
     let shared = Shared::new(&engine, gate, &Standing, listener, connections, handing);
-    let threads = Directed {
-        clients,
-        client,
-        keeping,
-    };
-    let Served { clients, trouble } = run_directed(rt, alloc, &shared, threads, director);
+    let beside = Directed { client, keeping };
+    let Served { clients, trouble } = run_directed(rt, alloc, &shared, clients, beside, director);
     drop(shared);
     closed(rt, engine, clients, trouble)
 }
 
-/// What the threads of such a server begin with.
+/// What those beside the workers of such a server begin with.
 #[derive(Drop)]
 struct Directed<L: EngineName> {
-    clients: Vec<Client<L>>,
     /// The director's.
     client: Client<L>,
     keeping: Keeping<L>,
@@ -125,7 +120,8 @@ fn run_directed<L, G, D, R>(
     rt: &R,
     alloc: Global,
     shared: &Shared<'_, L, G, Standing>,
-    threads: Directed<L>,
+    clients: Vec<Client<L>>,
+    beside: Directed<L>,
     director: &mut D,
 ) -> Served<L>
 where
@@ -135,7 +131,7 @@ where
     R: Wait + Threads + time::Clock + Net + Sync,
 {
     thread::scope(thread::scope_env(), rt, move |scope| {
-        serve_directed(scope, rt, alloc, shared, threads, director)
+        serve_directed(scope, rt, alloc, shared, clients, beside, director)
     })
 }
 
@@ -145,7 +141,8 @@ fn serve_directed<'s, E, L, G, D, R>(
     rt: &'s R,
     alloc: Global,
     shared: &'s Shared<'s, L, G, Standing>,
-    threads: Directed<L>,
+    clients: Vec<Client<L>>,
+    beside: Directed<L>,
     director: &mut D,
 ) -> Served<L>
 where
@@ -154,11 +151,7 @@ where
     D: Directing<L>,
     R: Wait + Threads + time::Clock + Net + Sync + 's,
 {
-    let Directed {
-        clients,
-        client,
-        keeping,
-    } = threads;
+    let Directed { client, keeping } = beside;
     let mut client = client;
     let keeper = start_streaming(scope, rt, alloc, shared, keeping);
     let (working, trouble) = start_all(scope, rt, alloc, shared, clients, keeper.is_some());

@@ -38,7 +38,7 @@ where
     for _ in rt.forever() {
         match next(rt, shared) {
             Ok(Some((call, stream))) => {
-                serve(rt, alloc, shared, &mut serving, call, &stream);
+                serve(rt, alloc, &*shared, &mut serving, call, &stream);
                 hand_on(rt, shared, &mut serving, call, stream);
             }
             Ok(None) => {
@@ -108,13 +108,13 @@ where
 
 /// Serves a connection to its end, or until the stream of a watch has begun on it. What ends it is the
 /// peer's affair.
-fn serve<L, G, C, R>(
+fn serve<'x, L, G, C, R>(
     rt: &R,
     alloc: Global,
-    shared: &Shared<'_, L, G, C>,
+    shared: &'x Shared<'x, L, G, C>,
     serving: &mut Serving<L>,
     call: u64,
-    stream: &TcpStream,
+    stream: &'x TcpStream,
 )
 where
     L: EngineName,
