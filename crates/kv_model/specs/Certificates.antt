@@ -62,11 +62,11 @@ put_need is_replaced is_before r c = if is_replaced
     else Some (Need.range r)
 
 -- The last put of its key answers a Range, and any other put that is above the floor answers one at its own revision. A
--- put whose next version is of the floor is the previous value of that. A tombstone from the floor on answers a watch.
+-- put below the floor whose next version is of the floor is the previous value of that. A tombstone from the floor on answers a watch.
 -- What is left has no need.
 abbrev pub need_of : Dump → Version → Body → Option Need
 need_of d v (Put create version lease value) = put_need (is_superseded d.versions (max v.rev.main d.floor) v)
-    (is_next_at d.versions d.floor v) (max v.rev.main d.floor) d.floor
+    (nat_lt v.rev.main d.floor && is_next_at d.versions d.floor v) (max v.rev.main d.floor) d.floor
 need_of d v Gone = if nat_le d.floor v.rev.main then Some (Need.watch v.rev.main) else None
 
 abbrev pub claim_of : Dump → Version → Option Claim

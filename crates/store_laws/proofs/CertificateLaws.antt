@@ -2,7 +2,7 @@
 use Rattle.std.proofs.Common.{◌≡◌, ◌≤◌, ◌≢◌, ℕ, ℤ, max, length, filter, List, [], ◌∷◌, find, filter_map, Bool, true, false, not, ◌&&◌, cond}
 use Rattle.std.proofs.Common.{Option, None, Some, refl, sym, ◌∙◌, ap, subst, inl, inr, arith}
 use Rattle.std.specs.Prelude.{option_map, nat_lt, ◌==◌}
-use Rattle.std.proofs.lemmas.Bool.{le-leb, le-ltb, eq-eqb, eqb-true}
+use Rattle.std.proofs.lemmas.Bool.{le-leb, le-ltb, lt-ltb, eq-eqb, eqb-true}
 use Rattle.std.specs.Option.{option_or}
 use Rattle.std.specs.List.{AllByRecursion, cons_option}
 use Rattle.std.proofs.lemmas.List.Sums.{length-filter}
@@ -58,7 +58,7 @@ module _ (w : World) (sound : IsSound w) (vs : List Version) (g : IsGood vs w.mu
       → is_superseded vs (max v.rev.main w.compacted) v ≡ false → HasOwn w vs v
   last-need create version lease value b alone = record {
     need = Need.range r;
-    listed = ap (need_of (dump_of w vs) v) b ∙ ap (λ t. put_need t (is_next_at vs w.compacted v) r w.compacted) alone;
+    listed = ap (need_of (dump_of w vs) v) b ∙ ap (λ t. put_need t (nat_lt v.rev.main w.compacted && is_next_at vs w.compacted v) r w.compacted) alone;
     has = record { asked = record { revision = r; is = refl; kept = kept; has_key = has_key }; needed = needed };
     met = λ j. asked r kept j && not (live j) && le-leb v.rev.main r (omega arith) j && not (alone j);
   }
@@ -88,13 +88,13 @@ module _ (w : World) (sound : IsSound w) (vs : List Version) (g : IsGood vs w.mu
   previous-need create version lease value b p = record {
     need = Need.prev w.compacted;
     listed = ap (need_of (dump_of w vs) v) b
-        ∙ ap (λ t. put_need t (is_next_at vs w.compacted v) (max v.rev.main w.compacted) w.compacted) replaced
+        ∙ ap (λ t. put_need t (nat_lt v.rev.main w.compacted && is_next_at vs w.compacted v) (max v.rev.main w.compacted) w.compacted) replaced
         ∙ ap (λ t. put_need true t (max v.rev.main w.compacted) w.compacted) next;
     has = record {
       asked = kept;
       needed = λ us part out e. out (previous-stays w.mutations w.compacted sound.history sound.floor vs g v i left us part live p e);
     };
-    met = λ j. asked w.compacted kept j && not (live j) && next j;
+    met = λ j. asked w.compacted kept j && not (live j) && (p.replaced j && not (p.alone j));
   }
     where
       kept : IsKept w.compacted (revision w) w.compacted
@@ -104,12 +104,12 @@ module _ (w : World) (sound : IsSound w) (vs : List Version) (g : IsGood vs w.mu
       live = ap is_tombstone b
 
       replaced : is_superseded vs (max v.rev.main w.compacted) v ≡ true
-      replaced = let a : v.rev.main ≤ w.compacted = p.by in
+      replaced = let a : v.rev.main < w.compacted = p.below in
           let same : max v.rev.main w.compacted ≡ w.compacted = omega arith in
           ap (λ r. is_superseded vs r v) same ∙ p.replaced
 
-      next : is_next_at vs w.compacted v ≡ true
-      next = λ j. p.replaced j && not (p.alone j)
+      next : (nat_lt v.rev.main w.compacted && is_next_at vs w.compacted v) ≡ true
+      next = λ j. lt-ltb v.rev.main w.compacted p.below j && (p.replaced j && not (p.alone j))
 
   put-need : (create version : ℕ) (lease : ℤ) (value : List ℕ) → v.body ≡ Put create version lease value → HasOwn w vs v
   put-need create version lease value b =

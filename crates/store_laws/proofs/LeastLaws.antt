@@ -335,7 +335,7 @@ not-itself vs v h i = by (is_superseded vs v.rev.main v) refl
 
 -- the last version of a key below the compaction, where one stands at it
 pub record IsPrevious (vs : List Version) (c : ℕ) (v : Version) : Type 0 where
-  pub by : v.rev.main ≤ c
+  pub below : v.rev.main < c
   pub replaced : is_superseded vs c v ≡ true
   pub alone : is_superseded vs (c - 1) v ≡ false
 
@@ -347,7 +347,11 @@ last-or-previous vs c v h i left = by (ranked v.rev.main c)
     known : v.rev.main ≤ c → (b : Bool) → is_superseded vs c v ≡ b
         → (is_superseded vs (max v.rev.main c) v ≡ false) ⊎ IsPrevious vs c v
     known a true e = inr (record {
-      by = a;
+      below = elim (ranked c v.rev.main) [
+        | inl b ↦ (let same : v.rev.main ≡ c = omega arith in
+            let d : false ≡ true = sym (subst (λ r. is_superseded vs r v ≡ false) same (not-itself vs v h i)) ∙ e in cc)
+        | inr b ↦ b
+      ];
       replaced = e;
       alone = not-first (is_superseded vs (c - 1) v) (is_tombstone v.body && nat_lt v.rev.main c) (ap (λ b. b
           && is_trimmed vs c v) (sym (le-leb v.rev.main c a)) ∙ left);
@@ -394,7 +398,7 @@ module _ (ms : List Mutation) (c : ℕ) (h : IsHistory ms) (f : c ≤ now ms) (v
       (subst (λ us. is_superseded us (max v.rev.main c) v ≡ false) s.is alone))
 
   pub previous-kept : IsPrevious vs c v → IsKept c (now ms) c
-  previous-kept p = let a : 1 < v.rev.main = sits.above in let b : v.rev.main ≤ c = p.by in record {
+  previous-kept p = let a : 1 < v.rev.main = sits.above in let b : v.rev.main < c = p.below in record {
     first = omega arith;
     kept = omega arith;
     past = f;

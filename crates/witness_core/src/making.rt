@@ -1,5 +1,5 @@
 //! The certificate of what a store keeps.
-ghost use Rattle.std.specs.Prelude.{◌≡◌, ◌++◌, max, List, option_map, IfOk, OnOk};
+ghost use Rattle.std.specs.Prelude.{◌≡◌, ◌++◌, ◌&&◌, max, nat_lt, List, option_map, IfOk, OnOk};
 ghost use Rattle.std.specs.List.{cons_option};
 ghost use Rattle.kv_model.specs.Certificates.{claim_of, claims_of, need_of, put_need};
 ghost use Rattle.kv_model.specs.Certificates.{Claim as SeenClaim};
@@ -52,14 +52,15 @@ fn put_need(view: &View<'_>, version: &Version) -> Option<Need>
     ensures { option_map seen_need result
         ≡ put_need
         (is_superseded view.now.versions (max version.now.rev.main view.now.compacted) version.now)
-        (is_next_at view.now.versions view.now.compacted version.now)
+        (nat_lt version.now.rev.main view.now.compacted
+            && is_next_at view.now.versions view.now.compacted version.now)
         (max version.now.rev.main view.now.compacted) view.now.compacted }
 {
     let compacted = view.compacted();
     let revision = version.rev.main.max(compacted);
     if !is_superseded(view, version, revision) {
         Some(Need::Range(revision))
-    } else if is_next_at(view, version, compacted) {
+    } else if version.rev.main < compacted && is_next_at(view, version, compacted) {
         Some(Need::Prev(compacted))
     } else {
         None
@@ -109,8 +110,8 @@ fn add(claims: &mut Vec<Claim>, claim: Option<Claim>) -> Result<(), AllocError>
 
 /// The certificate of what a view shows, behind its place too: in the order of the versions, each
 /// put that is the last version of its key at or below the last compaction, or at or below its own
-/// revision where that is above, has the need of a Range of that revision; each other put whose next
-/// version is of the last compaction has the need of a watch of it, as the value before; each
+/// revision where that is above, has the need of a Range of that revision; each other put below the
+/// last compaction whose next version is of it has the need of a watch of it, as the value before; each
 /// tombstone from the last compaction on has the need of a watch of its revision; other versions
 /// have none.
 ///
