@@ -1,5 +1,5 @@
 -- Where nothing is left to take out, each version has its need, and the certificate passes its check.
-use Rattle.std.proofs.Common.{◌≡◌, ◌≤◌, ◌≢◌, ℕ, ℤ, max, length, filter, List, [], ◌∷◌, find, filter_map, Bool, true, false, not, ◌&&◌, cond}
+use Rattle.std.proofs.Common.{◌≡◌, ◌≤◌, ◌<◌, ◌≢◌, ℕ, ℤ, max, length, filter, List, [], ◌∷◌, find, filter_map, Bool, true, false, not, ◌&&◌, cond}
 use Rattle.std.proofs.Common.{Option, None, Some, refl, sym, ◌∙◌, ap, subst, inl, inr, arith}
 use Rattle.std.specs.Prelude.{option_map, nat_lt, ◌==◌}
 use Rattle.std.proofs.lemmas.Bool.{le-leb, le-ltb, lt-ltb, eq-eqb, eqb-true}
