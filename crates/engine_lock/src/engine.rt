@@ -16,6 +16,7 @@ mod writing;
 use crate::asked::Asked;
 use crate::client::Client;
 use crate::closing::CloseFault;
+use crate::engine::watching::News;
 use crate::opening::{EngineName, Opening};
 use crate::state::State;
 use json_gateway::{Expiry, Ids, Message, Outcome, Refusal, Trim};
@@ -24,7 +25,6 @@ use request_core::store::Core;
 use std::alloc::{AllocError, Global};
 use std::hint::spin_loop;
 use std::marker::Model;
-use std::sync::atomic::AtomicBool;
 use std::sync::ledger::Ledger;
 use std::sync::{Mutex, MutexGuard, Wait};
 use std::thread::yield_now;
@@ -45,7 +45,7 @@ pub struct Engine<L: EngineName> {
     ids: Ids,
     state: Mutex<State<L>>,
     /// Whether a watch fell behind since somebody asked.
-    news: AtomicBool,
+    news: News,
 }
 
 impl<L: EngineName> Model for Engine<L> {
@@ -83,7 +83,7 @@ impl<L: EngineName> Engine<L> {
             alloc,
             ids,
             state: Mutex::new(State::new(alloc, opening, false)),
-            news: AtomicBool::new(false),
+            news: News::none(),
         }
     }
 

@@ -101,7 +101,7 @@ impl<'g, G: Gate> Gate for Waking<'g, G> {
     }
 
     fn after(&self, call: u64) {
-        if self.stirred.swap(false, Ordering::SeqCst) {
+        if self.stirred.load(Ordering::SeqCst) && self.stirred.swap(false, Ordering::SeqCst) {
             self.handing.wake();
         }
         self.gate.after(call);

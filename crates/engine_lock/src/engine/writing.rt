@@ -4,6 +4,7 @@ ghost use Rattle.engine_lock.specs.Locked.{Submits, left, rise, with_done};
 ghost use Rattle.engine_lock.specs.Takings.{Takes};
 ghost use Rattle.engine_lock.specs.declared.past.Given.TheVariants as given;
 
+use super::watching::News;
 use super::{Engine, Submitted, locked};
 use crate::asked::Asked;
 use crate::client::Client;
@@ -11,7 +12,6 @@ use crate::opening::{EngineName, Opening};
 use crate::state::State;
 use json_gateway::Ids;
 use std::alloc::Global;
-use std::sync::atomic::AtomicBool;
 use std::sync::{Mutex, Wait};
 
 impl<L: EngineName> Engine<L> {
@@ -33,7 +33,7 @@ impl<L: EngineName> Engine<L> {
             alloc,
             ids,
             state: Mutex::new(State::new(alloc, opening, true)),
-            news: AtomicBool::new(false),
+            news: News::none(),
         }
     }
 
