@@ -6,6 +6,7 @@ use Rattle.kv_model.specs.declared.refusal.Refusal.{Refusal}
 use Rattle.kv_model.specs.declared.refusal.Refusal.TheVariants.{NoPlace}
 use Rattle.store_laws.specs.Snapshots.{untrimmed_of}
 use Rattle.range_view.specs.declared.reply.RangeReply.{RangeReply}
+use Rattle.feed_book.specs.Feeds.{IsFeed}
 use Rattle.snapshot_feed.specs.Answers.{AnswersOf}
 use Rattle.snapshot_feed.specs.Lending as reader
 use Rattle.engine_lock.specs.Locked.{Caller}
@@ -15,11 +16,12 @@ pub record Enters (c later : Caller) : Type 0 where
   pub within : reader.Enters c.reader later.reader
   pub others : later ≡ record c { reader = later.reader }
 
--- the answer is that of what the client knows of once it has entered, of this list
+-- the answer is that of what the client knows of once it has entered, of this list: the whole history of a sound world
 pub record Reads (book : Book) (c : Caller) (q : RangeQuery) (r : Result RangeReply Refusal) : Type 0 where
   pub later : Caller
   pub enters : Enters c later
   pub of : later.reader.book ≡ book
+  pub feed : IsFeed later.reader.known
   pub answers : AnswersOf (untrimmed_of later.reader.known) q r
 
 -- or there was no entry

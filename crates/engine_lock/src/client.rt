@@ -3,6 +3,7 @@ ghost use Rattle.std.specs.Prelude.{◌≡◌, [], true, OnOk, OnErr, IfOk, IfEr
 ghost use mathlib.Core.List.{IsPrefix};
 ghost use Rattle.kv_model.specs.declared.refusal.Refusal.TheVariants.{NoPlace};
 ghost use Rattle.store_laws.specs.Snapshots.{untrimmed_of};
+ghost use Rattle.feed_book.specs.Feeds.{IsFeed};
 ghost use Rattle.snapshot_feed.specs.Answers.{AnswersOf};
 ghost use Rattle.snapshot_feed.specs.States.{appended};
 ghost use Rattle.engine_lock.specs.Fits.{Fits};
@@ -48,13 +49,13 @@ impl<L: EngineName> Model for Client<L> {
 
     ghost coded = { code_by _
         (coded× coded_ℕ (coded× (coded_list given.the_row.coded) reads.the_row.coded))
-        (λ c. (c.made, (c.given, c.reader)))
-        (λ p. record { made = p.0; given = p.1.0; reader = p.1.1 }) (λ _. refl) };
+        (λ c. (c.made, (c.given, record { reads = c.reader; looks = 0 })))
+        (λ p. record { made = p.0; given = p.1.0; reader = p.1.1.reads }) (λ _. refl) };
 
-    ghost view = { λ c. record { made = c.made; given = c.past; reader = c.reader } };
+    ghost view = { λ c. record { made = c.made; given = c.past; reader = c.reader.reads } };
 
     ghost invariant = { λ c. (c.share.parts ≡ 1) × (c.made ≡ c.share.amount)
-        × (c.reader.book ≡ L.book) };
+        × (c.reader.reads.book ≡ L.book) };
 }
 
 impl<L: EngineName> Client<L> {
@@ -66,8 +67,8 @@ impl<L: EngineName> Client<L> {
     pub(crate) fn of(share: Share<L>, reader: SnapReader) -> Self
         requires parts { share.parts ≡ 1 }
         requires amount { share.amount ≡ 0 }
-        requires book { reader.book ≡ L.book }
-        ensures { result ≡ record { made = 0; given = []; reader = reader } }
+        requires book { reader.reads.book ≡ L.book }
+        ensures { result ≡ record { made = 0; given = []; reader = reader.reads } }
     {
         Client {
             share,
@@ -96,6 +97,7 @@ impl<L: EngineName> Client<L> {
         ensures begins { IsPrefix self.old.reader.known self.new.reader.known }
         ensures book { self.new.reader.book ≡ self.old.reader.book }
         ensures engine { self.new.reader.book ≡ L.book }
+        ensures feed { OnOk result (IsFeed self.new.reader.known) }
         ensures others { self.new ≡ record self.old { reader = self.new.reader } }
         ensures err { OnErr result (self.new ≡ left self.old) }
         ensures refusal { IfErr result (λ e. e ≡ NoPlace) }
@@ -131,6 +133,7 @@ impl<L: EngineName> Client<L> {
             (record { name = L.Ledger.name; parts = L.Ledger.parts }) self.entry result) }
         ensures enters { IfOk result (λ c. Enters self.old c.now) }
         ensures engine { IfOk result (λ c. c.now.reader.book ≡ L.book) }
+        ensures feed { IfOk result (λ c. IsFeed c.now.reader.known) }
         ensures refusal { IfErr result (λ e. e ≡ NoPlace) }
     {
         match self.enter() {
@@ -244,6 +247,7 @@ pub(crate) fn published<R: Wait>(rt: &R, core: &Core, feed: &mut Feed) -> bool
     ensures same { (appended feed.new ≡ appended feed.old) × (feed.new.book ≡ feed.old.book) }
 {
     let _ = core;
+    feed.commit();
     let done = feed.publish(rt);
     done.is_ok()
 }

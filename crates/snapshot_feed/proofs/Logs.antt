@@ -150,7 +150,7 @@ pub settles : {X Y : Type 0} (r : Result X Y) (x y : ReadTables) (es ds : List E
 settles (Ok z) x y es ds shows ends h =
     let has = (goes_on es x.tables y.tables x.front y.front shows ends h.0).1 in
     let none : ops_of ds ≡ [] = ap ops_of h.1 in
-    λ i. record { book = has.0 i; published = has.1 i; pending = none i }
+    λ i. record { book = has.0 i; published = has.1 i; pending = none i; committed = true }
 settles (Err e) x y es ds shows ends h = tt
 
 pub rests : {X Y : Type 0} (r : Result X Y) (x y : ReadTables) (es ds : List Entry) → Publishes x es y ds r

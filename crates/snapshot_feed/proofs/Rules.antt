@@ -8,58 +8,67 @@ use Rattle.atomic_table.proofs.Lists.{at_set, at_snoc}
 use Rattle.logbook.specs.Pages.{Book}
 use Rattle.feed_book.specs.Feeds.{Beginning}
 use Rattle.snapshot_feed.specs.declared.entry.ReadTables.{ReadTables}
-use Rattle.snapshot_feed.specs.Shown.{Shows, MayBeOf, IsOf, Keeps, SeesFront}
+use Rattle.snapshot_feed.specs.declared.rule.Sight.{Sight}
+use Rattle.snapshot_feed.specs.Shown.{Shows, MayBeOf, IsOf, Keeps, SeesFront, looked_at}
 
 again : (b c : Book) (v : Option Beginning) → b ≡ c → MayBeOf c v → MayBeOf b v
 again b c v same h = subst (λ d. MayBeOf d v) (sym same) h
 
+-- nothing is known yet
+abbrev pub unseen : Sight
+unseen = record { front = None; looks = 0 }
+
 -- the shown value goes from x to y, both of one list
-pub turns : (x y : ReadTables) (seat : ℕ) (v : Option Beginning) → Shows y.tables y.front → y.front.book ≡ x.front.book
+pub turns : (x y : ReadTables) (seat : ℕ) (v : Sight) → Shows y.tables y.front → y.front.book ≡ x.front.book
     → TurnsAt Keeps seat v x y SeesFront
 turns x y seat v shows same views kept at = (
-  Some y.front,
+  looked_at y.front v,
   (
     shows,
-    λ j u e. ⊎_elim (λ (t : (j ≡ seat) × (Some y.front ≡ u)). subst (MayBeOf y.front.book) t.1 refl)
-        (λ (t : (j ≢ seat) × (get_elem? views j ≡ some u)). again y.front.book x.front.book u same (kept.1 j u t.1))
-        (at_set views seat j (Some y.front) u e),
+    λ j u e. ⊎_elim (λ (t : (j ≡ seat) × (looked_at y.front v ≡ u)). subst (λ (w : Sight). MayBeOf y.front.book w.front) t.1 refl)
+        (λ (t : (j ≢ seat) × (get_elem? views j ≡ some u)). again y.front.book x.front.book u.front same (kept.1 j u t.1))
+        (at_set views seat j (looked_at y.front v) u e),
   ),
-  (shows, again y.front.book x.front.book v same (kept.1 seat v at), refl),
+  (shows, again y.front.book x.front.book v.front same (kept.1 seat v at), refl),
 )
 
-pub admits : Admits Keeps None
+pub admits : Admits Keeps unseen
 admits x views kept = (
   kept.0,
-  λ seat v at. ⊎_elim (λ h. kept.1 seat v h) (λ (e : None ≡ v). subst (MayBeOf x.front.book) e tt) (at_snoc views None v seat at),
+  λ seat v at. ⊎_elim (λ h. kept.1 seat v h) (λ (e : unseen ≡ v). subst (λ (w : Sight). MayBeOf x.front.book w.front) e tt)
+      (at_snoc views unseen v seat at),
 )
 
-set_kept : (x : ReadTables) (views : List (Option Beginning)) (seat : ℕ) (v : Option Beginning) → Keeps x views → MayBeOf x.front.book v
+set_kept : (x : ReadTables) (views : List Sight) (seat : ℕ) (v : Sight) → Keeps x views → MayBeOf x.front.book v.front
     → Keeps x (set views seat v)
 set_kept x views seat v kept may = (
   kept.0,
-  λ j u e. ⊎_elim (λ (t : (j ≡ seat) × (v ≡ u)). subst (MayBeOf x.front.book) t.1 may)
+  λ j u e. ⊎_elim (λ (t : (j ≡ seat) × (v ≡ u)). subst (λ (w : Sight). MayBeOf x.front.book w.front) t.1 may)
       (λ (t : (j ≢ seat) × (get_elem? views j ≡ some u)). kept.1 j u t.1)
       (at_set views seat j v u e),
 )
 
 -- a copy of what is known for another
-pub forks : (seat : ℕ) (v : Option Beginning) → Forks Keeps seat v v v
+pub forks : (seat : ℕ) (v : Sight) → Forks Keeps seat v v v
 forks seat v x views kept at =
     let old = set_kept x views seat v kept (kept.1 seat v at) in (
       old.0,
-      λ j u e. ⊎_elim (λ h. old.1 j u h) (λ (same : v ≡ u). subst (MayBeOf x.front.book) same (kept.1 seat v at))
+      λ j u e. ⊎_elim (λ h. old.1 j u h)
+          (λ (same : v ≡ u). subst (λ (w : Sight). MayBeOf x.front.book w.front) same (kept.1 seat v at))
           (at_snoc (set views seat v) v u j e),
     )
 
 -- what another knows, in place of what one knew
-pub merges : (seat : ℕ) (v : Option Beginning) (other : ℕ) (w : Option Beginning) → Merges Keeps seat v other w w None
+pub merges : (seat : ℕ) (v : Sight) (other : ℕ) (w : Sight)
+    → Merges Keeps seat v other w (record { front = w.front; looks = v.looks }) unseen
 merges seat v other w x views kept at apart there =
-    let known : MayBeOf x.front.book w = ⊎_elim (λ (t : (other ≡ seat) × (w ≡ w)). absurd (apart t.0))
-    (λ (t : (other ≢ seat) × (get_elem? views other ≡ some w)). kept.1 other w t.1) (at_set views seat other w w there) in
-    set_kept x (set views seat w) other None (set_kept x views seat w kept known) tt
+    let both : Sight = record { front = w.front; looks = v.looks } in
+    let known : MayBeOf x.front.book w.front = ⊎_elim (λ (t : (other ≡ seat) × (both ≡ w)). absurd (apart t.0))
+    (λ (t : (other ≢ seat) × (get_elem? views other ≡ some w)). kept.1 other w t.1) (at_set views seat other both w there) in
+    set_kept x (set views seat both) other unseen (set_kept x views seat both kept known) tt
 
 -- the writer knows its list once it has published
-pub knows : {X Y : Type 0} (r : Result X Y) (x y : ReadTables) (v w : Option Beginning) → MatchResult r (λ _. SeesFront v x y w) (λ _. w ≡ v)
-    → MatchResult r (λ _. IsOf y.front.book w) (λ _. w ≡ v)
-knows (Ok z) x y v w h = subst (IsOf y.front.book) (sym h.2) refl
+pub knows : {X Y : Type 0} (r : Result X Y) (x y : ReadTables) (v w : Sight) → MatchResult r (λ _. SeesFront v x y w) (λ _. w ≡ v)
+    → MatchResult r (λ _. IsOf y.front.book w.front) (λ _. w ≡ v)
+knows (Ok z) x y v w h = subst (λ (u : Sight). IsOf y.front.book u.front) (sym h.2) refl
 knows (Err e) x y v w h = h

@@ -1,5 +1,5 @@
 -- A seat and what is known.
-use Rattle.std.proofs.Common.{◌≡◌, Bool, true, false, sym, ap, ◌∙◌, subst}
+use Rattle.std.proofs.Common.{◌≡◌, Bool, true, false, Some, refl, sym, ap, ◌∙◌, subst}
 use Rattle.std.specs.Prelude.{MatchBool}
 use Rattle.feed_book.specs.Feeds.{Beginning}
 use Rattle.snapshot_feed.specs.declared.seat.Seat.{Seat}
@@ -10,11 +10,11 @@ use Rattle.left_right.specs.Sides.{view}
 
 pub seated_knows : (s : Seat) (f : Beginning) → IsSeated s f → IsOf f.book (known_to s)
 seated_knows (Out r) f h = h
-seated_knows (In r) f h = h.0
+seated_knows (In r) f h = subst (IsOf f.book) (sym h.0) refl
 
 pub reads_knows : (s : Seat) (f : Beginning) → MayRead f.book s → IsOf f.book (known_to s)
 reads_knows (Out r) f h = absurd h
-reads_knows (In r) f h = h.0
+reads_knows (In r) f h = subst (IsOf f.book) (sym h.0) h.1
 
 pub out_seated : (s : Seat) (f : Beginning) → IsOf f.book (known_to s) → is_in s ≡ false → IsSeated s f
 out_seated (Out r) f h out = h
@@ -24,7 +24,7 @@ out_seated (In r) f h out = absurd (cc out)
 pub in_seated : (s : Seat) (f g : Beginning) → MayRead f.book s → IsWithin g s → IsSeated s g
 in_seated (Out r) f g h w = absurd h
 in_seated (In r) f g h w = (
-  subst (λ b. IsOf b (view r.place)) (sym h.1 ∙ ap (λ k. k.book) w) h.0,
+  h.0 ∙ ap Some w,
   w,
   subst (λ k. Shows r.part.value.tables k) w h.2,
 )

@@ -1,11 +1,12 @@
 -- The rule over what is shown, and over what readers and the writer know: which list it is of.
-use Rattle.std.specs.Prelude.{◌≡◌, ℕ, List, Option, None, Some, ⊤}
+use Rattle.std.specs.Prelude.{◌≡◌, ℕ, suc, List, Option, None, Some, ⊤}
 use mathlib.Core.Option.{some}
 use lib.ListN.{get_elem?}
 use Rattle.logbook.specs.Pages.{Book}
 use Rattle.store_laws.specs.Snapshots.{Stored, store_of}
 use Rattle.feed_book.specs.Feeds.{Beginning}
 use Rattle.snapshot_feed.specs.declared.entry.ReadTables.{ReadTables}
+use Rattle.snapshot_feed.specs.declared.rule.Sight.{Sight}
 
 -- the tables are those that the front's operations make
 abbrev pub Shows : Stored → Beginning → Type 0
@@ -21,11 +22,15 @@ abbrev pub IsOf : Book → Option Beginning → Type 0
 IsOf b None = ⊥
 IsOf b (Some f) = f.book ≡ b
 
-abbrev pub Keeps : ReadTables → List (Option Beginning) → Type 0
+abbrev pub Keeps : ReadTables → List Sight → Type 0
 Keeps t views = Shows t.tables t.front
-    × ((seat : ℕ) (v : Option Beginning) → get_elem? views seat ≡ some v → MayBeOf t.front.book v)
+    × ((seat : ℕ) (v : Sight) → get_elem? views seat ≡ some v → MayBeOf t.front.book v.front)
+
+-- one look more, at which this front was shown
+abbrev pub looked_at : Beginning → Sight → Sight
+looked_at f v = record { front = Some f; looks = suc v.looks }
 
 -- an entry or a publication: the tables shown after it are those of their front, which is of the list that one knew of, and
--- which one knows of then
-abbrev pub SeesFront : Option Beginning → ReadTables → ReadTables → Option Beginning → Type 0
-SeesFront v x y w = Shows y.tables y.front × MayBeOf y.front.book v × (w ≡ Some y.front)
+-- which one has looked at then
+abbrev pub SeesFront : Sight → ReadTables → ReadTables → Sight → Type 0
+SeesFront v x y w = Shows y.tables y.front × MayBeOf y.front.book v.front × (w ≡ looked_at y.front v)

@@ -1,32 +1,42 @@
 -- What a feed is, as plain data.
-use Rattle.std.specs.Prelude.{◌≡◌, ◌<◌, Bool, List, [], ◌∷◌, ◌++◌, length, MatchBool}
+use Rattle.std.specs.Prelude.{◌≡◌, ◌<◌, Bool, true, false, List, [], ◌∷◌, ◌++◌, length, MatchBool, if◌then◌else◌}
 use Rattle.kv_model.specs.Feed.{Published}
 use Rattle.logbook.specs.Pages.{Book}
 use Rattle.feed_book.specs.Feeds.{Beginning, IsShorter, Publication}
 use Rattle.snapshot_feed.specs.declared.entry.Entry.{Entry}
 use Rattle.snapshot_feed.specs.Entries.{ops_of}
 
--- which list of publications it is of, the operations that are published, and those that wait
+-- which list of publications it is of, the operations that are published, those that wait, and whether all of them are
+-- committed: the change that they tell of stands
 pub record FeedState : Type 0 where
   pub book : Book
   pub published : List Published
   pub pending : List Published
+  pub committed : Bool
 
 -- all that was appended
 abbrev pub appended : FeedState → List Published
 appended f = f.published ++ f.pending
 
--- with an operation more
+-- with an operation more, whose change does not stand yet
 abbrev pub with_op : FeedState → Published → FeedState
-with_op f op = record f { pending = f.pending ++ op ∷ [] }
+with_op f op = record f { pending = f.pending ++ op ∷ []; committed = false }
+
+-- with all committed
+abbrev pub with_all : FeedState → FeedState
+with_all f = record f { committed = true }
 
 -- with all published
 abbrev pub settled : FeedState → FeedState
 settled f = record f { published = appended f; pending = [] }
 
--- by the front that is shown and what was logged since
+-- with all published that is committed: all, or nothing more than was
+abbrev pub published_by : FeedState → FeedState
+published_by f = if f.committed then settled f else f
+
+-- by the front that is shown and what was logged since, where all of it is committed
 abbrev pub state_by : Beginning → List Entry → FeedState
-state_by shown entries = record { book = shown.book; published = shown.list; pending = ops_of entries }
+state_by shown entries = record { book = shown.book; published = shown.list; pending = ops_of entries; committed = true }
 
 -- a front of the feed's list, with all that was appended
 abbrev pub HasAll : Beginning → FeedState → Type 0

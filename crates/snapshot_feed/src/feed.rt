@@ -1,9 +1,9 @@
 //! The feed of what a store publishes.
-ghost use Rattle.std.specs.Prelude.{◌≡◌, ◌<◌, false, [], length, OnOk, OnErr, IfOk, IfErr, MatchBool};
+ghost use Rattle.std.specs.Prelude.{◌≡◌, ◌<◌, true, false, [], length, OnOk, OnErr, IfOk, IfErr, MatchBool};
 ghost use Rattle.kv_model.specs.Feed.{published};
 ghost use Rattle.kv_model.specs.declared.refusal.Refusal.TheVariants.{NoPlace};
 ghost use Rattle.feed_book.specs.Feeds.{Beginning, IsFeed};
-ghost use Rattle.snapshot_feed.specs.States.{appended, settled, with_op};
+ghost use Rattle.snapshot_feed.specs.States.{appended, published_by, settled, with_all, with_op};
 
 use crate::entry::ReadTables;
 use crate::reader::SnapReader;
@@ -36,6 +36,8 @@ pub struct Feed {
     /// The last mark of the log, or the front that is shown where there is none, has all that was
     /// appended. So a publication that is tried again logs no second mark.
     marked: bool,
+    /// What was appended is known to be a feed.
+    committed: bool,
 }
 
 impl Model for Feed {
@@ -44,12 +46,15 @@ impl Model for Feed {
     ghost use Rattle.left_right.specs.Sides as sides;
     ghost use Rattle.snapshot_feed.specs.Entries.{marked_by};
     ghost use Rattle.snapshot_feed.specs.Shown.{Shows, IsOf};
-    ghost use Rattle.snapshot_feed.specs.States.{FeedState, state_by, HasAll, HasOperation, IsListed};
+    ghost use Rattle.feed_book.specs.Feeds.{IsFeed};
+    ghost use Rattle.snapshot_feed.specs.States.{FeedState, appended, state_by};
+    ghost use Rattle.snapshot_feed.specs.States.{HasAll, HasOperation, IsListed};
 
     ghost Value = { FeedState };
 
-    ghost view = { λ f. state_by (manually_drop_value f.writer).desk.shown.value.front
-        (drop (manually_drop_value f.writer).behind (manually_drop_value f.writer).log.items) };
+    ghost view = { λ f. record (state_by (manually_drop_value f.writer).desk.shown.value.front
+        (drop (manually_drop_value f.writer).behind (manually_drop_value f.writer).log.items))
+        { committed = f.committed } };
 
     ghost invariant = { λ f.
         Shows (manually_drop_value f.writer).desk.shown.value.tables
@@ -57,14 +62,17 @@ impl Model for Feed {
         × IsListed f.listed f.front (state_by (manually_drop_value f.writer).desk.shown.value.front
         (drop (manually_drop_value f.writer).behind (manually_drop_value f.writer).log.items))
         × (f.book ≡ (manually_drop_value f.writer).desk.shown.value.front.book)
-        × IsOf f.book (sides.view (manually_drop_value f.writer).desk.place)
+        × IsOf f.book (sides.view (manually_drop_value f.writer).desk.place).front
         × HasOperation
         (drop (manually_drop_value f.writer).behind (manually_drop_value f.writer).log.items)
         × (f.marked ≡ true → HasAll
         (marked_by (manually_drop_value f.writer).desk.shown.value.front
         (drop (manually_drop_value f.writer).behind (manually_drop_value f.writer).log.items))
         (state_by (manually_drop_value f.writer).desk.shown.value.front
-        (drop (manually_drop_value f.writer).behind (manually_drop_value f.writer).log.items))) };
+        (drop (manually_drop_value f.writer).behind (manually_drop_value f.writer).log.items)))
+        × (f.committed ≡ true → IsFeed (appended
+        (state_by (manually_drop_value f.writer).desk.shown.value.front
+        (drop (manually_drop_value f.writer).behind (manually_drop_value f.writer).log.items)))) };
 }
 
 impl Feed {
@@ -96,6 +104,7 @@ impl Feed {
                 front,
                 listed: true,
                 marked: false,
+                committed: false,
             }),
             Err(error) => {
                 drop(writer.take(rt));
@@ -119,28 +128,51 @@ impl Feed {
             front: _front,
             listed,
             marked,
+            committed,
         } = self;
         if !push(&mut **writer, op) {
             return Err(AllocError);
         }
         *listed = false;
         *marked = false;
+        *committed = false;
         Ok(())
     }
 
-    /// Makes all that was appended visible at once. What was appended has to be a feed: a history
-    /// and its compaction, of which the stored versions answer each question.
+    /// Says that all that was appended stands, so that it may be published: a core hands each change
+    /// to its sink before the change stands, and whoever has both says so behind it. What was
+    /// appended has to be a feed: a history and its compaction, of which the stored versions answer
+    /// each question. Takes no memory, and constant time.
+    pub fn commit(&mut self)
+        requires { IsFeed (appended self.old) }
+        ensures { self.new ≡ with_all self.old }
+    {
+        self.committed = true;
+    }
+
+    /// Makes all that was appended visible at once, where all of it is committed ([`Feed::commit`]).
+    /// Else nothing is done, nor is it where no operation waits.
     ///
     /// The error is want of memory, for the mark or within a copy's tables. Readers then see what
-    /// they saw, and the next publication goes on where this one stopped. Nothing is done where no
-    /// operation waits.
+    /// they saw, and the next publication goes on where this one stopped.
     ///
     /// It waits for the readings that began before the last publication. The copy that is not shown
     /// takes in what was appended since the publication before the last: each operation is taken in
     /// twice, once by each copy, each time as it was by the store's own tables. The place of each
     /// reader that there is room for is visited three times.
     pub fn publish<R: Wait>(&mut self, rt: &R) -> Result<(), AllocError>
-        requires { IsFeed (appended self.old) }
+        ensures ok { OnOk result (self.new ≡ published_by self.old) }
+        ensures err { OnErr result (self.new ≡ self.old) }
+    {
+        if !self.committed {
+            return Ok(());
+        }
+        self.show(rt)
+    }
+
+    /// Makes all that was appended visible, which is committed.
+    fn show<R: Wait>(&mut self, rt: &R) -> Result<(), AllocError>
+        requires { self.old.committed ≡ true }
         ensures ok { OnOk result (self.new ≡ settled self.old) }
         ensures err { OnErr result (self.new ≡ self.old) }
     {
@@ -153,6 +185,7 @@ impl Feed {
             front,
             listed,
             marked,
+            committed: _committed,
         } = self;
         if !*marked {
             if !mark_all(&mut **writer, book, front, listed) {
@@ -185,9 +218,8 @@ impl Feed {
     /// gives its place back. Takes no memory, and time linear in the number of places.
     pub fn reader(&mut self) -> Result<SnapReader, Refusal>
         ensures reader { IfOk result (λ r. r ≡ record {
-          book = self.old.book;
-          known = self.old.published;
-          inside = false;
+          reads = record { book = self.old.book; known = self.old.published; inside = false };
+          looks = 0;
         }) }
         ensures refusal { IfErr result (λ e. e ≡ NoPlace) }
         ensures same { self.new ≡ self.old }
@@ -208,6 +240,7 @@ impl Feed {
             front: _front,
             listed: _listed,
             marked: _marked,
+            committed: _committed,
         } = self;
         drop(ManuallyDrop::into_inner(writer).take(rt));
     }

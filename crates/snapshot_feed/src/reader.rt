@@ -1,12 +1,12 @@
 //! A reader beside the writer.
-ghost use Rattle.std.specs.Prelude.{◌≡◌, true, false, OnOk, OnErr, IfErr, IfOk, IfSome, MatchBool};
+ghost use Rattle.std.specs.Prelude.{◌≡◌, suc, true, false, OnOk, OnErr, IfErr, IfOk, IfSome, MatchBool};
 ghost use mathlib.Core.List.{IsPrefix};
 ghost use Rattle.left_right.specs.Sides.{view};
 ghost use Rattle.kv_model.specs.declared.refusal.Refusal.TheVariants as refusal;
 ghost use Rattle.store_laws.specs.Snapshots.{untrimmed_of};
-ghost use Rattle.feed_book.specs.Feeds.{IsShorter};
+ghost use Rattle.feed_book.specs.Feeds.{IsFeed, IsShorter};
 ghost use Rattle.snapshot_feed.specs.Answers.{Answers, AnswersOf};
-ghost use Rattle.snapshot_feed.specs.Seats.{Reads, MayRead, IsWithin, known_to, is_in};
+ghost use Rattle.snapshot_feed.specs.Seats.{Looking, Reads, MayRead, IsWithin, known_to, is_in, out};
 ghost use Rattle.snapshot_feed.specs.Shown.{IsOf};
 
 use crate::seat::{FeedReader, Seat, entered, left};
@@ -31,14 +31,13 @@ pub struct SnapReader {
 }
 
 impl Model for SnapReader {
-    ghost use Rattle.snapshot_feed.specs.Seats.{Reads, is_in, IsSeated};
+    ghost use Rattle.snapshot_feed.specs.Seats.{Looking, is_in, sight_of, IsSeated};
 
-    ghost Value = { Reads };
+    ghost Value = { Looking };
 
     ghost view = { λ r. record {
-      book = r.known.book;
-      known = r.known.list;
-      inside = is_in r.seat;
+      reads = record { book = r.known.book; known = r.known.list; inside = is_in r.seat };
+      looks = (sight_of r.seat).looks;
     } };
 
     ghost invariant = { λ r. IsSeated r.seat r.known };
@@ -49,6 +48,7 @@ fn newer(seat: &Seat, known: &Front) -> Option<Front>
     requires { MayRead known.now.book seat.now }
     ensures within { IfSome result (λ f. IsWithin f seat.now) }
     ensures begins { IfSome result (λ f. IsPrefix known.now.list f.list) }
+    ensures feed { IfSome result (λ f. IsFeed f.list) }
 {
     match seat {
         Seat::Out(_) => None,
@@ -79,12 +79,15 @@ fn answer<'a>(
 
 impl SnapReader {
     ghost use Rattle.std.specs.Borrow.{sem};
-    ghost use Rattle.snapshot_feed.specs.Lending.{Enters, LendsReading};
+    ghost use Rattle.snapshot_feed.specs.Lending.{EntersAtOnce, LendsReading};
 
     /// A reader that has seen nothing but what it was told of.
     pub(crate) fn of(reader: FeedReader, known: Front) -> Self
-        requires { IsOf known.book (view reader.place) }
-        ensures { result ≡ record { book = known.book; known = known.list; inside = false } }
+        requires { IsOf known.book (view reader.place).front }
+        ensures { result ≡ record {
+          reads = record { book = known.book; known = known.list; inside = false };
+          looks = (view reader.place).looks;
+        } }
     {
         SnapReader {
             seat: Seat::Out(reader),
@@ -93,16 +96,19 @@ impl SnapReader {
     }
 
     /// Takes the tables that are shown now, and leaves those that it was within. They have all that
-    /// this reader has seen and was told of.
+    /// this reader has seen and was told of, and show a feed. What is shown is looked at once, and the tables are those
+    /// of that look (`Sees`, the one step by which a reader's looks are counted).
     ///
     /// The only refusal is `NoPlace`, where the feed is closed, or where the tables are older than
     /// what is known, which never comes. The reader is then within no tables. Takes no memory,
     /// constant time, and waits for nobody.
     pub fn enter(&mut self) -> Result<(), Refusal>
-        ensures ok { OnOk result (self.new.inside ≡ true) }
-        ensures begins { IsPrefix self.old.known self.new.known }
-        ensures book { self.new.book ≡ self.old.book }
-        ensures err { OnErr result (self.new ≡ record self.old { inside = false }) }
+        ensures ok { OnOk result (self.new.reads.inside ≡ true) }
+        ensures looks { OnOk result (self.new.looks ≡ suc self.old.looks) }
+        ensures begins { IsPrefix self.old.reads.known self.new.reads.known }
+        ensures book { self.new.reads.book ≡ self.old.reads.book }
+        ensures feed { OnOk result (IsFeed self.new.reads.known) }
+        ensures err { OnErr result (self.new.reads ≡ record self.old.reads { inside = false }) }
         ensures refusal { IfErr result (λ e. e ≡ refusal.NoPlace) }
     {
         let SnapReader { seat, known } = self;
@@ -119,7 +125,7 @@ impl SnapReader {
 
     /// Leaves the tables, if it is within any. Takes no memory, constant time, and waits for nobody.
     pub fn leave(&mut self)
-        ensures { self.new ≡ record self.old { inside = false } }
+        ensures { self.new ≡ out self.old }
     {
         let SnapReader {
             seat,
@@ -132,12 +138,14 @@ impl SnapReader {
     /// older tables. It does not where what it knows begins with the front and has more, and says so.
     /// Takes no memory, constant time, and waits for nobody.
     pub fn learn(&mut self, told: &Front) -> bool
-        requires { told.now.book ≡ self.old.book }
+        requires { told.now.book ≡ self.old.reads.book }
         ensures told { MatchBool result
-            ((self.new.known ≡ told.now.list) × IsPrefix self.old.known told.now.list)
-            ((self.new.known ≡ self.old.known) × IsShorter told.now.list self.old.known) }
-        ensures book { self.new.book ≡ self.old.book }
-        ensures out { self.new.inside ≡ false }
+            ((self.new.reads.known ≡ told.now.list) × IsPrefix self.old.reads.known told.now.list)
+            ((self.new.reads.known ≡ self.old.reads.known)
+            × IsShorter told.now.list self.old.reads.known) }
+        ensures book { self.new.reads.book ≡ self.old.reads.book }
+        ensures out { self.new.reads.inside ≡ false }
+        ensures looks { self.new.looks ≡ self.old.looks }
     {
         self.leave();
         let SnapReader { seat: _seat, known } = self;
@@ -156,8 +164,8 @@ impl SnapReader {
     /// where the revision asked for is not kept. `Memory` comes where a list of what is found, or a
     /// sort, found none. The cost is that of `range_view`'s [`View::range`](range_view::View::range).
     pub fn range(&self, alloc: Global, query: &RangeQuery) -> Result<RangeReply<'_>, Refusal>
-        requires { self.now.inside ≡ true }
-        ensures { AnswersOf (untrimmed_of self.now.known) query.now result }
+        requires { self.now.reads.inside ≡ true }
+        ensures { AnswersOf (untrimmed_of self.now.reads.known) query.now result }
     {
         self.known.audit();
         match &self.seat {
@@ -172,7 +180,8 @@ impl SnapReader {
     /// The only refusal is that of [`SnapReader::enter`], and the reader is then within no tables.
     pub fn read(&mut self) -> Result<&SnapReader, Refusal>
         ensures* after { sem 𝓛 (LendsReading self.entry result) }
-        ensures enters { IfOk result (λ r. Enters self.old r.now) }
+        ensures enters { IfOk result (λ r. EntersAtOnce self.old r.now) }
+        ensures feed { IfOk result (λ r. IsFeed r.now.reads.known) }
         ensures refusal { IfErr result (λ e. e ≡ refusal.NoPlace) }
     {
         match self.enter() {

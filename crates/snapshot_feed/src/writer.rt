@@ -8,7 +8,7 @@ ghost use Rattle.snapshot_feed.specs.Shown.{Shows, IsOf, MayBeOf};
 ghost use Rattle.snapshot_feed.specs.States.{appended, settled, state_by, HasAll, IsListed};
 
 use crate::entry::{Entry, ReadTables};
-use crate::rule::{Sees, Shown};
+use crate::rule::{Sees, Shown, Sight};
 use feed_book::{Book, Front, Told};
 use kv_model::feed::Op;
 use left_right::writer::Writer;
@@ -16,7 +16,7 @@ use logbook::Plain;
 use std::alloc::AllocError;
 use std::sync::Wait;
 
-pub type FeedWriter = Writer<ReadTables, Entry, Option<Front>, Shown>;
+pub type FeedWriter = Writer<ReadTables, Entry, Sight, Shown>;
 
 /// A writer, and a front of its list: what was appended and is not in the front is not listed.
 #[derive(Drop)]
@@ -149,7 +149,7 @@ pub fn publish_by<R: Wait>(writer: FeedWriter, rt: &R) -> (FeedWriter, Result<()
         (λ _. drop result.0.behind result.0.log.items ≡ [])
         (λ _. drop result.0.behind result.0.log.items ≡ drop writer.behind writer.log.items) }
     ensures known { MatchResult result.1
-        (λ _. IsOf result.0.desk.shown.value.front.book (view result.0.desk.place))
+        (λ _. IsOf result.0.desk.shown.value.front.book (view result.0.desk.place).front)
         (λ _. view result.0.desk.place ≡ view writer.desk.place) }
 {
     writer.publish_as::<Sees, R>(rt)

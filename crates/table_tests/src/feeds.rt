@@ -61,7 +61,7 @@ fn seen(alloc: Global, reader: &mut SnapReader) -> (u64, u64) {
     }
 }
 
-/// Publishes the put, and tells what a reader sees before it is published, within the tables that
+/// Publishes the put, and tells what a reader sees before it is committed, within the tables that
 /// it had entered, and when it enters again.
 #[tactic(auto, using(crate::proofs::OnePut::put_is_feed))]
 fn put_and_read<R: Wait>(
@@ -73,10 +73,12 @@ fn put_and_read<R: Wait>(
     requires { (feed.old.published ≡ []) × (feed.old.pending ≡ []) }
 {
     feed.append(put(alloc).ok()?).ok()?;
+    feed.publish(rt).ok()?;
     let before = seen(alloc, reader);
     if reader.enter().is_err() {
         return None;
     }
+    feed.commit();
     feed.publish(rt).ok()?;
     let within = match reader.range(alloc, &query()) {
         Ok(reply) => (reply.revision, reply.count),
