@@ -1,9 +1,8 @@
 -- Which lengths the names of an object have.
-use Rattle.std.specs.Prelude.{◌≡◌, ℕ, List, length, min, Bool, true, false, is_none}
+use Rattle.std.specs.Prelude.{◌≡◌, ◌==◌, ◌||◌, ℕ, List, length, min, Bool, true, false}
 use Rattle.std.specs.Prelude.{slice_index_or, slice_set, String, string_bytes}
 use Rattle.std.specs.declared.alloc.Global.{Global}
-use Rattle.serde_json.specs.Data.{Members}
-use Rattle.serde_json.specs.Find.{get_member}
+use Rattle.serde_json.specs.Data.{Members, no_members, member}
 
 -- the place of a name's length: the last one is that of all longer names too
 abbrev pub place_of : List ℕ → ℕ
@@ -13,7 +12,11 @@ place_of name = min (length name) 31
 abbrev pub marked : List Bool → String Global → List Bool
 marked lengths name = slice_set lengths (place_of (string_bytes name)) true
 
--- A name whose place is not marked is that of no member.
+-- the place is that of some member's name
+abbrev pub has_place : ℕ → Members → Bool
+has_place p no_members = false
+has_place p (member name d ms) = place_of name == p || has_place p ms
+
+-- Each place is marked where it is that of some member's name, and nowhere else.
 abbrev pub AreMarked : List Bool → Members → Type 0
-AreMarked lengths ms = (name : List ℕ) → slice_index_or lengths (place_of name) false ≡ false
-    → is_none (get_member name ms) ≡ true
+AreMarked lengths ms = (p : ℕ) → slice_index_or lengths p false ≡ has_place p ms

@@ -1,4 +1,5 @@
 pub mod Compares
+pub mod Decoding
 pub mod Fields
 pub mod Lengths
 pub mod Objects

@@ -1,8 +1,10 @@
 //! The fields of an object, each by its kind. An absent field is at its kind's default, and so is
 //! one that is null.
-ghost use Rattle.std.specs.Prelude.{◌≡◌, map, option_map};
+ghost use Rattle.std.specs.Prelude.{◌≡◌, false, map, option_map};
 ghost use Rattle.serde_json.specs.View.{view, items_view};
 ghost use Rattle.kv_model.specs.Requests as requests;
+ghost use Rattle.gateway_read.specs.Decoding as decoding;
+ghost use Rattle.gateway_read.specs.Decoding.{is_text};
 ghost use Rattle.gateway_read.specs.Fields.{snake_of};
 ghost use Rattle.gateway_read.specs.Objects.{seen};
 ghost use Rattle.gateway_read.specs.Reading.{Gives, Tells};
@@ -14,7 +16,7 @@ use crate::object::Object;
 use crate::{kinds, symbols};
 use bytes::Bytes;
 use serde_json::Value;
-use std::alloc::Global;
+use std::alloc::{AllocError, Global};
 
 /// The value under a name of the field, the snake one first, unless it is null.
 pub(crate) fn given<'v>(object: &Object<'v>, field: Field) -> Option<&'v Value>
@@ -28,9 +30,12 @@ pub(crate) fn given<'v>(object: &Object<'v>, field: Field) -> Option<&'v Value>
     if value.is_null() { None } else { Some(value) }
 }
 
-/// Bytes in base64. The default is no bytes.
+/// Bytes in base64. The default is no bytes. Memory is taken only where the value is a text.
 pub(crate) fn bytes_field(alloc: Global, object: &Object<'_>, field: Field) -> Result<Bytes, Bad>
-    ensures { Gives (λ bytes. bytes) result
+    ensures gives { Gives (λ bytes. bytes) result
+        (requests.bytes_field (snake_of field) (seen object.now)) }
+    ensures free { is_text (requests.given (snake_of field) (seen object.now)) ≡ false
+        → Tells (λ bytes. bytes) result
         (requests.bytes_field (snake_of field) (seen object.now)) }
 {
     let Some(value) = given(object, field) else {
@@ -39,7 +44,19 @@ pub(crate) fn bytes_field(alloc: Global, object: &Object<'_>, field: Field) -> R
     let Some(text) = value.as_str() else {
         return Err(Bad::BadField(field));
     };
-    symbols::decoded(alloc, text)?.ok_or(Bad::BadBase64(field))
+    told_as(field, symbols::decoded(alloc, text))
+}
+
+/// What a field's text was decoded to: a text that is no base64 is told as that, and want of memory
+/// only where decoding wanted it. Takes no memory.
+fn told_as(field: Field, made: Result<Option<Bytes>, AllocError>) -> Result<Bytes, Bad>
+    ensures { result ≡ decoding.told_as field made }
+{
+    match made {
+        Ok(Some(bytes)) => Ok(bytes),
+        Ok(None) => Err(Bad::BadBase64(field)),
+        Err(_) => Err(Bad::Memory),
+    }
 }
 
 /// A 64-bit integer. The default is 0. Takes no memory.

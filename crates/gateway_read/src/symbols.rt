@@ -4,6 +4,7 @@ ghost use Rattle.std.specs.List.{list_any};
 ghost use Rattle.base64.specs.Engines.{standard, standard_no_pad};
 ghost use Rattle.base64.specs.GeneralPurpose.{decoded_of};
 ghost use Rattle.kv_model.specs.Requests as requests;
+ghost use Rattle.gateway_read.specs.Decoding.{IsDecoded};
 ghost use Rattle.gateway_read.specs.Signs.{is_url, is_padding};
 
 use base64::DecodeAllocError;
@@ -37,8 +38,20 @@ fn decoded_by(
 ) -> Result<Option<Bytes>, AllocError>
     ensures { IfOk result (λ found. found ≡ decoded_of engine.now symbols.now) }
 {
-    match engine.decode(alloc, symbols) {
-        Ok(bytes) => Ok(Some(Bytes::from_vec(bytes)?)),
+    match by_form(engine.decode(alloc, symbols)) {
+        Ok(Some(bytes)) => Ok(Some(Bytes::from_vec(bytes)?)),
+        Ok(None) => Ok(None),
+        Err(error) => Err(error),
+    }
+}
+
+/// What decoding came to: nothing where the symbols are no base64, and want of memory where the
+/// decoder says so. Takes no memory.
+fn by_form(made: Result<Vec<u8>, DecodeAllocError>) -> Result<Option<Vec<u8>>, AllocError>
+    ensures { IsDecoded made result }
+{
+    match made {
+        Ok(bytes) => Ok(Some(bytes)),
         Err(DecodeAllocError::DecodeError(_)) => Ok(None),
         Err(DecodeAllocError::OutOfMemory) => Err(AllocError),
     }

@@ -1,7 +1,9 @@
 -- Where each operation touches no key that is put but its own, nothing clashes, in whichever branch it stands.
-use Rattle.std.proofs.Common.{◌≡◌, ℕ, ◌+◌, ◌≤◌, List, [], ◌∷◌, ◌++◌, map, Bool, true, false, not, ◌||◌, nat_eq, refl, ap, subst, arith}
+use Rattle.std.proofs.Common.{◌≡◌, ℕ, ◌+◌, ◌≤◌, List, [], ◌∷◌, ◌++◌, map, Bool, true, false, not, ◌&&◌, ◌||◌, nat_eq, refl, sym, ◌∙◌, ap, subst, arith}
 use Rattle.std.specs.List.{AllByRecursion, list_any}
+use Rattle.std.proofs.lemmas.Bool.{or_parts}
 use Rattle.std.proofs.lemmas.Bool.Decides.{nat_tests}
+use Rattle.std.proofs.lemmas.List.{append_assoc}
 use Rattle.kv_model.specs.declared.version.KeyRange.{KeyRange}
 use Rattle.kv_model.specs.Keys.{same_key, in_range}
 use Rattle.kv_model.specs.Calls.{Ops}
@@ -10,9 +12,9 @@ use Rattle.store_laws.proofs.HistoryLaws.{AllByRecursion-split}
 use Rattle.store_laws.proofs.KeyLaws.{same-refl}
 use Rattle.store_laws.proofs.TouchLaws.{IsClear}
 use Rattle.txn_core.specs.declared.touched.Touched.{Touched}
-use Rattle.txn_core.specs.Touching.{bit, keys_put, count_touched, own_of, touches_others}
+use Rattle.txn_core.specs.Touching.{bit, keys_put, count_touched, meets_none, own_of, touches_others}
 use Rattle.txn_core.specs.Views.{touch_view}
-use Rattle.txn_core.proofs.Clashing.{AreApart}
+use Rattle.txn_core.proofs.Clashing.{AreApart, apart-alone, count-append}
 
 -- ---- by counting
 
@@ -127,11 +129,95 @@ alone ks (t ∷ ts) h = by (nat_eq (count_touched (touch_view t) ks) (own_of (to
         (grind (arith, nat_tests), g f)
     by false e f g = cc
 
-pub no-clash : (ks : List (List ℕ)) (ts : List Touched) (ops : Ops) → map touch_view ts ≡ touches ops
+-- none touches a key that another puts
+none-clear : (t : Touch) (ts : List Touch) → list_any (collides t) ts ≡ false → IsClear t ts
+none-clear t [] h = tt
+none-clear t (u ∷ ts) h = let parts = or_parts (collides t u) (list_any (collides t) ts) h in (parts.0, none-clear t ts parts.1)
+
+meets-apart : (ts : List Touch) → meets_none ts ≡ true → AreApart ts
+meets-apart [] h = tt
+meets-apart (t ∷ ts) h = by (list_any (collides t) ts) refl h (meets-apart ts)
+  where
+    by : (b : Bool) → list_any (collides t) ts ≡ b → (not b && meets_none ts) ≡ true → (meets_none ts ≡ true → AreApart ts)
+        → IsClear t ts × AreApart ts
+    by true is g rest = cc
+    by false is g rest = (none-clear t ts is, rest g)
+
+apart-meets : (ts : List Touch) → AreApart ts → meets_none ts ≡ true
+apart-meets [] a = refl
+apart-meets (t ∷ ts) a =
+    let here : list_any (collides t) ts ≡ false = any-false (collides t) ts a.0 in
+    let rest : meets_none ts ≡ true = apart-meets ts a.1 in
+    λ i. not (here i) && rest i
+
+-- so nothing clashes
+pub none-clash : (ops : Ops) → meets_none (touches ops) ≡ true → clashes ops ≡ false
+none-clash ops h = apart-clashes ops (meets-apart (touches ops) h)
+
+-- ---- each touches what it puts, and no more
+
+clear-none : (t : Touch) (us : List Touch) → IsClear t us → count_touched t (keys_put us) ≡ 0
+clear-none t [] h = refl
+clear-none t (Touch.one k ∷ us) h =
+    let here : bit (collides t (Touch.one k)) ≡ 0 = ap bit h.0 in
+    let rest : count_touched t (keys_put us) ≡ 0 = clear-none t us h.1 in
+    λ i. here i + rest i
+clear-none t (Touch.each r ∷ us) h = clear-none t us h.1
+
+own-here : (t : Touch) (ts : List Touch) → count_touched t (keys_put (t ∷ ts)) ≡ own_of t + count_touched t (keys_put ts)
+own-here (Touch.one k) ts = ap (λ b. bit b + count_touched (Touch.one k) (keys_put ts)) (same-refl k)
+own-here (Touch.each r) ts = omega arith
+
+own : (front ts : List Touch) (t : Touch) → AreApart (front ++ t ∷ ts) → count_touched t (keys_put (front ++ t ∷ ts)) ≡ own_of t
+own front ts t a =
+    let parts = AllByRecursion-split (λ u. collides t u ≡ false) front ts (apart-alone front ts t a) in
+    let before : count_touched t (keys_put front) ≡ 0 = clear-none t front parts.0 in
+    let behind : count_touched t (keys_put ts) ≡ 0 = clear-none t ts parts.1 in
+    let here : count_touched t (keys_put (t ∷ ts)) ≡ own_of t + count_touched t (keys_put ts) = own-here t ts in
+    let all : count_touched t (keys_put (front ++ t ∷ ts)) ≡ count_touched t (keys_put front) + count_touched t (keys_put (t ∷ ts))
+    = count-append t front (t ∷ ts) in
+    omega (arith, before, behind, here, all)
+
+each-own : (front ts : List Touch) → AreApart (front ++ ts) → AllByRecursion (λ t. count_touched t (keys_put (front ++ ts)) ≡ own_of t) ts
+each-own front [] a = tt
+each-own front (t ∷ ts) a =
+    let same : (front ++ t ∷ []) ++ ts ≡ front ++ t ∷ ts = append_assoc front (t ∷ []) ts in (
+      own front ts t a,
+      subst (λ us. AllByRecursion (λ t. count_touched t (keys_put us) ≡ own_of t) ts) same
+          (each-own (front ++ t ∷ []) ts (subst AreApart (sym same) a)),
+    )
+
+none-others : (ks : List (List ℕ)) (ts : List Touched) → AllByRecursion (λ t. count_touched t ks ≡ own_of t) (map touch_view ts)
+    → list_any (λ t. touches_others ks (touch_view t)) ts ≡ false
+none-others ks [] h = refl
+none-others ks (t ∷ ts) h =
+    let here : not (nat_eq (count_touched (touch_view t) ks) (own_of (touch_view t))) ≡ false = equal (count_touched (touch_view t) ks) (own_of (touch_view t)) h.0 in
+    let rest : list_any (λ t. touches_others ks (touch_view t)) ts ≡ false = none-others ks ts h.1 in
+    λ i. here i || rest i
+  where
+    equal : (m n : ℕ) → m ≡ n → not (nat_eq m n) ≡ false
+    equal m n e = let same : nat_eq m n ≡ true = grind (arith, nat_tests) in ap not same
+
+counted-by : (ks ls : List (List ℕ)) → ((t : Touch) → count_touched t ks ≡ count_touched t ls) → (us : List Touch)
+    → AllByRecursion (λ t. count_touched t ls ≡ own_of t) us → AllByRecursion (λ t. count_touched t ks ≡ own_of t) us
+counted-by ks ls h [] a = tt
+counted-by ks ls h (t ∷ us) a = (h t ∙ a.0, counted-by ks ls h us a.1)
+
+-- none touches another number of the keys than it puts where none touches a key that another puts, and only there
+pub none-meets : (ks : List (List ℕ)) (ts : List Touched) (ops : Ops) (b : Bool) → map touch_view ts ≡ touches ops
     → ((t : Touch) → count_touched t ks ≡ count_touched t (keys_put (map touch_view ts)))
-    → list_any (λ t. touches_others ks (touch_view t)) ts ≡ false → clashes ops ≡ false
-no-clash ks ts ops e h f = apart-clashes ops (subst AreApart e (apart ks (map touch_view ts) (λ t. most t (h t)) (alone ks ts f)))
+    → list_any (λ t. touches_others ks (touch_view t)) ts ≡ b → not b ≡ meets_none (touches ops)
+none-meets ks ts ops false e h f = sym (ap meets_none (sym e) ∙ apart-meets (map touch_view ts) (apart ks (map touch_view ts) (λ t. most t (h t)) (alone ks ts f)))
   where
     most : (t : Touch) → count_touched t ks ≡ count_touched t (keys_put (map touch_view ts))
         → count_touched t (keys_put (map touch_view ts)) ≤ count_touched t ks
     most t g = omega (arith, g)
+none-meets ks ts ops true e h f = by (meets_none (touches ops)) refl
+  where
+    by : (m : Bool) → meets_none (touches ops) ≡ m → false ≡ m
+    by false is = refl
+    by true is =
+        let a : AreApart (map touch_view ts) = meets-apart (map touch_view ts) (ap meets_none e ∙ is) in
+        let none : list_any (λ t. touches_others ks (touch_view t)) ts ≡ false
+        = none-others ks ts (counted-by ks (keys_put (map touch_view ts)) h (map touch_view ts) (each-own [] (map touch_view ts) a)) in
+        let bad : true ≡ false = sym f ∙ none in cc

@@ -98,7 +98,7 @@ meets_put-append : (t : Touch) (us vs : List Touch) → meets_put t (us ++ vs) �
 meets_put-append t us vs = ap (list_any (λ k. collides t (Touch.one k))) (keys_put-append us vs)
     ∙ list_any-append (λ k. collides t (Touch.one k)) (keys_put us) (keys_put vs)
 
-count-append : (t : Touch) (us vs : List Touch) → count_touched t (keys_put (us ++ vs))
+pub count-append : (t : Touch) (us vs : List Touch) → count_touched t (keys_put (us ++ vs))
     ≡ count_touched t (keys_put us) + count_touched t (keys_put vs)
 count-append t us vs = ap (count_touched t) (keys_put-append us vs)
     ∙ count_of-append (λ k. collides t (Touch.one k)) (keys_put us) (keys_put vs)
@@ -340,7 +340,7 @@ path-apart (Path.delete d rest) n = (n.0, path-apart rest n.1)
 path-apart (Path.txn b inner rest) n = apart-append (path_touches inner) (path_touches rest) (path-apart inner n.1)
     (path-apart rest n.2) n.0
 
-apart-alone : (before after : List Touch) (t : Touch) → AreApart (before ++ t ∷ after) → IsClear t (before ++ after)
+pub apart-alone : (before after : List Touch) (t : Touch) → AreApart (before ++ t ∷ after) → IsClear t (before ++ after)
 apart-alone [] after t a = a.0
 apart-alone (u ∷ before) after t a =
     let parts : AllByRecursion (λ s. collides u s ≡ false) before × AllByRecursion (λ s. collides u s ≡ false) (t ∷ after)

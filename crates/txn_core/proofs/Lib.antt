@@ -1,5 +1,6 @@
 pub mod Alone
 pub mod Apart
+pub mod AtOnce
 pub mod Elements
 pub mod Buried
 pub mod Clashing

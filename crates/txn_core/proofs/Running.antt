@@ -100,7 +100,7 @@ path-behind v cs s f rest = by (list_all (holds v.versions v.revision) cs)
     by false = refl
 
 -- the operation that a transaction is, as a row
-inner-row : (t : Txn) (rest : Ops) → then (op_view (Inner t)) rest
+pub inner-row : (t : Txn) (rest : Ops) → then (op_view (Inner t)) rest
     ≡ Ops.txn (out-Txn t).compare.items (ops_view (out-Txn t).success.items) (ops_view (out-Txn t).failure.items) rest
 inner-row t rest = ap (λ o. then o rest) (op_view-Inner t ∙ txn_view-out t)
 

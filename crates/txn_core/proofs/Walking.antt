@@ -41,7 +41,7 @@ row_length-roll (Operation-F.Put p) = ap row_length (fold-roll-Operation Ops Ops
 row_length-roll (Operation-F.Delete d) = ap row_length (fold-roll-Operation Ops Ops op_step txn_step (Operation-F.Delete d))
 row_length-roll (Operation-F.Inner t) = ap row_length (fold-roll-Operation Ops Ops op_step txn_step (Operation-F.Inner t) ∙ txn_view-out t)
 
-row_length-op : (o : Operation) → row_length (op_view o) ≡ 1
+pub row_length-op : (o : Operation) → row_length (op_view o) ≡ 1
 row_length-op o = subst (λ (p : Operation). row_length (op_view p) ≡ 1) (roll-out-Operation o) (row_length-roll (out-Operation o))
 
 pub row_length-ops : (os : List Operation) → row_length (ops_view os) ≡ length os

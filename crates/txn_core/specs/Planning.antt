@@ -1,6 +1,7 @@
 -- The versions that a transaction makes, and its first refusal, told from what is seen at a place before it.
 use Rattle.std.specs.Prelude.{◌≡◌, ◌⊎◌, ℕ, ℤ, List, [], ◌∷◌, ◌++◌, length, filter, Bool, true, false, ◌&&◌}
 use Rattle.std.specs.Prelude.{if◌then◌else◌, Option, None, Some, is_some, MatchBool, ⊤}
+use Rattle.std.specs.Prelude.{Result, Ok, Err}
 use Rattle.std.specs.Option.{option_or}
 use Rattle.std.specs.List.{list_any}
 use Rattle.std.specs.Borrow.{Bor}
@@ -80,6 +81,28 @@ IsFault e fault = (fault ≡ Some e) ⊎ ((fault ≡ None) × (e ≡ Memory))
 abbrev pub IsFirst : Refusal → Option Refusal → Option Refusal → Type 0
 IsFirst e fault first = (fault ≡ Some e) ⊎ ((fault ≡ None) × IsRefusal e first)
 
+-- ---- what is refused before memory is asked for
+
+-- The refusal of the operations of a row before memory is asked for: that of the first, a Range or a put. A transaction
+-- without compares asks for none before the first operation on success; else its compares do.
+unfoldable pub at_once : (ℤ → Bool) → ℕ → ℕ → List Version → Rev → Ops → Option Refusal
+at_once granted c now vs p Ops.no_ops = None
+at_once granted c now vs p (Ops.range q rest) = revision_refusal c now q.revision
+at_once granted c now vs p (Ops.put r rest) = held_refusal granted r (value_at vs p r.key)
+at_once granted c now vs p (Ops.delete d rest) = None
+at_once granted c now vs p (Ops.txn [] s f rest) = at_once granted c now vs p s
+at_once granted c now vs p (Ops.txn (cmp ∷ cs) s f rest) = None
+
+-- where there is such a refusal, it is told
+abbrev pub IsAtOnce : Refusal → Option Refusal → Type 0
+IsAtOnce e None = ⊤
+IsAtOnce e (Some f) = e ≡ f
+
+-- and nothing else comes of it
+abbrev pub TellsAtOnce : {X : Type 0} → Result X Refusal → Option Refusal → Type 0
+TellsAtOnce (Ok x) o = o ≡ None
+TellsAtOnce (Err e) o = IsAtOnce e o
+
 -- ---- the same, on a view
 
 abbrev pub path_in : Viewed → Ops → Path
@@ -91,6 +114,9 @@ versions_made_in v ws q = made v.versions v.place (number_after v.revision) ws q
 
 abbrev pub refusal_in : Viewed → List Lease → Path → Option Refusal
 refusal_in v ls q = refusal_of (is_granted ls) v.compacted v.revision v.versions v.place q
+
+abbrev pub at_once_in : Viewed → List Lease → Ops → Option Refusal
+at_once_in v ls ops = at_once (is_granted ls) v.compacted v.revision v.versions v.place ops
 
 -- the view is of the end of its revision
 abbrev pub IsPresent : Viewed → Type 0

@@ -1,5 +1,5 @@
 -- What the operations of a row touch, held against one another by counting.
-use Rattle.std.specs.Prelude.{◌≡◌, ℕ, ◌+◌, List, [], ◌∷◌, ◌++◌, Bool, true, false, not, ◌||◌, nat_eq}
+use Rattle.std.specs.Prelude.{◌≡◌, ℕ, ◌+◌, List, [], ◌∷◌, ◌++◌, Bool, true, false, not, ◌&&◌, ◌||◌, nat_eq}
 use Rattle.std.specs.List.{AllByRecursion, list_any}
 use Rattle.kv_model.specs.declared.version.Version.{Version}
 use Rattle.kv_model.specs.declared.call.Compare.{Compare}
@@ -46,6 +46,11 @@ own_of (Touch.each r) = 0
 -- it collides with another number of the keys than it puts
 abbrev pub touches_others : List (List ℕ) → Touch → Bool
 touches_others all t = not (nat_eq (count_touched t all) (own_of t))
+
+-- none of these touches a key that another of them puts
+abbrev pub meets_none : List Touch → Bool
+meets_none [] = true
+meets_none (t ∷ ts) = not (list_any (collides t) ts) && meets_none ts
 
 -- what all operations touch, of what each does
 abbrev pub all_of : List (List Touch) → List Touch

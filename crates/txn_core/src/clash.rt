@@ -31,15 +31,12 @@ pub(crate) fn any_clash(alloc: Global, txn: &Txn) -> Result<bool, AllocError>
 
 /// Whether no operation, in whichever branch, touches a key that another one puts.
 fn meets_nothing(alloc: Global, txn: &Txn) -> Result<bool, AllocError>
-    ensures { IfOk result (λ b. b ≡ true → txns.clashes (txn_view txn.now) ≡ false) }
+    ensures { IfOk result (λ b. b ≡ touching.meets_none (txns.touches (txn_view txn.now))) }
 {
     let mut touched = Vec::new(alloc);
     push_txn(&mut touched, txn)?;
     let keys = sorted_keys(alloc, &touched)?;
-    if meets_others(&touched, &keys) {
-        return Ok(false);
-    }
-    Ok(true)
+    Ok(!meets_others(&touched, &keys))
 }
 
 /// Whether some of what is touched touches another number of the keys than it puts.

@@ -1,5 +1,5 @@
 //! Whether the compares of a transaction hold (the etcd documentation's Compare).
-ghost use Rattle.std.specs.Prelude.{◌≡◌, pos, map, IfOk};
+ghost use Rattle.std.specs.Prelude.{◌≡◌, ◌≢◌, [], pos, map, IfOk, OnErr};
 ghost use Rattle.std.specs.List.{list_all};
 ghost use Rattle.std.specs.Ordering.{int_cmp};
 ghost use Rattle.kv_model.specs.History as history;
@@ -16,14 +16,16 @@ use std::cmp::Ordering;
 ///
 /// `AllocError` comes where a list of what the keys of a range hold found no memory. The ranges are
 /// walked one after another, up to the first compare that does not hold; one key is looked up.
+/// Where there are no compares, no memory is taken.
 pub(crate) fn all_hold(
     alloc: Global,
     view: &View<'_>,
     compares: &[Compare],
 ) -> Result<bool, AllocError>
     requires { view.now.place ≡ history.end_of view.now.revision }
-    ensures { IfOk result (λ b. b
+    ensures hold { IfOk result (λ b. b
         ≡ list_all (txns.holds view.now.versions view.now.revision) compares.now) }
+    ensures free { OnErr result (compares.now ≢ []) }
 {
     for compare in compares {
         if !holds(alloc, view, compare)? {

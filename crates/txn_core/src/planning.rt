@@ -42,7 +42,8 @@ struct Branch<'t> {
 /// The first refusal of the operations that run, in their order, is answered: `Compacted` or
 /// `Future` of a Range whose own revision is not kept or not there, `KeyMissing` of a put that
 /// keeps what is not there, `LeaseMissing` of one that names a lease that is not granted. `Memory`
-/// comes where there is none for the steps, the versions or what a range holds.
+/// comes where there is none for the steps, the versions or what a range holds: never in the place
+/// of what the first operation is refused for, a Range or a put of a transaction without compares.
 ///
 /// A revision or a count of puts that 64 bits do not hold is given as the greatest number that they
 /// hold. No store comes to either, whose revisions end at 2^63 - 1.
@@ -73,6 +74,9 @@ pub fn plan<'t>(
         ⊎ (run_refusal (is_granted leases.now.leases) view.now.compacted view.now.revision
         (present view.now) 0
         (path_of (present view.now) view.now.revision (txn_view txn.now)) ≡ Some e)) }
+    ensures first { planning.TellsAtOnce result (planning.at_once
+        (is_granted leases.now.leases) view.now.compacted view.now.revision view.now.versions
+        (history.end_of view.now.revision) (txn_view txn.now)) }
 {
     let view = view.at_end();
     match plan_at(alloc, &view, txn, leases) {
@@ -99,6 +103,8 @@ fn plan_at<'t>(
         planning.IsRefusal e
         (planning.refusal_in view.now leases.now.leases
         (planning.path_in view.now (txn_view txn.now)))) }
+    ensures first { planning.TellsAtOnce result
+        (planning.at_once_in view.now leases.now.leases (txn_view txn.now)) }
 {
     let mut changes = Changes::new(alloc);
     let mut emptied = Vec::new(alloc);
@@ -135,6 +141,8 @@ fn run_txn<'a, 't>(
         planning.IsRefusal e
         (planning.refusal_in view.now leases.now.leases
         (planning.path_in view.now (txn_view txn.now)))) }
+    ensures first { IfErr result (λ e. planning.IsAtOnce e
+        (planning.at_once_in view.now leases.now.leases (txn_view txn.now))) }
 {
     let Ok(succeeded) = all_hold(alloc, view, &txn.compare) else {
         return Err(Refusal::Memory);
@@ -173,6 +181,8 @@ fn run_row<'a, 't>(
         planning.IsRefusal e
         (planning.refusal_in view.now leases.now.leases
         (planning.path_in view.now (ops_view row.now.items)))) }
+    ensures first { IfErr result (λ e. planning.IsAtOnce e
+        (planning.at_once_in view.now leases.now.leases (ops_view row.now.items))) }
 {
     let mut steps = Vec::new(alloc);
     for operation in row {
@@ -214,6 +224,8 @@ fn run_operation<'a, 't>(
         → planning.IsRefusal e
         (planning.refusal_in view.now leases.now.leases
         (planning.path_in view.now (then (op_view operation.now) rest)))) }
+    ensures first { IfErr result (λ e. (rest : Ops) → planning.IsAtOnce e
+        (planning.at_once_in view.now leases.now.leases (then (op_view operation.now) rest))) }
 {
     match operation {
         Operation::Range(query) => match run_range(view, query) {

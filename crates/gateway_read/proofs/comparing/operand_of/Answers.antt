@@ -22,9 +22,9 @@ returns-in_err-modified c = rw (c.in_ok-version.ensures, c.in_ok-create.ensures)
 pub returns-in_err-value : goal.returns-in_err-value
 unfolding operand_read snake_of
 returns-in_err-value c = rw (c.in_ok-version.ensures, c.in_ok-create.ensures, c.in_ok-modified.ensures)
-    (gives_fault _ c.from_residual-in_err-value.result _ _ c.from_residual-in_err-value.ensures.1 (fails_then _ _ _ c.in_err-value.ensures))
+    (gives_fault _ c.from_residual-in_err-value.result _ _ c.from_residual-in_err-value.ensures.1 (fails_then _ _ _ c.in_err-value.ensures.gives))
 
 pub returns-in_err-lease : goal.returns-in_err-lease
 unfolding operand_read snake_of
-returns-in_err-lease c = rw (c.in_ok-version.ensures, c.in_ok-create.ensures, c.in_ok-modified.ensures, c.in_ok-value.ensures)
+returns-in_err-lease c = rw (c.in_ok-version.ensures, c.in_ok-create.ensures, c.in_ok-modified.ensures, c.in_ok-value.ensures.gives)
     (gives_fault _ c.from_residual-in_err-lease.result _ _ c.from_residual-in_err-lease.ensures.1 (fails_then _ _ _ c.in_err-lease.ensures.0))

@@ -12,7 +12,7 @@ unfolding snake_of
 returns c =
     let limit : FitsSigned w64 c.in_ok-limit.limit = search rules in
     let revision : FitsSigned w64 c.in_ok-revision.revision = search rules in
-    rw (range_query-completed _ c.in_ok-key.ensures c.in_ok-end.ensures
+    rw (range_query-completed _ c.in_ok-key.ensures.gives c.in_ok-end.ensures.gives
     (c.in_ok-limit.ensures ∙ ap Ok (sym (to_z-of_z w64 _ limit)))
     (c.in_ok-revision.ensures ∙ ap Ok (sym (to_z-of_z w64 _ revision)))
     c.in_ok-order.ensures c.in_ok-target.ensures)

@@ -1,5 +1,5 @@
 -- What runs is the path, and makes what it makes.
-use Rattle.std.proofs.Common.{◌≡◌, sym, ◌∙◌, ap, subst, arith, map, drop, ◌+◌}
+use Rattle.std.proofs.Common.{◌≡◌, inr, sym, ◌∙◌, ap, subst, arith, map, drop, ◌+◌}
 use Rattle.std.specs.Prelude.{IfOk, IfErr}
 use Rattle.std.specs.List.{list_all}
 use Rattle.kv_model.specs.declared.call.Txn.{out-Txn}
@@ -10,8 +10,9 @@ use Rattle.kv_model.specs.Leases.{is_granted}
 use Rattle.kv_model.specs.Ranges.{revision_refusal}
 use Rattle.kv_model.specs.Txns.{holds}
 use Rattle.txn_core.specs.KeyWrites.{held_refusal}
-use Rattle.txn_core.specs.Planning.{made, refusal_of, IsRefusal, path_in, versions_made_in, refusal_in}
+use Rattle.txn_core.specs.Planning.{made, refusal_of, IsRefusal, IsAtOnce, at_once_in, path_in, versions_made_in, refusal_in}
 use Rattle.txn_core.specs.Steps.{in_row, step_view, steps_view}
+use Rattle.txn_core.proofs.AtOnce.{of-delete, of-inner, of-put, of-range, past, told-fault, told-none, told-one, told-row, told-txn, txn-late}
 use Rattle.txn_core.proofs.Running.{refused-as, refused-by, refused-first, none-first, path-range, path-put, path-delete, path-inner, refused-inner, branch_of, ran}
 use Rattle.txn_core.proofs.Running.{not_run, row-split, row-end, in_row-more}
 use Rattle.txn_core.proofs.Elements.{At}
@@ -50,6 +51,14 @@ run_operation-returns-in-Err-clause-refused t c = λ rest.
     (refused-first c.in-Err.refusal (revision_refusal v.compacted v.revision c.in-Range.query.revision)
     (refusal_in v ls (path_in v rest)) (refused-as c.in-Err.refusal _ c.in-Err.ensures.refused))
 
+pub run_operation-returns-in-Err-clause-first : goal.run_operation-returns-in-Err-clause-first
+run_operation-returns-in-Err-clause-first t c = λ rest.
+    let v = c.args.view.now in
+    let ls = c.args.leases.now.leases in
+    let e = c.in-Err.refusal in
+    subst (IsAtOnce e) (sym (ap (λ o. at_once_in v ls (then (op_view o) rest)) c.in-Range.is ∙ of-range v ls c.in-Range.query rest))
+    (told-one e _ c.in-Err.ensures.refused)
+
 -- ---- a put
 
 pub run_operation-returns-in-Ok-run_put-clause-path : goal.run_operation-returns-in-Ok-run_put-clause-path
@@ -87,6 +96,14 @@ run_operation-returns-in-Err-run_put-clause-refused t c = λ rest.
     (refused-first c.in-Err-run_put.refusal (held_refusal (is_granted ls) p (value_at v.versions v.place p.key))
     (refusal_in v ls (path_in v rest)) (refused-by c.in-Err-run_put.refusal _ c.in-Err-run_put.ensures.refused))
 
+pub run_operation-returns-in-Err-run_put-clause-first : goal.run_operation-returns-in-Err-run_put-clause-first
+run_operation-returns-in-Err-run_put-clause-first t c = λ rest.
+    let v = c.args.view.now in
+    let ls = c.args.leases.now.leases in
+    let e = c.in-Err-run_put.refusal in
+    subst (IsAtOnce e) (sym (ap (λ o. at_once_in v ls (then (op_view o) rest)) c.in-Put.is ∙ of-put v ls c.in-Put.request rest))
+    (told-fault e _ c.in-Err-run_put.ensures.refused)
+
 -- ---- a delete
 
 pub run_operation-returns-in-Ok-run_delete-clause-path : goal.run_operation-returns-in-Ok-run_delete-clause-path
@@ -105,6 +122,12 @@ pub run_operation-returns-in-Ok-run_delete-clause-fine : goal.run_operation-retu
 unfolding refusal_of
 run_operation-returns-in-Ok-run_delete-clause-fine t c = λ rest. ap (refusal_in c.args.view.now c.args.leases.now.leases)
     (step_view-Delete _ rest)
+
+pub run_operation-returns-in-Err-run_delete-clause-first : goal.run_operation-returns-in-Err-run_delete-clause-first
+run_operation-returns-in-Err-run_delete-clause-first t c = λ rest.
+    let v = c.args.view.now in
+    let ls = c.args.leases.now.leases in
+    told-none _ _ (ap (λ o. at_once_in v ls (then (op_view o) rest)) c.in-Delete.is ∙ of-delete v ls c.in-Delete.request rest)
 
 -- ---- a transaction within
 
@@ -141,14 +164,25 @@ run_operation-returns-in-Err-run_txn-clause-refused t c = λ rest.
     subst (λ o. IsRefusal e (refusal_in v ls (path_in v (then (op_view o) rest)))) (sym c.in-Inner.is)
     (refused-inner v ls e c.in-Inner.txn c.in-Err-run_txn.ensures.refused rest)
 
+pub run_operation-returns-in-Err-run_txn-clause-first : goal.run_operation-returns-in-Err-run_txn-clause-first
+run_operation-returns-in-Err-run_txn-clause-first t c = λ rest.
+    let v = c.args.view.now in
+    let ls = c.args.leases.now.leases in
+    subst (IsAtOnce c.in-Err-run_txn.refusal)
+    (sym (ap (λ o. at_once_in v ls (then (op_view o) rest)) c.in-Inner.is ∙ of-inner v ls c.in-Inner.txn rest)) c.in-Err-run_txn.ensures.first
+
 -- ---- a transaction
+
+pub run_txn-returns-in_default-clause-first : goal.run_txn-returns-in_default-clause-first
+run_txn-returns-in_default-clause-first t c =
+    txn-late c.args.view.now c.args.leases.now.leases c.args.txn.now _ (λ none. c.in_default.ensures.free (c.deref.ensures.value ∙ none))
 
 pub run_txn-returns-in-Ok-ran-clause-path : goal.run_txn-returns-in-Ok-ran-clause-path
 run_txn-returns-in-Ok-ran-clause-path t c =
     let v = c.args.view.now in
     let txn = c.args.txn.now in
     let chosen : c.in-Ok.succeeded ≡ list_all (holds v.versions v.revision) (out-Txn txn).compare.items
-    = c.in-Ok.ensures ∙ ap (list_all (holds v.versions v.revision)) c.deref.ensures.value in
+    = c.in-Ok.ensures.hold ∙ ap (list_all (holds v.versions v.revision)) c.deref.ensures.value in
     let held : IfOk c.if-succeeded.ran (λ s. steps_view s.items ≡ path_in v (branch_of txn c.in-Ok.succeeded))
     = elim c.if-succeeded.branch [
       | run_txn-then-succeeded w ↦ rw (w.ran-is, w.if-succeeded.true) w.run_row-ran.ensures.path
@@ -162,13 +196,27 @@ run_txn-returns-in-Err-clause-refused t c =
     let ls = c.args.leases.now.leases in
     let txn = c.args.txn.now in
     let chosen : c.in-Ok.succeeded ≡ list_all (holds v.versions v.revision) (out-Txn txn).compare.items
-    = c.in-Ok.ensures ∙ ap (list_all (holds v.versions v.revision)) c.deref.ensures.value in
+    = c.in-Ok.ensures.hold ∙ ap (list_all (holds v.versions v.revision)) c.deref.ensures.value in
     let held : IfErr c.if-succeeded.ran (λ e. IsRefusal e (refusal_in v ls (path_in v (branch_of txn c.in-Ok.succeeded))))
     = elim c.if-succeeded.branch [
       | run_txn-then-succeeded w ↦ rw (w.ran-is, w.if-succeeded.true) w.run_row-ran.ensures.refused
       | run_txn-else-succeeded w ↦ rw (w.ran-is, w.if-succeeded.false) w.run_row-ran-else-succeeded.ensures.refused
     ] in
     not_run v ls txn c.in-Ok.succeeded c.in-Err.refusal chosen (rw c.in-Err.is at held)
+
+pub run_txn-returns-in-Err-clause-first : goal.run_txn-returns-in-Err-clause-first
+run_txn-returns-in-Err-clause-first t c =
+    let v = c.args.view.now in
+    let ls = c.args.leases.now.leases in
+    let txn = c.args.txn.now in
+    let chosen : c.in-Ok.succeeded ≡ list_all (holds v.versions v.revision) (out-Txn txn).compare.items
+    = c.in-Ok.ensures.hold ∙ ap (list_all (holds v.versions v.revision)) c.deref.ensures.value in
+    let told : IfErr c.if-succeeded.ran (λ e. IsAtOnce e (at_once_in v ls (branch_of txn c.in-Ok.succeeded)))
+    = elim c.if-succeeded.branch [
+      | run_txn-then-succeeded w ↦ rw (w.ran-is, w.if-succeeded.true) w.run_row-ran.ensures.first
+      | run_txn-else-succeeded w ↦ rw (w.ran-is, w.if-succeeded.false) w.run_row-ran-else-succeeded.ensures.first
+    ] in
+    told-txn v ls txn c.in-Ok.succeeded c.in-Err.refusal chosen (rw c.in-Err.is at told)
 
 -- ---- a row
 
@@ -188,7 +236,27 @@ run_row-loop-operation-preserved t c =
       sym (c.in-Ok.ensures.made (path_in v rest)) ∙ ap (versions_made_in v l.changes) (sym stepped) ∙ l.invariant.1,
       sym (c.in-Ok.ensures.fine (path_in v rest)) ∙ ap (refusal_in v ls) (sym stepped) ∙ l.invariant.2,
       c.in-Ok.ensures.emptied,
+      inr (past v ls os c.args.row.now.items here c.in-Ok.step c.deref-operation-items.ensures.value c.in-Ok.ensures.path c.in-Ok.ensures.fine
+          l.invariant.4),
     )
+
+pub run_row-returns-in-Err-clause-first : goal.run_row-returns-in-Err-clause-first
+run_row-returns-in-Err-clause-first t c =
+    let l = c.loop-operation in
+    let os = c.deref-operation-items.result.now in
+    let here : At os
+    = record { index = l.operation-index; value = c.operation-item.result; inside = omega arith; is = c.operation-item.is } in
+    told-row c.args.view.now c.args.leases.now.leases os c.args.row.now.items here c.in-Err.refusal c.deref-operation-items.ensures.value
+    c.in-Err.ensures.first l.invariant.4
+
+pub run_row-returns-in-Err-push-clause-first : goal.run_row-returns-in-Err-push-clause-first
+run_row-returns-in-Err-push-clause-first t c =
+    let l = c.loop-operation in
+    let os = c.deref-operation-items.result.now in
+    let here : At os
+    = record { index = l.operation-index; value = c.operation-item.result; inside = omega arith; is = c.operation-item.is } in
+    told-none _ _ (past c.args.view.now c.args.leases.now.leases os c.args.row.now.items here c.in-Ok.step
+    c.deref-operation-items.ensures.value c.in-Ok.ensures.path c.in-Ok.ensures.fine l.invariant.4)
 
 pub run_row-returns-clause-path : goal.run_row-returns-clause-path
 run_row-returns-clause-path t c =

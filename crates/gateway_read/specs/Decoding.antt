@@ -1,0 +1,27 @@
+-- What decoding base64 came to, as it is told: what is no base64 is never told as want of memory.
+use Rattle.std.specs.Prelude.{◌≡◌, ℕ, List, Bool, true, false, Option, None, Some, Result, Ok, Err, Vec, is_ok}
+use Rattle.std.specs.declared.alloc.AllocError.{AllocError}
+use Rattle.std.specs.declared.alloc.Global.{Global}
+use Rattle.base64.specs.declared.decode.DecodeAllocError.{DecodeAllocError}
+use Rattle.base64.specs.declared.decode.DecodeAllocError.TheVariants as failure
+use Rattle.serde_json.specs.Data.{Data}
+use Rattle.gateway_read.specs.declared.bad.Bad.{Bad}
+use Rattle.gateway_read.specs.declared.bad.Bad.TheVariants.{BadBase64, Memory}
+use Rattle.gateway_read.specs.declared.field.Field.{Field}
+
+-- Symbols that are no base64 stand for nothing, and want of memory is told where the decoder told it.
+abbrev pub IsDecoded : Result (Vec ℕ Global) DecodeAllocError → Result (Option (Vec ℕ Global)) AllocError → Type 0
+IsDecoded (Ok v) r = r ≡ Ok (Some v)
+IsDecoded (Err (failure.DecodeError e)) r = r ≡ Ok None
+IsDecoded (Err failure.OutOfMemory) r = is_ok r ≡ false
+
+-- the value of a field whose text was decoded to this
+abbrev pub told_as : {E : Type 0} → Field → Result (Option (List ℕ)) E → Result (List ℕ) Bad
+told_as f (Ok (Some bytes)) = Ok bytes
+told_as f (Ok None) = Err (BadBase64 f)
+told_as f (Err e) = Err Memory
+
+-- a field's value is a text: no other value is decoded
+abbrev pub is_text : Option Data → Bool
+is_text (Some (Data.string s)) = true
+is_text _ = false
