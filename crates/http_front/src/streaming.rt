@@ -1,4 +1,6 @@
 //! The thread that looks after the streams that have begun.
+ghost use Rattle.std.specs.Prelude.{⊤};
+
 use crate::handing::{Handed, Handing, WOKEN};
 use crate::shared::Shared;
 use engine_lock::{Client, EngineName};
@@ -10,10 +12,10 @@ use std::alloc::{AllocError, Global};
 use std::io::{ErrorKind, Read};
 use std::net::Net;
 use std::sync::Wait;
-use std::sync::atomic::Ordering;
+use std::sync::atomic::{AtomicBool, Ordering};
 use std::time::{Duration, Instant};
 use std::{io, mem, time};
-use watch_streams::{Streams, Turn};
+use watch_streams::{Heard, Hearing, Streams, Turn};
 
 /// How many sockets are found ready at once.
 const MOST_READY: usize = 256;
@@ -69,6 +71,8 @@ pub(crate) struct Watching {
     ready: Events,
     now: Round,
     next: Round,
+    /// The streams that are looked at once a second.
+    all: Vec<u64>,
 }
 
 impl Watching {
@@ -89,6 +93,7 @@ impl Watching {
             ready: Events::with_capacity(alloc, MOST_READY)?,
             now: Round::new(alloc)?,
             next: Round::new(alloc)?,
+            all: Vec::with_capacity(alloc, ROOM)?,
         })
     }
 
@@ -110,11 +115,34 @@ impl Watching {
     }
 }
 
-/// The streams that stand, and what is shared with the workers.
+/// Hears the clients of streams at their sockets.
+#[derive(Drop)]
+struct Sockets<'s> {
+    /// Whether the server ends.
+    ended: &'s AtomicBool,
+}
+
+impl<'s> Hearing<TcpStream> for Sockets<'s> {
+    ghost Left = { λ _ _. ⊤ };
+
+    ghost Ends = { λ _. ⊤ };
+
+    fn heard(&self, _number: u64, client: &TcpStream) -> Heard {
+        heard_of(client)
+    }
+
+    fn ends(&self) -> bool {
+        self.ended.load(Ordering::SeqCst)
+    }
+}
+
+/// The streams that stand, and what is shared with the workers. Streams end by their turns, and where
+/// the sockets say that a client has left or that the server ends: `watch_streams` knows no other way.
 #[derive(Drop)]
 struct Keeper<'s, L: EngineName, G, C, R> {
     rt: &'s R,
     shared: &'s Shared<'s, L, G, C>,
+    ears: Sockets<'s>,
     watching: Watching,
     streams: Streams<L, TcpStream>,
     /// Whether a message found no memory.
@@ -137,6 +165,9 @@ pub(crate) fn keep_streams<L: EngineName, G: Gate, C, R: Wait + time::Clock>(
     let mut keeper = Keeper {
         rt,
         shared,
+        ears: Sockets {
+            ended: &shared.ended,
+        },
         watching,
         streams: Streams::new(alloc, client),
         wanting: false,
@@ -209,12 +240,14 @@ impl<'s, L: EngineName, G: Gate, C, R: Wait + time::Clock> Keeper<'s, L, G, C, R
             let Some(handed) = self.shared.handing.take(self.rt) else {
                 return;
             };
-            let number = handed.number;
-            if !self.begin(handed) {
-                self.end(number);
-            } else {
+            let (call, number) = (handed.call, handed.number);
+            if self.begin(handed) {
                 let _ = self.watching.now.wet.push(number);
                 let _ = self.watching.now.due.push(number);
+            } else {
+                let events = self.shared.events(self.rt);
+                self.streams.refuse(&events, number);
+                self.let_go(call);
             }
         }
     }
@@ -248,10 +281,18 @@ impl<'s, L: EngineName, G: Gate, C, R: Wait + time::Clock> Keeper<'s, L, G, C, R
         engine.behind(self.rt, &mut self.watching.now.due);
     }
 
-    /// Once a second each is looked at: those that take nothing end.
+    /// Once a second each is looked at of which something has not gone out: those that take nothing end.
     fn look(&mut self) {
         self.find_behind();
-        self.streams.look(&mut self.watching.now.due);
+        let _ = self.streams.numbers(&mut self.watching.all);
+        for _ in 0..MOST_AT_ONCE {
+            let Some(number) = self.watching.all.pop() else {
+                return;
+            };
+            if self.streams.ages(number) {
+                let _ = self.watching.now.due.push(number);
+            }
+        }
     }
 
     /// What clients have sent is thrown away; those that have left have their streams ended.
@@ -260,68 +301,60 @@ impl<'s, L: EngineName, G: Gate, C, R: Wait + time::Clock> Keeper<'s, L, G, C, R
             let Some(number) = self.watching.now.wet.pop() else {
                 return;
             };
-            match self.heard(number) {
+            let call = self.call_of(number);
+            let events = self.shared.events(self.rt);
+            match self.streams.hear(&events, &self.ears, number) {
                 Heard::Nothing => {}
                 Heard::More => {
                     let _ = self.watching.next.wet.push(number);
                 }
-                Heard::Left => self.close(number),
+                Heard::Left => self.let_go(call),
             }
         }
     }
 
-    /// What the client of a stream has sent.
-    fn heard(&self, number: u64) -> Heard {
-        match self.streams.get(number) {
-            Some(line) => heard_of(line.writer()),
-            None => Heard::Nothing,
-        }
-    }
-
-    /// Each stream has its turn.
+    /// Each stream has its turn, once its last chunk is to go out where the server ends.
     fn turn_due(&mut self) {
         for _ in 0..MOST_AT_ONCE {
             let Some(number) = self.watching.now.due.pop() else {
                 return;
             };
+            let call = self.call_of(number);
             let events = self.shared.events(self.rt);
+            if self.ending {
+                let _ = self.streams.close_at_end(&self.ears, number);
+            }
             match self.streams.turn(&events, number) {
                 None | Some(Turn::Quiet | Turn::Blocked) => {}
                 Some(Turn::Wanting) => self.wanting = true,
                 Some(Turn::Again) => {
                     let _ = self.watching.next.due.push(number);
                 }
-                Some(Turn::Done | Turn::Broken | Turn::Cut) => self.end(number),
+                Some(Turn::Done | Turn::Broken | Turn::Cut) => self.let_go(call),
             }
         }
     }
 
-    /// A stream and its watch are ended.
-    fn end(&mut self, number: u64) {
-        let events = self.shared.events(self.rt);
-        let call = match self.streams.get(number) {
+    /// The number of a stream's connection; 0 where no such stream stands.
+    fn call_of(&self, number: u64) -> u64 {
+        match self.streams.get(number) {
             Some(line) => line.call(),
             None => 0,
-        };
-        self.streams.end(&events, number);
-        if call > 0 {
-            self.shared.gate.after(call);
         }
     }
 
-    /// A stream ends in order, as far as its client takes it, and its watch is ended.
-    fn close(&mut self, number: u64) {
-        let events = self.shared.events(self.rt);
-        self.streams.close(number);
-        let _ = self.streams.turn(&events, number);
-        self.end(number);
+    /// The connection of this number has ended.
+    fn let_go(&self, call: u64) {
+        if call > 0 {
+            self.shared.gate.after(call);
+        }
     }
 
     /// The server ends: each stream ends in order, as far as its client takes it within two seconds.
     fn end_all(&mut self) {
         self.ending = true;
         self.take_handed();
-        self.streams.close_all(&mut self.watching.now.due);
+        let _ = self.streams.numbers(&mut self.watching.now.due);
         self.turn_due();
         for _ in 0..MOST_ROUNDS {
             if self.streams.is_empty() {
@@ -333,20 +366,12 @@ impl<'s, L: EngineName, G: Gate, C, R: Wait + time::Clock> Keeper<'s, L, G, C, R
             let Some(number) = self.streams.first() else {
                 return;
             };
-            self.end(number);
+            let call = self.call_of(number);
+            let events = self.shared.events(self.rt);
+            let _ = self.streams.end_at_end(&events, &self.ears, number);
+            self.let_go(call);
         }
     }
-}
-
-/// What a client has sent.
-#[derive(Clone, Copy, PartialEq, Eq)]
-enum Heard {
-    /// No more than was thrown away.
-    Nothing,
-    /// There may be more.
-    More,
-    /// It has ended its sending side, or the connection is broken.
-    Left,
 }
 
 /// Throws away what a client has sent, a mebibyte at most.

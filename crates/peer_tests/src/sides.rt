@@ -14,7 +14,7 @@ use std::sync::Wait;
 use std::time;
 
 /// The member's numbers.
-const ONES: Ids = Ids {
+pub(crate) const ONES: Ids = Ids {
     cluster: 1,
     member: 1,
 };

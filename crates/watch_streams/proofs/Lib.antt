@@ -1,2 +1,4 @@
 pub mod Exact
+pub mod Lives
+pub mod Standing
 pub mod Tests

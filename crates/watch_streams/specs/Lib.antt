@@ -1,4 +1,6 @@
+pub mod Ends
 pub mod Lines
+pub mod Lives
 pub mod Sets
 pub mod Streams
 pub mod Turns

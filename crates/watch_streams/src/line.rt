@@ -1,7 +1,7 @@
 //! The stream of a watch between two waits.
-ghost use Rattle.std.specs.Prelude.{◌≡◌, ◌++◌, true, IfOk, OnOk, OnErr};
+ghost use Rattle.std.specs.Prelude.{◌≡◌, ◌++◌, not, true, IfOk, OnOk, OnErr};
 ghost use Rattle.http_reply.specs.Replies.{chunk, last_chunk};
-ghost use Rattle.watch_streams.specs.Lines.{Sends, begun_at, is_out, with_unsent};
+ghost use Rattle.watch_streams.specs.Lines.{Sends, aged, begun_at, closed, is_out, is_stale, with_unsent};
 
 use http_reply::{Counted, put_chunk};
 use std::alloc::{AllocError, Global};
@@ -21,8 +21,8 @@ const LAST_CHUNK: &[u8] = b"0\r\n\r\n";
 /// The stream of a watch between two waits: the number of the watch, that of its connection, whoever
 /// writes it, what has not gone out yet, and whether the stream has ended.
 ///
-/// Contracts see the bytes that the writer is known to hold, how often it failed, and the bytes that
-/// have not gone out.
+/// Contracts see the bytes that the writer is known to hold, how often it failed, the bytes that have
+/// not gone out, and how often the line was looked at since its writer took a byte.
 #[derive(Drop)]
 pub struct Line<W: Write> {
     number: u64,
@@ -50,6 +50,7 @@ impl<W: Write> Model for Line<W> {
       failures = failures_of l.w;
       unsent = drop l.sent l.rest.items;
       ended = l.ended;
+      looks = l.looks;
     } };
 
     ghost invariant = { λ l. l.sent ≤ length l.rest.items };
@@ -89,7 +90,9 @@ impl<W: Write> Line<W> {
     }
 
     /// Whoever writes it, lent.
-    pub fn writer(&self) -> &W {
+    pub fn writer(&self) -> &W
+        ensures { W.contents result.now ≡ self.now.wrote }
+    {
         self.w.get_ref()
     }
 
@@ -135,6 +138,18 @@ impl<W: Write> Line<W> {
         Ok(())
     }
 
+    /// The stream ends, if it has not: its last chunk is to go out, behind what has not. `AllocError`
+    /// comes where no memory was found for it, and then nothing has changed.
+    pub fn close(&mut self) -> Result<(), AllocError>
+        ensures ok { OnOk result (self.new ≡ closed self.old) }
+        ensures err { OnErr result (self.new ≡ self.old) }
+    {
+        if self.has_ended() {
+            return Ok(());
+        }
+        self.end()
+    }
+
     /// Makes one write of what has not gone out, and gives how many bytes were taken. Where it fails,
     /// or takes none, nothing has changed, and the error says whether it may be made again: the writer
     /// takes nothing now, or a signal came.
@@ -175,9 +190,11 @@ impl<W: Write> Line<W> {
         }
     }
 
-    /// Takes note that it was looked at, and says whether anything has not gone out.
+    /// Takes note that it was looked at, where anything has not gone out, and says whether anything has
+    /// not.
     pub fn ages(&mut self) -> bool
-        ensures { self.new ≡ self.old }
+        ensures looks { self.new ≡ aged self.old }
+        ensures unsent { result ≡ not (is_out self.old) }
     {
         if self.is_out() {
             return false;
@@ -187,7 +204,9 @@ impl<W: Write> Line<W> {
     }
 
     /// Whether its writer took no byte for so many looks.
-    pub fn is_stale(&self, looks: u32) -> bool {
+    pub fn is_stale(&self, looks: u32) -> bool
+        ensures { result ≡ is_stale looks self.now }
+    {
         self.looks >= looks
     }
 }

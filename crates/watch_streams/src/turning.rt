@@ -1,7 +1,6 @@
 //! A turn of a stream: what has not gone out does, and then it is told what there is.
-ghost use Rattle.std.specs.Prelude.{◌≡◌, false, if◌then◌else◌};
-ghost use Rattle.watch_streams.specs.declared.turning.Turn.TheVariants as turns;
-ghost use Rattle.watch_streams.specs.Turns.{IsExact, SentIs, Steps, Turned, is_cut};
+ghost use Rattle.std.specs.Prelude.{◌≡◌, false};
+ghost use Rattle.watch_streams.specs.Turns.{IsExact, SentIs, Steps, Turned, is_cut, is_over, unsent_turn};
 
 use crate::line::Line;
 use crate::telling::{Next, tell};
@@ -35,6 +34,15 @@ pub enum Turn {
     Broken,
     /// No memory was found to let a message go out that was told.
     Cut,
+}
+
+impl Turn {
+    /// Whether the stream is over behind the turn.
+    pub fn is_over(self) -> bool
+        ensures { result ≡ is_over self }
+    {
+        matches!(self, Turn::Done | Turn::Broken | Turn::Cut)
+    }
 }
 
 /// A turn of a stream, by a client: what has not gone out does, as far as it is taken, and then it is
@@ -86,13 +94,18 @@ fn sent<W: Write>(alloc: Global, line: &mut Line<W>) -> Option<Turn>
     }
     match line.send(alloc) {
         Ok(_) => None,
-        Err(again) => Some(unsent(again && !line.is_stale(MOST_LOOKS))),
+        Err(again) => Some(unsent(again, line.is_stale(MOST_LOOKS))),
     }
 }
 
-/// What a turn comes to by a write that failed, or took nothing.
-fn unsent(again: bool) -> Turn
-    ensures { result ≡ (if again then turns.Blocked else turns.Broken) }
+/// What a turn comes to by a write that failed, or took nothing: whether it may be made again, and
+/// whether its writer took no byte for long.
+fn unsent(again: bool, is_stale: bool) -> Turn
+    ensures { result ≡ unsent_turn again is_stale }
 {
-    if again { Turn::Blocked } else { Turn::Broken }
+    if again && !is_stale {
+        Turn::Blocked
+    } else {
+        Turn::Broken
+    }
 }

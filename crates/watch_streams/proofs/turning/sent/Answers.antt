@@ -9,5 +9,5 @@ returns-then-is_out g c = SentIs.none (sym c.is_out.ensures ∙ c.if-is_out.true
 pub returns-in-Ok : goal.returns-in-Ok
 returns-in-Ok g c = SentIs.some c.in-Ok.field-0 c.in-Ok.ensures
 
-pub returns-after-again : goal.returns-after-again
-returns-after-again g c = rw c.unsent.ensures (unsent_is c.if-again.unsent c.in-Err.again c.args.line.now c.send.new.self c.in-Err.ensures)
+pub returns-in-Err : goal.returns-in-Err
+returns-in-Err g c = rw c.unsent.ensures (rw c.is_stale.ensures (unsent_is c.in-Err.again c.args.line.now c.send.new.self c.in-Err.ensures))
