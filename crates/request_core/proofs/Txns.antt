@@ -31,7 +31,9 @@ use Rattle.store_laws.proofs.ReplyLaws.{not-refused-reads}
 use Rattle.store_laws.proofs.StandsTxns.{txn_refused, txn_told, txn_stands}
 use Rattle.range_view.specs.Stored.{IsUpTo}
 use Rattle.txn_core.specs.declared.step.Step.{Step}
+use Rattle.txn_core.specs.Planning.{IsAtOnce}
 use Rattle.txn_core.specs.Steps.{steps_view}
+use Rattle.txn_core.proofs.AtOnce.{told-none}
 use Rattle.txn_core.proofs.StaticFaults.{IsRefused, faulty}
 use Rattle.txn_core.proofs.Walking.{txn_view-out}
 use Rattle.request_core.specs.declared.answer.Todo.TheVariants as todo
@@ -246,6 +248,12 @@ plan_refuses s ops (Err f) e clear (inl told) same h = by (walk_fault 0 ops) ref
 -- where memory is wanting for what the operations that run add, nothing of this comes before
 pub want_is_late : (s : Store) (ops : Ops) → fault_of_txn s ops ≡ None → IsFirst Memory (walk_fault 0 ops) (fault_of_txn s ops)
 want_is_late s ops none = inr (walk-clear ops (or-none-first (static_fault ops) _ none), tt)
+
+-- nor is anything refused before memory is asked for
+pub want_is_behind : (checked : Result (Unit {0}) Refusal) (e : Refusal) (first : Option Refusal) → OnOk checked (first ≡ None)
+    → OnOk checked (IsAtOnce e first)
+want_is_behind (Ok u) e first none = told-none e first none
+want_is_behind (Err f) e first none = tt
 
 pub txn_refuses : (s new : CoreState) (t : Txn) (e : Refusal)
     → IsFirst e (walk_fault 0 (txn_view t)) (fault_of_txn s.store (txn_view t)) → new ≡ s → Refuses s new (as_call (txn_view t)) e

@@ -37,6 +37,7 @@ use Rattle.store_laws.specs.Stores.{tracked_made, with_floor, with_watch}
 use Rattle.lease_book.specs.Book.{Book}
 use Rattle.range_view.specs.Stored.{Stored}
 use Rattle.txn_core.specs.KeyWrites.{held_refusal, put_version, IsCountedTo}
+use Rattle.txn_core.specs.Planning.{at_once}
 use Rattle.request_core.specs.Writing.{next_rev, tombstones}
 
 -- what clauses see of a core: what is kept, the first place that trimming has not looked at, and how many changing
@@ -177,6 +178,10 @@ after_delete s d = with_any s (added_by_delete s.store d)
 abbrev pub fault_of_txn : Store → Ops → Option Refusal
 fault_of_txn s ops = option_or (static_fault ops) (option_or (refusal_of_path s (path_in s ops))
     (refuse_if (not (is_empty (changes_of_path s (path_in s ops))) && is_spent s.revision) RevisionsSpent))
+
+-- what one that passes its check is refused for before more memory is asked for
+abbrev pub at_once_of : Store → Ops → Option Refusal
+at_once_of s ops = at_once (is_granted s.leases) s.compacted s.revision s.versions (end_of s.revision) ops
 
 -- the versions that a transaction adds, each as its key stood before all of them
 abbrev pub added_by_txn : Store → Ops → List Version

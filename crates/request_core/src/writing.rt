@@ -1,6 +1,6 @@
 //! What a put makes of a key, and a delete of the live keys of a range.
 ghost use Rattle.std.specs.Option.{option_or};
-ghost use Rattle.std.specs.Prelude.{◌≡◌, [], ◌∷◌, map, Some, None, option_map, IfOk};
+ghost use Rattle.std.specs.Prelude.{◌≡◌, [], ◌∷◌, map, Some, None, option_map, IfOk, vec_capacity};
 ghost use Rattle.kv_model.specs.Ranges.{refuse_if};
 ghost use Rattle.kv_model.specs.Txns as txns;
 ghost use Rattle.range_view.specs.Replies.{kv_view};
@@ -39,7 +39,8 @@ pub fn fault_of_put(
     }
 }
 
-/// The version that a put makes at a place of a key that holds this, in a list of its own.
+/// The version that a put makes at a place of a key that holds this, in a list of its own, which has
+/// the memory of one version.
 pub fn put_versions(
     alloc: Global,
     rev: Rev,
@@ -47,11 +48,12 @@ pub fn put_versions(
     held: Option<KvRef<'_>>,
 ) -> Result<Vec<Version>, AllocError>
     requires { writes.CanCount (option_map kv_view held) }
-    ensures { IfOk result
+    ensures made { IfOk result
         (λ vs. vs.items ≡ writes.put_version rev request.now (option_map kv_view held.entry) ∷ []) }
+    ensures room { IfOk result (λ vs. vec_capacity vs ≡ 1) }
 {
     let mut versions = Vec::with_capacity(alloc, 1)?;
-    versions.push(put_version(alloc, rev, request, held)?)?;
+    versions.insert(0, put_version(alloc, rev, request, held)?)?;
     Ok(versions)
 }
 

@@ -6,13 +6,14 @@ ghost use Rattle.range_view.specs.Replies.{replies_view};
 ghost use Rattle.range_view.specs.Stored.{IsUpTo};
 ghost use Rattle.std.specs.List.{AllByRecursion};
 ghost use Rattle.std.specs.Prelude.{◌≡◌, ◌++◌, ◌⊎◌, ◌+◌, ◌<◌, ◌≤◌, ◌^◌, [], length, map, None, Some};
-ghost use Rattle.std.specs.Prelude.{IfOk, IfErr, OnOk, OnErr};
+ghost use Rattle.std.specs.Prelude.{IfOk, IfErr, IsOk, OnOk, OnErr};
 ghost use Rattle.kv_model.specs.Commands as commands;
 ghost use Rattle.kv_model.specs.History as history;
 ghost use Rattle.kv_model.specs.Leases.{is_granted};
 ghost use Rattle.kv_model.specs.Txns as txns;
 ghost use Rattle.store_laws.specs.Plans.{planned, planned_refusal};
 ghost use Rattle.txn_core.specs.KeyWrites.{IsCountedTo};
+ghost use Rattle.txn_core.specs.Planning as planning;
 ghost use Rattle.txn_core.specs.Steps.{steps_view};
 
 use super::Core;
@@ -33,7 +34,8 @@ impl Core {
     ghost use Rattle.kv_model.specs.Commands.{txn_view};
     ghost use Rattle.kv_model.specs.History.{end_of};
     ghost use Rattle.request_core.specs.State.{IsTold, added_by, floor_by, fault_of_txn, added_by_txn};
-    ghost use Rattle.request_core.specs.State.{after_txn};
+    ghost use Rattle.request_core.specs.State.{after_txn, at_once_of};
+    ghost use Rattle.txn_core.specs.Planning.{IsAtOnce, TellsAtOnce};
     ghost use Rattle.request_core.specs.Answers.{CanReply, IsFirst, IsRefusal};
     ghost use Rattle.request_core.specs.Commands.{CarriesOut, Refuses};
 
@@ -58,7 +60,8 @@ impl Core {
         ensures untold { OnErr result (sink.new ≡ sink.old) }
     {
         let before = self.tables.revision();
-        match self.run(txn, sink) {
+        let checked = check(self.alloc, txn);
+        match self.run(checked, txn, sink) {
             Ok((succeeded, steps)) => Ok(Todo::Txn {
                 before,
                 succeeded,
@@ -69,12 +72,17 @@ impl Core {
     }
 
     /// Appends the versions of a transaction, and tells whether its compares hold and which
-    /// operations ran. What can fail comes first, and the sink's taking last.
+    /// operations ran. What its check came to is told as it is. What can fail comes first, and the
+    /// sink's taking last.
     fn run<'c, S: Sink>(
         &mut self,
+        checked: Result<(), Refusal>,
         txn: &'c Txn,
         sink: &mut S,
     ) -> Result<(bool, Vec<Step<'c>>), Refusal>
+        requires allowed { OnOk checked (txns.static_fault (txn_view txn.now) ≡ None) }
+        requires faulty { IfErr checked (λ e. (txns.static_fault (txn_view txn.now) ≡ Some e)
+            ⊎ ((txns.walk_fault 0 (txn_view txn.now) ≡ None) × (e ≡ Refusal.Memory))) }
         ensures made { OnOk result
             ((fault_of_txn self.old.store (txn_view txn.now) ≡ None)
             × (self.new ≡ after_txn self.old (txn_view txn.now))) }
@@ -92,9 +100,12 @@ impl Core {
         ensures refused { IfErr result
             (λ e. IsFirst e (txns.walk_fault 0 (txn_view txn.now))
             (fault_of_txn self.old.store (txn_view txn.now))) }
+        ensures passed { OnOk result (IsOk checked) }
+        ensures passes { IfErr result (λ e. IfErr checked (λ f. e ≡ f)) }
+        ensures first { OnOk checked (IfErr result
+            (λ e. IsAtOnce e (at_once_of self.old.store (txn_view txn.now)))) }
         ensures err { OnErr result ((self.new ≡ self.old) × (sink.new ≡ sink.old)) }
     {
-        let checked = check(self.alloc, txn);
         let Plan {
             succeeded,
             steps,
@@ -127,7 +138,10 @@ impl Core {
         ensures fits { self.now.store.revision ≤ last_main }
         ensures counted { AllByRecursion
             (λ v. IsCountedTo self.now.store.revision v.body) self.now.store.versions }
+        ensures passed { OnOk result (IsOk checked) }
         ensures passes { IfErr result (λ e. IfErr checked (λ f. e ≡ f)) }
+        ensures first { OnOk checked
+            (TellsAtOnce result (at_once_of self.now.store (txn_view txn.now))) }
         ensures refused { IfErr result
             (λ e. OnOk checked (IsRefusal e (fault_of_txn self.now.store (txn_view txn.now)))) }
     {
@@ -207,6 +221,9 @@ fn plan_on<'c>(
         ⊎ (planned_refusal
         (is_granted leases.now.leases) view.now.compacted view.now.revision view.now.versions
         (txns.path_of view.now.versions view.now.revision (commands.txn_view txn.now)) ≡ Some e)) }
+    ensures first { planning.TellsAtOnce result (planning.at_once
+        (is_granted leases.now.leases) view.now.compacted view.now.revision view.now.versions
+        (history.end_of view.now.revision) (commands.txn_view txn.now)) }
 {
     match plan(alloc, view, txn, leases) {
         Ok(made) => Ok(made),

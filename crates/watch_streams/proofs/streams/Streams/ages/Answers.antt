@@ -5,10 +5,10 @@ use Rattle.watch_streams.proofs.Standing.{aged_number, changes_one, numbered_set
 use Rattle.watch_streams.proofs.streams.Streams.ages.Goals as goal
 
 pub invariant_of-self : goal.invariant_of-self
-invariant_of-self g c = subst AreNumbered (sym (c.get_mut.follows.holds c.ages.new.line).0)
-    (numbered_set c.args.number c.self.inside.lines.entries c.in-Some.line.now c.ages.new.line (sym c.in-Some.ensures.value)
+invariant_of-self g c = subst AreNumbered (sym (c.get_mut.follows.holds c.ages.new.self).0)
+    (numbered_set c.args.number c.self.inside.lines.entries c.in-Some.line.now c.ages.new.self (sym c.in-Some.ensures.value)
     (ap (λ (l : LineState). l.number) c.ages.ensures.looks ∙ aged_number c.in-Some.line.now) c.self.invariant)
 
 pub returns-in-Some-clause-one : goal.returns-in-Some-clause-one
-returns-in-Some-clause-one g c = rw (sym c.self.view_is) (changes_one aged c.args.number _ _ c.in-Some.line.now c.ages.new.line
-    (sym c.in-Some.ensures.value) refl (c.get_mut.follows.holds c.ages.new.line).0 c.ages.ensures.looks)
+returns-in-Some-clause-one g c = rw (sym c.self.view_is) (changes_one aged c.args.number _ _ c.in-Some.line.now c.ages.new.self
+    (sym c.in-Some.ensures.value) refl (c.get_mut.follows.holds c.ages.new.self).0 c.ages.ensures.looks)
