@@ -11,7 +11,8 @@ use Rattle.clap.specs.Facts.{explicit_source}
 use Rattle.clap.specs.Takes.{is_given, takes}
 use Rattle.clap.specs.Walk.{Held, Names, Outcome, Row, Rule, Step, Text, Walk, after_flag, after_step, arg_by_index, bundle, done, finished, idle, long_met, arg_by_long, long_or_other, nothing_held, plain, refused, settled, short_or_plain, subcommand_met, to_positional, trailing, next, subcommand, subcommand_or_other, value, waits, walk, walk_from, walked}
 use Rattle.clap.proofs.OnLiterals.{clap_on_literals}
-use Rattle.std.specs.Prelude.{Box, MatchOption}
+use Rattle.std.specs.Prelude.{Box, MatchOption, inl, inr}
+use Rattle.std.specs.Cmp.Lexicographic.{same_text}
 use Rattle.std.specs.Box.{box_value}
 use Rattle.clap.specs.Matches.{subcommand_name_of}
 use Rattle.clap.specs.Simple.{HasMatchesOf, is_simple, subcommand_of, subcommand_rows}
@@ -22,7 +23,9 @@ use Rattle.command_line.specs.declared.filters.Filter.{Filter}
 use Rattle.command_line.specs.declared.filters.Filter.TheVariants as filter
 use Rattle.command_line.specs.declared.words.Args.{Args}
 use Rattle.command_line.specs.declared.words.Args.TheVariants as args
-use Rattle.command_line.specs.Arguments.{Asks, IsCommand, asks_serve, program, word_of}
+use Rattle.command_line.specs.declared.words.Serve.{Serve}
+use Rattle.command_line.specs.Arguments.{Asks, AsksToReplay, AsksToServe, IsCommand, asks_replay, asks_serve, program, word_of}
+use Rattle.kv_model.specs.declared.ids.Ids.{Ids}
 use Rattle.commands.specs.declared.fault.Fault.{Fault}
 use Rattle.commands.specs.declared.fault.Fault.TheVariants as fault
 
@@ -227,11 +230,45 @@ is_answered words a m same two has free =
     let (command, is) = is_command words two none in
     (command, is, is_met words command m is (subst (λ (x : App). HasMatchesOf x words m) same has))
 
--- ---- the commands that have no options
+-- ---- what any words ask for
 
--- where they fail by want of memory alone, and none asks for a server, all that is asked for fails so
+-- those of a server ask for no replay
+serve_or_replay : (words : List Text) → asks_serve words ≡ true → asks_replay words ≡ true → ⊥
+serve_or_replay [] s r = true≢false (sym r)
+serve_or_replay (name ∷ []) s r = true≢false (sym r)
+serve_or_replay (name ∷ word ∷ []) s r = true≢false (sym r)
+serve_or_replay (name ∷ word ∷ option ∷ rest) s r =
+    let bad : 114 ≡ 115 = ap (λ w. get_or w 0 0) (sym (same_text word (codes "replay") (sym r)) ∙ same_text word (codes "serve") (sym s)) in
+    omega (arith, bad)
+
+no_filter_serves : (words : List Text) (command : Filter) → IsCommand words command → asks_serve words ≡ true → ⊥
+no_filter_serves words filter.Replay is s = true≢false (sym s ∙ ap asks_serve is.1)
+no_filter_serves words filter.Check is s = true≢false (sym s ∙ ap asks_serve is.1)
+
+no_filter_replays : (words : List Text) (command : Filter) → IsCommand words command → asks_replay words ≡ true → ⊥
+no_filter_replays words filter.Replay is r = true≢false (sym r ∙ ap asks_replay is.1)
+no_filter_replays words filter.Check is r = true≢false (sym r ∙ ap asks_replay is.1)
+
+-- where all that asks for a server fails by want of memory, so does all that such words ask for
+pub serve_fails_so : (words : List Text) (f : Fault) → ((s : Serve) → AsksToServe words s → f ≡ fault.Memory)
+    → asks_serve words ≡ true → (a : Args) → Asks words a → f ≡ fault.Memory
+serve_fails_so words f memory s (args.Replay ids) (inl (is, ones)) = absurd (no_filter_serves words filter.Replay is s)
+serve_fails_so words f memory s (args.Replay ids) (inr (r, asks)) = absurd (serve_or_replay words s r)
+serve_fails_so words f memory s args.Check is = absurd (no_filter_serves words filter.Check is s)
+serve_fails_so words f memory s (args.Serve serve) asks = memory serve asks.1
+
+-- and of a replay with options
+pub replay_fails_so : (words : List Text) (f : Fault) → ((ids : Ids) → AsksToReplay words ids → f ≡ fault.Memory)
+    → asks_serve words ≡ false → asks_replay words ≡ true → (a : Args) → Asks words a → f ≡ fault.Memory
+replay_fails_so words f memory s r (args.Replay ids) (inl (is, ones)) = absurd (no_filter_replays words filter.Replay is r)
+replay_fails_so words f memory s r (args.Replay ids) (inr (same, asks)) = memory ids asks
+replay_fails_so words f memory s r args.Check is = absurd (no_filter_replays words filter.Check is r)
+replay_fails_so words f memory s r (args.Serve serve) asks = absurd (true≢false (sym asks.0 ∙ s))
+
+-- and of the commands that have no options
 pub fails_so : (words : List Text) (f : Fault) → ((command : Filter) → IsCommand words command → f ≡ fault.Memory)
-    → asks_serve words ≡ false → (a : Args) → Asks words a → f ≡ fault.Memory
-fails_so words f memory none args.Replay asks = memory filter.Replay asks
-fails_so words f memory none args.Check asks = memory filter.Check asks
-fails_so words f memory none (args.Serve s) asks = absurd (true≢false (sym asks.0 ∙ none))
+    → asks_serve words ≡ false → asks_replay words ≡ false → (a : Args) → Asks words a → f ≡ fault.Memory
+fails_so words f memory s r (args.Replay ids) (inl (is, ones)) = memory filter.Replay is
+fails_so words f memory s r (args.Replay ids) (inr (same, asks)) = absurd (true≢false (sym same ∙ r))
+fails_so words f memory s r args.Check asks = memory filter.Check asks
+fails_so words f memory s r (args.Serve serve) asks = absurd (true≢false (sym asks.0 ∙ s))

@@ -39,6 +39,7 @@ given_by_rows f rows s e g = record {
   member = subst (λ t. IsNumber t 1 s.member) (read (codes "member-id")) g.member;
   control = g.control ∙ ap is_set (first_value-rows f (codes "control") ∙ ap (first_of (codes "control")) e);
   recording = sym (first_value-rows f (codes "record") ∙ ap (first_of (codes "record")) e) ∙ g.recording;
+  from = sym (first_value-rows f (codes "from") ∙ ap (first_of (codes "from")) e) ∙ g.from;
 }
   where
     read : (name : Text) → one_text f name ≡ one_of name rows
@@ -54,6 +55,7 @@ found_by_rows f rows s e g = record {
   member = subst (λ t. IsNumber t 1 s.member) (read (codes "member-id")) g.member;
   control = g.control ∙ ap is_set (sym (first_value-rows f (codes "control") ∙ ap (first_of (codes "control")) e));
   recording = first_value-rows f (codes "record") ∙ ap (first_of (codes "record")) e ∙ g.recording;
+  from = first_value-rows f (codes "from") ∙ ap (first_of (codes "from")) e ∙ g.from;
 }
   where
     read : (name : Text) → one_of name rows ≡ one_text f name
@@ -96,7 +98,7 @@ asks_for_nothing words rest (Err e) a m same is has other = λ s asks.
 
 -- ---- words of which it made none
 
-no_kind : (ks : Kinds) (e : Error) → ks ≡ [] → HasKind ks e → kind_of e ≡ kind.OutOfMemory
+pub no_kind : (ks : Kinds) (e : Error) → ks ≡ [] → HasKind ks e → kind_of e ≡ kind.OutOfMemory
 no_kind [] e none (inl memory) = memory
 no_kind [] e none (inr other) = absurd other
 no_kind (k ∷ ks) e none has = cc
@@ -107,7 +109,7 @@ pub finds_no_memory : (words rest : List Text) (e : Error) (f : Fault) (a : App)
 finds_no_memory words rest e f a same is fails memory s asks =
     memory (no_kind (fault_of a rest) e (faults_are words rest a same is ∙ asks.taken) (fails (is_free_too a is)))
 
-abbrev has_some : Kinds → Bool
+abbrev pub has_some : Kinds → Bool
 has_some [] = false
 has_some (k ∷ ks) = true
 

@@ -6,6 +6,7 @@ use Rattle.std.proofs.lemmas.Bool.{leb-true, ltb-false}
 use Rattle.std.proofs.lemmas.Bool.Decides.{nat_tests}
 use Rattle.std.proofs.lemmas.List.{append-nil, length-append, length-map}
 use Rattle.std.proofs.lemmas.List.Elements.{All-weaker}
+use Rattle.std.proofs.lemmas.Simd.{map-map}
 use Rattle.std.proofs.lemmas.List.Sums.{AllPass-from_list_all}
 use Rattle.kv_model.specs.Keys.{same_key}
 use Rattle.kv_model.specs.Requests.{Bad, Read, body_or_empty, json_of, longest_body, members_of, named_value, no_path, not_json, object_of}
@@ -15,7 +16,7 @@ use Rattle.store_laws.proofs.HistoryLaws.{same_key-eq}
 use Rattle.recording.specs.Lines.{line_of, within_line}
 use Rattle.engine_lock.specs.Written.{HasLine}
 use Rattle.commands.specs.Script.{is, line_events}
-use Rattle.command_line.specs.ReadBack.{IsOfPath, IsRecordable, IsRecordingReadBack, as_read}
+use Rattle.command_line.specs.ReadBack.{IsOfPath, IsRecordable, IsRecordingReadBack, IsRecordingScript, as_read}
 use Rattle.command_line.proofs.ReadBack.{read_back}
 
 -- ---- the path of a request
@@ -98,3 +99,6 @@ recording_read_back l core w =
     ap line_events (w.lines ∙ sym (append-nil (concat (map line_of w.events))))
     ∙ read_back w.events [] (All-weaker HasLine IsRecordable recordable w.events w.each)
     ∙ append-nil (map (λ e. Some (as_read e)) w.events)
+
+pub recording_is_script : IsRecordingScript
+recording_is_script l core w = (map as_read w.events, recording_read_back l core w ∙ sym (map-map Some as_read w.events))

@@ -1,5 +1,5 @@
 -- What somebody is told whose words ask for nothing.
-use Rattle.std.specs.Prelude.{ℕ, ◌∷◌, ◌==◌, ◌||◌, ◌&&◌, Bool, true, not, if◌then◌else◌, List, [], Option, None, Some, codes}
+use Rattle.std.specs.Prelude.{ℕ, ◌∷◌, ◌==◌, ◌||◌, ◌&&◌, Bool, true, false, not, if◌then◌else◌, List, [], Option, None, Some, codes}
 use Rattle.std.specs.Prelude.{nat_eq, nat_lt, slice_index}
 use Rattle.std.specs.Cmp.Lexicographic.{pointwise}
 use Rattle.std.specs.List.{list_any}
@@ -29,10 +29,11 @@ is_beyond least most (Some n) = nat_lt n least || nat_lt most n
 abbrev pub is_outside : ℕ → ℕ → List ℕ → Bool
 is_outside least most text = not (slice_index text 0 == 43) && is_beyond least most (number_of text)
 
--- the word of an option, and the word behind it, which is no number of its range
-abbrev pub outside : List ℕ → List ℕ → Option Advice
-outside option text = if pointwise nat_eq option (codes "--workers") && is_outside 2 32 text then Some told.Workers
-    else (if pointwise nat_eq option (codes "--connections") && is_outside 0 9223372036854775807 text then Some told.Connections
+-- the word of an option, one of `serve` where this says so and else of `replay`, and the word behind it, which is no number
+-- of its range
+abbrev pub outside : Bool → List ℕ → List ℕ → Option Advice
+outside serves option text = if (serves && pointwise nat_eq option (codes "--workers")) && is_outside 2 32 text then Some told.Workers
+    else (if (serves && pointwise nat_eq option (codes "--connections")) && is_outside 0 9223372036854775807 text then Some told.Connections
     else (if pointwise nat_eq option (codes "--cluster-id") && is_outside 1 9223372036854775807 text then Some told.ClusterId
     else (if pointwise nat_eq option (codes "--member-id") && is_outside 1 9223372036854775807 text then Some told.MemberId
     else None)))
@@ -42,15 +43,16 @@ or_else (Some advice) _ = Some advice
 or_else None other = other
 
 -- the first option of these words, a word and those behind it, whose number is out of its range
-abbrev pub first_outside : List ℕ → List (List ℕ) → Option Advice
-first_outside option [] = None
-first_outside option (word ∷ words) = or_else (outside option word) (first_outside word words)
+abbrev pub first_outside : Bool → List ℕ → List (List ℕ) → Option Advice
+first_outside serves option [] = None
+first_outside serves option (word ∷ words) = or_else (outside serves option word) (first_outside serves word words)
 
 abbrev pub of_options : List (List ℕ) → Option Advice
-of_options words = or_else (first_outside [] words) (if has (codes "--listen") words then None else Some told.Address)
+of_options words = or_else (first_outside true [] words) (if has (codes "--listen") words then None else Some told.Address)
 
 abbrev pub of_command : List (List ℕ) → Option Advice
-of_command (word ∷ options) = if pointwise nat_eq word (codes "serve") then of_options options else None
+of_command (word ∷ options) = if pointwise nat_eq word (codes "serve") then of_options options
+    else (if pointwise nat_eq word (codes "replay") then first_outside false [] options else None)
 of_command [] = None
 
 -- by the words behind the program's name
@@ -64,7 +66,7 @@ advice_of (name ∷ words) = of_rest words
 
 -- the line that tells it
 abbrev pub line_of : Advice → List ℕ
-line_of told.Help = codes "etcd_one 0.1.0; usage: etcd_one replay < script, etcd_one check < certificate, or etcd_one serve --listen ADDR [--workers 2..32, else 8] [--connections 0..9223372036854775807, else 0, which is no end] [--cluster-id 1..9223372036854775807, else 1] [--member-id 1..9223372036854775807, else 1] [--control, by lines on standard input] [--record FILE, its events as a script]"
+line_of told.Help = codes "etcd_one 0.1.0; usage: etcd_one replay [--cluster-id N] [--member-id N] < script, etcd_one check < certificate, or etcd_one serve --listen ADDR [--workers 2..32, else 8] [--connections 0..9223372036854775807, else 0, which is no end] [--cluster-id 1..9223372036854775807, else 1] [--member-id 1..9223372036854775807, else 1] [--from FILE, a script that it goes on from] [--control, by lines on standard input] [--record FILE, its events as a script]"
 line_of told.Version = codes "etcd_one 0.1.0"
 line_of told.Workers = codes "etcd_one: --workers takes a number from 2 to 32"
 line_of told.Connections = codes "etcd_one: --connections takes a number from 0 to 9223372036854775807"

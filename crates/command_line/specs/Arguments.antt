@@ -1,5 +1,5 @@
 -- The words of a command line.
-use Rattle.std.specs.Prelude.{◌≡◌, ℕ, ◌<◌, ◌≤◌, ◌^◌, List, [], ◌∷◌, drop, Bool, true, false, nat_eq, codes}
+use Rattle.std.specs.Prelude.{◌≡◌, ◌⊎◌, ℕ, ◌<◌, ◌≤◌, ◌^◌, List, [], ◌∷◌, drop, Bool, true, false, nat_eq, codes}
 use Rattle.std.specs.Prelude.{Option, None, Some, MatchOption, option_map}
 use Rattle.std.specs.Cmp.Lexicographic.{pointwise}
 use Rattle.std.specs.List.{list_any}
@@ -11,6 +11,7 @@ use Rattle.clap.specs.Matches.{first_value, one_text}
 use Rattle.clap.specs.declared.parser.matches.Found.{Found}
 use Rattle.clap.specs.declared.builder.action.ArgAction.TheVariants.{SetTrue}
 use Rattle.clap.specs.declared.builder.value_parser.ValueParser.TheVariants as value
+use Rattle.kv_model.specs.declared.ids.Ids.{Ids}
 use Rattle.command_line.specs.declared.words.Args.{Args}
 use Rattle.command_line.specs.declared.words.Args.TheVariants as args
 use Rattle.command_line.specs.declared.words.Serve.{Serve}
@@ -68,9 +69,9 @@ address_rule = record (option_rule (codes "listen")) { required = true }
 
 -- what clap reads: the options of a server
 unfoldable pub serving : App
-serving = with_rule (with_rule (with_rule (with_rule (with_rule (with_rule (with_rule (new_app (codes "serve")) address_rule)
+serving = with_rule (with_rule (with_rule (with_rule (with_rule (with_rule (with_rule (with_rule (new_app (codes "serve")) address_rule)
     (number_rule (codes "workers"))) (number_rule (codes "connections"))) (number_rule (codes "cluster-id")))
-    (number_rule (codes "member-id"))) (switch_rule (codes "control"))) (option_rule (codes "record"))
+    (number_rule (codes "member-id"))) (switch_rule (codes "control"))) (option_rule (codes "record"))) (option_rule (codes "from"))
 
 -- what clap finds for them in the words of a command line
 abbrev pub options_in : List (List ℕ) → List Row
@@ -96,6 +97,7 @@ pub record IsGiven (written read : List ℕ → Option (List ℕ)) (s : Serve) :
   pub member : IsNumber (read (codes "member-id")) 1 s.member
   pub control : s.control ≡ is_set (written (codes "control"))
   pub recording : written (codes "record") ≡ option_map (λ path. path.now) s.recording
+  pub from : written (codes "from") ≡ option_map (λ path. path.now) s.from
 
 -- by what clap found
 abbrev pub IsFound : Found → Serve → Type 0
@@ -115,8 +117,47 @@ pub record AsksToServe (words : List (List ℕ)) (s : Serve) : Type 0 where
   pub given : IsGiven (λ name. first_of name (options_in words)) (λ name. one_of name (options_in words)) s
   pub range : IsInRange s
 
+-- ---- replay with options
+
+-- the second word is the command's, and others stand behind it
+abbrev pub asks_replay : List (List ℕ) → Bool
+asks_replay (name ∷ word ∷ option ∷ rest) = pointwise nat_eq word (codes "replay")
+asks_replay _ = false
+
+-- what clap reads: the options of a replay
+unfoldable pub replaying : App
+replaying = with_rule (with_rule (new_app (codes "replay")) (number_rule (codes "cluster-id"))) (number_rule (codes "member-id"))
+
+-- each number is what is read for its name, or 1
+pub record AreGiven (read : List ℕ → Option (List ℕ)) (ids : Ids) : Type 0 where
+  pub cluster : IsNumber (read (codes "cluster-id")) 1 ids.cluster
+  pub member : IsNumber (read (codes "member-id")) 1 ids.member
+
+-- by what clap found
+abbrev pub AreFound : Found → Ids → Type 0
+AreFound f = AreGiven (one_text f)
+
+-- the numbers are within their ranges
+pub record AreInRange (ids : Ids) : Type 0 where
+  pub cluster : (1 ≤ ids.cluster) × (ids.cluster < 2 ^ 63)
+  pub member : (1 ≤ ids.member) × (ids.member < 2 ^ 63)
+
+-- behind the word of the command stand the options, no word ends them, and clap finds no fault in them
+pub record AsksToReplay (words : List (List ℕ)) (ids : Ids) : Type 0 where
+  pub options : list_any is_end_of_options (drop 1 words) ≡ false
+  pub taken : fault_of replaying (drop 1 words) ≡ []
+  pub given : AreGiven (λ name. one_of name (matches_of replaying (drop 1 words))) ids
+  pub range : AreInRange ids
+
+-- ---- the program
+
+-- a replay is asked for, by these ids: by the word of the command alone, and then both are 1, or with options
+abbrev pub AsksForReplay : List (List ℕ) → Ids → Type 0
+AsksForReplay words ids = (IsCommand words filter.Replay × (ids ≡ record { cluster = 1; member = 1 }))
+    ⊎ ((asks_replay words ≡ true) × AsksToReplay words ids)
+
 -- the words ask for this
 abbrev pub Asks : List (List ℕ) → Args → Type 0
-Asks words args.Replay = IsCommand words filter.Replay
+Asks words (args.Replay ids) = AsksForReplay words ids
 Asks words args.Check = IsCommand words filter.Check
 Asks words (args.Serve s) = (asks_serve words ≡ true) × AsksToServe words s

@@ -3,3 +3,4 @@ pub mod Arguments
 pub mod Serving
 pub mod Controls
 pub mod ReadBack
+pub mod From

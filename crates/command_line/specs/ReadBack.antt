@@ -5,6 +5,7 @@ use Rattle.kv_model.specs.Wire.{WireEvent}
 use Rattle.request_core.specs.State.{CoreState}
 use Rattle.recording.specs.Lines.{Written, all_of, within_line, line_of}
 use Rattle.engine_lock.specs.Written.{IsWritten}
+use Rattle.commands.specs.Playing.{AreAllEvents}
 use Rattle.commands.specs.Script.{longest_line, is, event_of, line_events}
 
 -- a byte that the path of a line may have: no space, which ends the path, and no line feed, which ends the line
@@ -38,3 +39,7 @@ AreReadBack = (events : List WireEvent) (rest : List ℕ) → All IsRecordable e
 abbrev pub IsRecordingReadBack : Type 0
 IsRecordingReadBack = (l : Written) (core : CoreState) (w : IsWritten l core)
     → line_events (all_of l) ≡ map (λ e. Some (as_read e)) w.events
+
+-- so each line of it asks for an event: a server goes on from it
+abbrev pub IsRecordingScript : Type 0
+IsRecordingScript = (l : Written) (core : CoreState) → IsWritten l core → AreAllEvents (line_events (all_of l))

@@ -1,7 +1,11 @@
 -- A server: how it answers, and what it writes when it has ended.
 use Rattle.std.specs.Prelude.{◌≡◌, ⊤, ℕ, ◌-◌, ◌^◌, List, [], ◌∷◌, ◌++◌, Bool, true, false, ◌==◌, if◌then◌else◌, codes, decimal}
+use Rattle.std.specs.Prelude.{Option}
+use Rattle.kv_model.specs.declared.ids.Ids.{Ids}
+use Rattle.kv_model.specs.Wire.{WireEvent}
 use Rattle.engine_lock.specs.Fits.{IsStanding}
 use Rattle.http_front.specs.Ends.{IsOfServer}
+use Rattle.command_line.specs.From.{StopsBeginning}
 use Rattle.commands.specs.declared.fault.Fault.{Fault}
 use Rattle.commands.specs.declared.fault.Fault.TheVariants as fault
 use Rattle.command_line.specs.declared.words.Args.{Args}
@@ -25,8 +29,27 @@ closing_line revision = codes "closed at revision " ++ decimal revision ++ 10 �
 abbrev pub IsOfCore : ℕ → Type 0
 IsOfCore revision = (core : _) × IsStanding core × (revision ≡ core.store.revision)
 
+-- by which ids it answers
+abbrev pub ids_in : Serve → Ids
+ids_in s = record { cluster = s.cluster; member = s.member }
+
+abbrev pub ids_of : Args → Ids
+ids_of (args.Serve s) = ids_in s
+ids_of (args.Replay ids) = ids
+ids_of args.Check = record { cluster = 1; member = 1 }
+
 -- a server ends so before its last line: no memory was found for the engine, or `pool` failed
 abbrev pub IsOfRun : Fault → Type 0
 IsOfRun fault.Memory = ⊤
 IsOfRun (fault.Server front) = IsOfServer front
 IsOfRun _ = ⊥
+
+-- or not every line of the script that it goes on from was played
+abbrev pub StopsServing : Ids → List (Option WireEvent) → Fault → Type 0
+StopsServing ids lines fault.Memory = ⊤
+StopsServing ids lines f = StopsBeginning ids lines f
+
+-- it began, and ended by a fault of the server
+abbrev pub IsOfServerAlone : Fault → Type 0
+IsOfServerAlone (fault.Server front) = IsOfServer front
+IsOfServerAlone _ = ⊥

@@ -8,7 +8,7 @@ ghost use Rattle.command_line.specs.Advice.{of_rest, outside};
 /// What is told in one line of its own, and not in that of `Fault::Arguments`.
 #[derive(Clone, Copy, Debug, PartialEq, Eq)]
 pub enum Advice {
-    /// The commands, and the options of `serve` with their ranges.
+    /// The commands, and their options with their ranges.
     Help,
     /// The version of the program.
     Version,
@@ -31,7 +31,7 @@ impl Advice {
     {
         match self {
             Advice::Help => {
-                "etcd_one 0.1.0; usage: etcd_one replay < script, etcd_one check < certificate, or etcd_one serve --listen ADDR [--workers 2..32, else 8] [--connections 0..9223372036854775807, else 0, which is no end] [--cluster-id 1..9223372036854775807, else 1] [--member-id 1..9223372036854775807, else 1] [--control, by lines on standard input] [--record FILE, its events as a script]"
+                "etcd_one 0.1.0; usage: etcd_one replay [--cluster-id N] [--member-id N] < script, etcd_one check < certificate, or etcd_one serve --listen ADDR [--workers 2..32, else 8] [--connections 0..9223372036854775807, else 0, which is no end] [--cluster-id 1..9223372036854775807, else 1] [--member-id 1..9223372036854775807, else 1] [--from FILE, a script that it goes on from] [--control, by lines on standard input] [--record FILE, its events as a script]"
             }
             Advice::Version => "etcd_one 0.1.0",
             Advice::Workers => "etcd_one: --workers takes a number from 2 to 32",
@@ -50,9 +50,9 @@ impl Advice {
 }
 
 /// What to tell of words that `arguments` has refused as bad, the program's name first: that help or
-/// the version was asked for, wherever among them; else, of `serve`, the first option whose next
-/// word is no number of its range, or that there is no `--listen`. `None` of any other words, of
-/// which the fault's own line tells.
+/// the version was asked for, wherever among them; else, of `serve` and `replay`, the first option
+/// whose next word is no number of its range, or, of `serve`, that there is no `--listen`. `None` of
+/// any other words, of which the fault's own line tells.
 ///
 /// An option and its number in one word, as `--workers=1`, and a number behind a plus, which clap
 /// takes, are not looked at.
@@ -115,6 +115,8 @@ fn of_command(words: &[String]) -> Option<Advice>
         Some((word, options)) => {
             if word.as_str() == "serve" {
                 of_options(options)
+            } else if word.as_str() == "replay" {
+                first_outside(false, "", options)
             } else {
                 None
             }
@@ -126,7 +128,7 @@ fn of_command(words: &[String]) -> Option<Advice>
 fn of_options(words: &[String]) -> Option<Advice>
     ensures { result ≡ of_options (map string_bytes words.now) }
 {
-    match first_outside("", words) {
+    match first_outside(true, "", words) {
         Some(told) => Some(told),
         None => {
             if has("--listen", words) {
@@ -138,26 +140,30 @@ fn of_options(words: &[String]) -> Option<Advice>
     }
 }
 
-/// The first option whose next word is no number of its range, where the first of all is this one.
-fn first_outside(option: &str, words: &[String]) -> Option<Advice>
-    ensures { result ≡ first_outside option.now (map string_bytes words.now) }
+/// The first option whose next word is no number of its range, where the first of all is this one;
+/// those are options of `serve` where `serves` says so, and else of `replay`.
+fn first_outside(serves: bool, option: &str, words: &[String]) -> Option<Advice>
+    ensures { result ≡ first_outside serves option.now (map string_bytes words.now) }
 {
     match words.split_first() {
-        Some((word, rest)) => match outside(option, word.as_str()) {
+        Some((word, rest)) => match outside(serves, option, word.as_str()) {
             Some(told) => Some(told),
-            None => first_outside(word.as_str(), rest),
+            None => first_outside(serves, word.as_str(), rest),
         },
         None => None,
     }
 }
 
 /// What is told of an option and the word behind it.
-fn outside(option: &str, text: &str) -> Option<Advice>
-    ensures { result ≡ outside option.now text.now }
+fn outside(serves: bool, option: &str, text: &str) -> Option<Advice>
+    ensures { result ≡ outside serves option.now text.now }
 {
-    if option == "--workers" && is_outside(text, 2, 32) {
+    if serves && option == "--workers" && is_outside(text, 2, 32) {
         Some(Advice::Workers)
-    } else if option == "--connections" && is_outside(text, 0, 9_223_372_036_854_775_807) {
+    } else if serves
+        && option == "--connections"
+        && is_outside(text, 0, 9_223_372_036_854_775_807)
+    {
         Some(Advice::Connections)
     } else if option == "--cluster-id" && is_outside(text, 1, 9_223_372_036_854_775_807) {
         Some(Advice::ClusterId)

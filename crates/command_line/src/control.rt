@@ -1,5 +1,5 @@
 //! `serve --control`: the store over HTTP, whose time, expiry and trimming somebody else decides.
-ghost use Rattle.std.specs.Prelude.{◌≡◌, false, true, Err, IfOk, OnOk, ◌⊎◌};
+ghost use Rattle.std.specs.Prelude.{◌≡◌, false, true, is_ok, Err, IfOk, OnOk, ◌⊎◌};
 ghost use Rattle.std.specs.Io.KnownBytes.{Appends};
 ghost use Rattle.kv_model.specs.Follows as follows;
 ghost use Rattle.kv_model.specs.Wire as wire;
@@ -8,27 +8,30 @@ ghost use Rattle.commands.specs.Controlling.{made_view};
 ghost use Rattle.engine_lock.specs.Orders.{Makes};
 ghost use Rattle.engine_lock.specs.Fits.{IsStanding};
 ghost use Rattle.command_line.specs.Controls.{IsMade};
-ghost use Rattle.command_line.specs.Serving.{IsOfCore, asks_to_serve, closing_line};
+ghost use Rattle.command_line.specs.From.{IsBegun};
+ghost use Rattle.command_line.specs.Serving.{IsOfCore, asks_to_serve, closing_line, ids_in, ids_of};
+ghost use Rattle.commands.specs.Script.{line_events};
 
-use crate::serving::{clients_of, connections_of, ended, engine_of, write_closing};
+use crate::from::{Start, Starts, begin};
+use crate::serving::{clients_of, ended, engine_of, limits_of, write_closing};
 use crate::words::{Args, Serve};
 use commands::{Controlling, Fault, Order, control};
 use engine_lock::{Client, Engine, EngineName, Opening};
-use http_front::{Directing, Gate, Limits, Recorded, pool_directed};
+use http_front::{Directing, Gate, Recorded, pool_directed};
 use json_gateway::WireOutcome;
 use json_gateway::wire::why_unexpired;
 use std::alloc::{AllocError, Global};
 use std::io::{BufRead, Write};
 use std::marker::Brand;
-use std::net::{Net, TcpListener};
+use std::net::Net;
 use std::sync::Wait;
 use std::thread::Threads;
 use std::time;
 
 /// Does what lines ask of an engine, for one of its clients.
 #[derive(Drop)]
-struct Orders<'e, L: EngineName, G, R> {
-    events: Recorded<'e, L, G, R>,
+pub(crate) struct Orders<'e, L: EngineName, G, R> {
+    pub(crate) events: Recorded<'e, L, G, R>,
 }
 
 impl<'e, L: EngineName, G: Gate, R: Wait> Controlling<Client<L>> for Orders<'e, L, G, R> {
@@ -104,21 +107,22 @@ where
     }
 }
 
-/// Serves the connections that come in at a listener, as [`serve_by`](crate::serve_by) does, but for
+/// Goes on from a script and serves connections, as [`serve_by`](crate::serve_by) does, but for
 /// time, expiry and trimming, which lines of a reader decide: each of them is answered, as soon as it
-/// was read, by [`control`]. The moment of each request is what `AT` handed in last, and 0 before the
-/// first. At the reader's end the server ends: no further connection is let in, each worker ends after
-/// the request that it is in, a watch too, and the line `closed at revision` and the revision of
-/// the store is written behind the replies.
+/// was read, by [`control`]. The moment of each request is what `AT` handed in last, in the script or
+/// here, and 0 before the first. At the reader's end the server ends: no further connection is let
+/// in, each worker ends after the request that it is in, a watch too, and the line `closed at
+/// revision` and the revision of the store is written behind the replies.
 ///
 /// Fails with `Fault::Arguments` where the arguments do not ask to serve, with `Fault::Memory` where
-/// memory is wanting for the engine, with `Fault::Server` as `http_front::pool_directed` fails, and as
-/// [`control`] does, when the server has ended; and with `Fault::Write` where the last line could
-/// not be written; then a front of it was.
-pub fn serve_controlled<G: Gate + Sync, R, In: BufRead, W: Write>(
+/// memory is wanting for the engine, with `Fault::NoEvent` and `Fault::Unplayed` where a line of the
+/// script is not played, and then no connection was let in; with `Fault::Server` as
+/// `http_front::pool_directed` fails, and as [`control`] does, when the server has ended; and with
+/// `Fault::Write` where the last line could not be written; then a front of it was.
+pub fn serve_controlled<T: Starts, G: Gate + Sync, R, In: BufRead, W: Write>(
     rt: &R,
     alloc: Global,
-    listener: &TcpListener,
+    start: Start<'_, T>,
     args: &Args<'_>,
     gate: &G,
     r: &mut In,
@@ -128,6 +132,7 @@ where
     R: Wait + Threads + time::Clock + Net + Sync,
     ensures ok { OnOk result ((between : W) × ((core : _) × IsStanding core × Appends
         (W.contents between) (W.contents w.new) (closing_line core.store.revision))) }
+    ensures begins { OnOk result (IsBegun (ids_of args.now) (line_events start.entry.script.items)) }
     ensures unasked { asks_to_serve args.now ≡ false → (result ≡ Err Fault.Arguments) × (w.new ≡ w.old) }
 {
     let Args::Serve(serve) = args else {
@@ -141,7 +146,7 @@ where
         w,
         told: Ok(()),
     };
-    let ended = run_controlled(rt, alloc, listener, serve, &mut lines);
+    let ended = run_controlled(rt, alloc, start, serve, &mut lines);
     let ByLines { told, .. } = lines;
     match both(ended, told) {
         Ok(revision) => close(w, revision),
@@ -162,20 +167,21 @@ fn close<W: Write>(w: &mut W, revision: u64) -> Result<(), Fault>
 }
 
 /// Runs a server, and gives the revision of its core when it has ended.
-fn run_controlled<G: Gate + Sync, R, In: BufRead, W: Write>(
+fn run_controlled<T: Starts, G: Gate + Sync, R, In: BufRead, W: Write>(
     rt: &R,
     alloc: Global,
-    listener: &TcpListener,
+    start: Start<'_, T>,
     serve: &Serve<'_>,
     lines: &mut ByLines<'_, '_, '_, G, R, In, W>,
 ) -> Result<u64, Fault>
 where
     R: Wait + Threads + time::Clock + Net + Sync,
-    ensures { IfOk result IsOfCore }
+    ensures revision { IfOk result IsOfCore }
+    ensures begins { OnOk result (IsBegun (ids_in serve.now) (line_events start.entry.script.items)) }
 {
     match Opening::for_clients(alloc, rt, clients_of(serve)) {
-        Ok(opening) => controlled_revision::<Brand, G, R, In, W>(
-            rt, alloc, opening, listener, serve, lines,
+        Ok(opening) => controlled_revision::<Brand, T, G, R, In, W>(
+            rt, alloc, opening, start, serve, lines,
         ),
         Err(_) => Err(Fault::Memory),
     }
@@ -184,7 +190,8 @@ where
 /// The revision that a server ended at, where its lines ended in order, too.
 fn both(ended: Result<u64, Fault>, told: Result<(), Fault>) -> Result<u64, Fault>
     requires { IfOk ended IsOfCore }
-    ensures { IfOk result IsOfCore }
+    ensures revision { IfOk result IsOfCore }
+    ensures ended { OnOk result (is_ok ended ≡ true) }
 {
     match (ended, told) {
         (Ok(revision), Ok(())) => Ok(revision),
@@ -193,11 +200,18 @@ fn both(ended: Result<u64, Fault>, told: Result<(), Fault>) -> Result<u64, Fault
     }
 }
 
-fn controlled_revision<L: EngineName + Send + Sync, G: Gate + Sync, R, In: BufRead, W: Write>(
+fn controlled_revision<
+    L: EngineName + Send + Sync,
+    T: Starts,
+    G: Gate + Sync,
+    R,
+    In: BufRead,
+    W: Write,
+>(
     rt: &R,
     alloc: Global,
     opening: Opening,
-    listener: &TcpListener,
+    start: Start<'_, T>,
     serve: &Serve<'_>,
     lines: &mut ByLines<'_, '_, '_, G, R, In, W>,
 ) -> Result<u64, Fault>
@@ -206,13 +220,22 @@ where
     requires name { opening.name ≡ L.Ledger.name }
     requires parts { opening.parts ≡ L.Ledger.parts }
     requires book { opening.book ≡ L.book }
-    ensures { IfOk result IsOfCore }
+    ensures revision { IfOk result IsOfCore }
+    ensures begins { OnOk result (IsBegun (ids_in serve.now) (line_events start.entry.script.items)) }
 {
-    let engine = engine_of::<L>(alloc, opening, serve, lines.gate.is_recorded());
-    let limits = Limits {
-        workers: serve.workers,
-        connections: connections_of(serve),
-    };
     let gate = lines.gate;
-    ended(pool_directed(rt, alloc, engine, gate, lines, listener, limits))
+    let engine = engine_of::<L>(alloc, opening, serve, gate.is_recorded());
+    let Start {
+        listener,
+        script,
+        hears,
+    } = start;
+    match begin(rt, alloc, engine, gate, script) {
+        Ok(begun) => {
+            hears.starts(listener);
+            let limits = limits_of(serve);
+            ended(pool_directed(rt, alloc, begun, gate, lines, listener, limits))
+        }
+        Err(fault) => Err(fault),
+    }
 }

@@ -1,5 +1,6 @@
 //! Laws of a recording, each the contract of a function that does nothing.
 ghost use Rattle.command_line.specs.ReadBack.{IsEachReadBack, AreReadBack, IsRecordingReadBack};
+ghost use Rattle.command_line.specs.ReadBack.{IsRecordingScript};
 
 /// The line of each event is read as that event.
 pub fn event_read_back()
@@ -16,4 +17,9 @@ pub fn text_read_back()
 /// that led to its core, in order: `IsWritten` of `engine_lock` says which these are.
 pub fn recording_read_back()
     ensures { IsRecordingReadBack }
+{}
+
+/// So each line of it asks for an event: a server goes on from what another one has written down.
+pub fn recording_is_script()
+    ensures { IsRecordingScript }
 {}

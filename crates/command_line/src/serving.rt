@@ -4,15 +4,18 @@ ghost use Rattle.std.specs.Prelude.{MatchResult};
 ghost use Rattle.std.specs.Time.{instant_nanos};
 ghost use Rattle.std.specs.Io.KnownBytes.{Appends};
 ghost use Rattle.commands.specs.Faults.{is_write};
-ghost use Rattle.command_line.specs.Serving.{IsOfCore, IsOfRun, asks_to_serve, closing_line};
-ghost use Rattle.command_line.specs.Serving.{connections_of};
+ghost use Rattle.command_line.specs.From.{IsBegun};
+ghost use Rattle.command_line.specs.Serving.{IsOfCore, IsOfRun, IsOfServerAlone, StopsServing, asks_to_serve};
+ghost use Rattle.command_line.specs.Serving.{closing_line, connections_of, ids_in, ids_of};
+ghost use Rattle.commands.specs.Script.{line_events};
 ghost use Rattle.commands.specs.Writes.{AppendsFront, Writes};
 ghost use Rattle.engine_lock.specs.Fits.{IsStanding};
 
+use crate::from::{Start, Starts, Unheard, begin};
 use crate::words::{Args, Serve};
 use commands::{Fault, Front, write_number};
 use engine_lock::{Engine, EngineName, Opening};
-use http_front::{Clock, Gate, MOST_CONNECTIONS, OpenGate, pool};
+use http_front::{Begun, Clock, Gate, Limits, MOST_CONNECTIONS, OpenGate, pool_begun};
 use json_gateway::{Core, Ids};
 use std::alloc::Global;
 use std::io::Write;
@@ -23,20 +26,29 @@ use std::thread::Threads;
 use std::time::Instant;
 use std::{io, time};
 
-/// The milliseconds since a server's start.
+/// The milliseconds since a server's start, from the moment on that its store was at.
 #[derive(Drop)]
 struct SinceStart<'x, R: time::Clock> {
     rt: &'x R,
+    /// Where the store's clock was at the start: that of the script that the server goes on from, or 0.
+    from: u64,
     start: Option<Instant>,
 }
 
 impl<'x, R: time::Clock> Clock for SinceStart<'x, R> {
     fn now(&self) -> u64 {
         match (Instant::now(self.rt), self.start) {
-            (Ok(now), Some(start)) => millis_between(start, now),
-            _ => 0,
+            (Ok(now), Some(start)) => moment_after(self.from, millis_between(start, now)),
+            _ => self.from,
         }
     }
+}
+
+/// The moment so many milliseconds after another.
+fn moment_after(moment: u64, millis: u64) -> u64
+    ensures { result ≡ min (moment + millis) (2 ^ 64 - 1) }
+{
+    moment.saturating_add(millis)
 }
 
 /// The milliseconds from a moment to another; 0 where that is not later.
@@ -47,7 +59,7 @@ fn millis_between(start: Instant, now: Instant) -> u64
 }
 
 /// Serves the connections that come in at a listener, as the arguments ask, and writes the line
-/// `closed at revision` and the revision of the store when it has ended.
+/// `closed at revision` and the revision of the store when it has ended. It begins with an empty store.
 ///
 /// The moments by which leases end are milliseconds since its start. Nothing is written before it
 /// has ended.
@@ -72,15 +84,26 @@ pub fn serve_on<R: Wait + Threads + time::Clock + Net + Sync, W: Write>(
         → is_write fault ≡ false → IsOfRun fault) }
     ensures unasked { asks_to_serve args.now ≡ false → result ≡ Err Fault.Arguments }
 {
-    serve_by(rt, alloc, listener, args, &OpenGate, w)
+    let start = Start::empty(alloc, listener, &Unheard);
+    serve_by(rt, alloc, start, args, &OpenGate, w)
 }
 
-/// The same, by a gate: where that says so, the events of the server are written down. Fails as
-/// [`serve_on`] does.
-pub fn serve_by<G, R, W: Write>(
+/// The same, by a gate, of a server that goes on from a script. Where the gate says so, the events of
+/// the server are written down.
+///
+/// First the script is played, line by line, each line's event made on the store as that of a running
+/// server is: so the store begins as the one that the script leads to, with its watches, its leases
+/// and its clock, and what is written down begins with those lines. Then who hears that it starts is
+/// told, and connections are let in. The moments by which leases end are milliseconds since then, from
+/// where the script's clock was. Nothing is written before the server has ended.
+///
+/// Fails as [`serve_on`] does, and with `Fault::NoEvent` where a line of the script asks for no event
+/// and `Fault::Unplayed` where its event finds no memory, both with the line's number, counted from 1;
+/// then no connection was let in.
+pub fn serve_by<T: Starts, G, R, W: Write>(
     rt: &R,
     alloc: Global,
-    listener: &TcpListener,
+    start: Start<'_, T>,
     args: &Args<'_>,
     gate: &G,
     w: &mut W,
@@ -93,14 +116,15 @@ where
     ensures unwritten { IfErr result (λ fault. is_write fault ≡ false → w.new ≡ w.old) }
     ensures cut { IfErr result (λ fault. is_write fault ≡ true → (core : _) × IsStanding core
         × AppendsFront (W.contents w.old) (W.contents w.new) (closing_line core.store.revision)) }
-    ensures fault { IfErr result (λ fault. asks_to_serve args.now ≡ true
-        → is_write fault ≡ false → IsOfRun fault) }
+    ensures begins { OnOk result (IsBegun (ids_of args.now) (line_events start.entry.script.items)) }
+    ensures fault { IfErr result (λ fault. asks_to_serve args.now ≡ true → is_write fault ≡ false
+        → StopsServing (ids_of args.now) (line_events start.entry.script.items) fault) }
     ensures unasked { asks_to_serve args.now ≡ false → result ≡ Err Fault.Arguments }
 {
     let Args::Serve(serve) = args else {
         return Err(Fault::Arguments);
     };
-    tell_end(w, run_server(rt, alloc, listener, serve, gate))
+    tell_end(w, run_server(rt, alloc, start, serve, gate))
 }
 
 /// Writes the last line of a server that has ended at a revision, or gives why it did not end so.
@@ -140,19 +164,20 @@ fn write_line<W: Write>(w: &mut W, revision: u64) -> io::Result<()>
 }
 
 /// Runs a server, and gives the revision of its core when it has ended.
-fn run_server<G: Gate + Sync, R: Wait + Threads + time::Clock + Net + Sync>(
+fn run_server<T: Starts, G: Gate + Sync, R: Wait + Threads + time::Clock + Net + Sync>(
     rt: &R,
     alloc: Global,
-    listener: &TcpListener,
+    start: Start<'_, T>,
     serve: &Serve<'_>,
     gate: &G,
 ) -> Result<u64, Fault>
     ensures revision { IfOk result IsOfCore }
+    ensures begins { OnOk result (IsBegun (ids_in serve.now) (line_events start.entry.script.items)) }
     ensures fault { IfErr result (λ fault. is_write fault ≡ false) }
-    ensures kind { IfErr result IsOfRun }
+    ensures kind { IfErr result (StopsServing (ids_in serve.now) (line_events start.entry.script.items)) }
 {
     match Opening::for_clients(alloc, rt, clients_of(serve)) {
-        Ok(opening) => closed_revision::<Brand, G, R>(rt, alloc, opening, listener, serve, gate),
+        Ok(opening) => closed_revision::<Brand, T, G, R>(rt, alloc, opening, start, serve, gate),
         Err(_) => Err(Fault::Memory),
     }
 }
@@ -165,11 +190,11 @@ pub(crate) fn clients_of(serve: &Serve<'_>) -> u64
     serve.workers.saturating_add(2)
 }
 
-fn closed_revision<L: EngineName + Send + Sync, G: Gate + Sync, R>(
+fn closed_revision<L: EngineName + Send + Sync, T: Starts, G: Gate + Sync, R>(
     rt: &R,
     alloc: Global,
     opening: Opening,
-    listener: &TcpListener,
+    start: Start<'_, T>,
     serve: &Serve<'_>,
     gate: &G,
 ) -> Result<u64, Fault>
@@ -179,11 +204,23 @@ where
     requires parts { opening.parts ≡ L.Ledger.parts }
     requires book { opening.book ≡ L.book }
     ensures revision { IfOk result IsOfCore }
+    ensures begins { OnOk result (IsBegun (ids_in serve.now) (line_events start.entry.script.items)) }
     ensures fault { IfErr result (λ fault. is_write fault ≡ false) }
-    ensures kind { IfErr result IsOfRun }
+    ensures kind { IfErr result (StopsServing (ids_in serve.now) (line_events start.entry.script.items)) }
 {
     let engine = engine_of::<L>(alloc, opening, serve, gate.is_recorded());
-    run_pool(rt, alloc, engine, listener, serve, gate)
+    let Start {
+        listener,
+        script,
+        hears,
+    } = start;
+    match begin(rt, alloc, engine, gate, script) {
+        Ok(begun) => {
+            hears.starts(listener);
+            run_pool(rt, alloc, begun, listener, serve, gate)
+        }
+        Err(fault) => Err(fault),
+    }
 }
 
 /// An engine that answers by the ids of a server, and writes its events down where `is_recorded`
@@ -197,8 +234,7 @@ pub(crate) fn engine_of<L: EngineName>(
     requires name { opening.name ≡ L.Ledger.name }
     requires parts { opening.parts ≡ L.Ledger.parts }
     requires book { opening.book ≡ L.book }
-    ensures cluster { result.cluster ≡ serve.now.cluster }
-    ensures member { result.member ≡ serve.now.member }
+    ensures ids { result ≡ ids_in serve.now }
 {
     let ids = ids_of(serve);
     if is_recorded {
@@ -210,8 +246,7 @@ pub(crate) fn engine_of<L: EngineName>(
 
 /// The cluster and the member that answer.
 fn ids_of(serve: &Serve<'_>) -> Ids
-    ensures cluster { result.cluster ≡ serve.now.cluster }
-    ensures member { result.member ≡ serve.now.member }
+    ensures { result ≡ ids_in serve.now }
 {
     Ids {
         cluster: serve.cluster,
@@ -219,8 +254,19 @@ fn ids_of(serve: &Serve<'_>) -> Ids
     }
 }
 
+/// How much a server serves.
+pub(crate) fn limits_of(serve: &Serve<'_>) -> Limits
+    ensures workers { result.workers ≡ serve.now.workers }
+    ensures connections { result.connections ≡ connections_of serve.now }
+{
+    Limits {
+        workers: serve.workers,
+        connections: connections_of(serve),
+    }
+}
+
 /// After how many connections a server ends.
-pub(crate) fn connections_of(serve: &Serve<'_>) -> u64
+fn connections_of(serve: &Serve<'_>) -> u64
     ensures { result ≡ connections_of serve.now }
 {
     match serve.connections {
@@ -229,39 +275,28 @@ pub(crate) fn connections_of(serve: &Serve<'_>) -> u64
     }
 }
 
-/// Runs a server over an engine that answers by its ids.
+/// Runs a server over an engine that has begun, whose clock goes on from where the engine's is.
 fn run_pool<L: EngineName + Send + Sync, G: Gate + Sync, R>(
     rt: &R,
     alloc: Global,
-    engine: Engine<L>,
+    begun: Begun<L>,
     listener: &TcpListener,
     serve: &Serve<'_>,
     gate: &G,
 ) -> Result<u64, Fault>
 where
     R: Wait + Threads + time::Clock + Net + Sync,
-    requires cluster { engine.cluster ≡ serve.now.cluster }
-    requires member { engine.member ≡ serve.now.member }
+    requires { begun.engine ≡ ids_in serve.now }
     ensures revision { IfOk result IsOfCore }
-    ensures fault { IfErr result (λ fault. is_write fault ≡ false) }
-    ensures kind { IfErr result IsOfRun }
+    ensures fault { IfErr result IsOfServerAlone }
 {
     let clock = SinceStart {
         rt,
+        from: begun.engine.moment(rt, 0),
         start: Instant::now(rt).ok(),
     };
-    let workers = serve.workers;
-    let connections = connections_of(serve);
-    ended(pool(
-        rt,
-        alloc,
-        engine,
-        gate,
-        &clock,
-        listener,
-        workers,
-        connections,
-    ))
+    let limits = limits_of(serve);
+    ended(pool_begun(rt, alloc, begun, gate, &clock, listener, limits))
 }
 
 /// The revision of the core that a server gave back, or why it gave none.

@@ -5,21 +5,30 @@ ghost use Rattle.std.specs.Prelude.{MatchOption, option_map};
 ghost use Rattle.std.specs.List.{list_any};
 ghost use Rattle.clap.specs.Words.{app_of, found_of, kind_of, one_text, rule_of};
 ghost use Rattle.command_line.specs.Arguments.{Asks, AsksToServe, IsCommand, IsFound, IsInRange};
-ghost use Rattle.command_line.specs.Arguments.{IsNoCommand, IsNumber, asks_serve, is_end_of_options};
+ghost use Rattle.command_line.specs.Arguments.{IsNoCommand, IsNumber, asks_replay, asks_serve};
+ghost use Rattle.command_line.specs.Arguments.{is_end_of_options};
 ghost use Rattle.command_line.specs.Arguments.{address_rule, is_set, number_rule, option_rule, serving, switch_rule};
 ghost use Rattle.commands.specs.Faults.{is_of_words};
 
 use crate::filters::{Filter, filter_of};
+use crate::replaying::{is_replay, replay_of};
 use clap::error::ErrorKind;
 use clap::{Arg, ArgAction, ArgMatches, Command, Error};
 use commands::Fault;
+use json_gateway::Ids;
 use std::alloc::{AllocError, Global};
+
+/// The cluster and the member that answer where no option says which.
+pub(crate) const ONES: Ids = Ids {
+    cluster: 1,
+    member: 1,
+};
 
 /// What the program was asked to do.
 #[derive(Clone, Copy, Debug, PartialEq, Eq)]
 pub enum Args<'a> {
-    /// `replay`: answer the script on standard input.
-    Replay,
+    /// `replay`: answer the script on standard input, by these ids.
+    Replay(Ids),
     /// `check`: judge the certificate on standard input.
     Check,
     /// `serve`: answer HTTP.
@@ -40,28 +49,32 @@ pub struct Serve<'a> {
     pub member: u64,
     /// Whether it is controlled by lines on standard input, and ends at their end.
     pub control: bool,
+    /// The path of the script that it goes on from; none, where it begins with an empty store.
+    pub from: Option<&'a str>,
     /// The path of the file into which its events are put, as a script; none, where there is none.
     pub recording: Option<&'a str>,
 }
 
 /// The greatest number of an argument.
-const MOST: u64 = 9_223_372_036_854_775_807;
+pub(crate) const MOST: u64 = 9_223_372_036_854_775_807;
 
-/// Reads the words of a command line, the program's name first. The commands are `replay` and
-/// `check`, with nothing after them, and `serve` with its options, each once, in any order:
-/// `--listen` and an address, which is required; `--workers` and 2 to 32, which is 8 otherwise;
-/// `--connections` and 0 to 2^63 - 1, which is 0 otherwise; `--cluster-id` and `--member-id` and 1
-/// to 2^63 - 1, which are 1 otherwise; `--control` alone; and `--record` and the path of a file.
+/// Reads the words of a command line, the program's name first. The commands are `check`, with
+/// nothing after it, and `replay` and `serve` with their options, each once, in any order. Of both:
+/// `--cluster-id` and `--member-id` and 1 to 2^63 - 1, which are 1 otherwise. Of `serve`: `--listen`
+/// and an address, which is required; `--workers` and 2 to 32, which is 8 otherwise; `--connections`
+/// and 0 to 2^63 - 1, which is 0 otherwise; `--from` and the path of a file; `--control` alone; and
+/// `--record` and the path of a file.
 ///
-/// Fails with `Fault::Arguments` for any other words; where the command is not `serve`, whether or
-/// not there is memory. Fails with `Fault::Memory` where memory is wanting to read them; nothing
+/// Fails with `Fault::Arguments` for any other words; where the command is not `serve`, and not
+/// `replay` with words behind it, whether or not there is memory. Fails with `Fault::Memory` where memory is wanting to read them; nothing
 /// else refuses words that ask for something.
 pub fn arguments<'a>(alloc: Global, words: &'a [String]) -> Result<Args<'a>, Fault>
     ensures ok { IfOk result (Asks (map string_bytes words.now)) }
     ensures memory { IfErr result (λ fault. (args : Args)
         → Asks (map string_bytes words.now) args → fault ≡ Fault.Memory) }
     ensures other { IfErr result (λ fault. IsNoCommand (map string_bytes words.now)
-        → asks_serve (map string_bytes words.now) ≡ false → fault ≡ Fault.Arguments) }
+        → asks_serve (map string_bytes words.now) ≡ false
+        → asks_replay (map string_bytes words.now) ≡ false → fault ≡ Fault.Arguments) }
     ensures fault { IfErr result (λ fault. is_of_words fault ≡ true) }
 {
     if is_serve(words) {
@@ -70,8 +83,14 @@ pub fn arguments<'a>(alloc: Global, words: &'a [String]) -> Result<Args<'a>, Fau
             Err(fault) => Err(fault),
         };
     }
+    if is_replay(words) {
+        return match replay_of(alloc, words) {
+            Ok(ids) => Ok(Args::Replay(ids)),
+            Err(fault) => Err(fault),
+        };
+    }
     match filter_of(alloc, words) {
-        Ok(Filter::Replay) => Ok(Args::Replay),
+        Ok(Filter::Replay) => Ok(Args::Replay(ONES)),
         Ok(Filter::Check) => Ok(Args::Check),
         Err(fault) => Err(fault),
     }
@@ -111,7 +130,7 @@ fn serve_of<'a>(alloc: Global, words: &'a [String]) -> Result<Serve<'a>, Fault>
 }
 
 /// Whether some word is `--`.
-fn ends_options(words: &[String]) -> bool
+pub(crate) fn ends_options(words: &[String]) -> bool
     ensures { result ≡ list_any (λ word. is_end_of_options (string_bytes word)) words.now }
 {
     words.iter().any(|word| is_end_of_options(word.as_str()))
@@ -134,7 +153,8 @@ fn serve_command<'a>(alloc: Global) -> Result<Command<'a>, AllocError>
         .arg(number(alloc, "cluster-id"))?
         .arg(number(alloc, "member-id"))?
         .arg(switch(alloc, "control"))?
-        .arg(text(alloc, "record"))
+        .arg(text(alloc, "record"))?
+        .arg(text(alloc, "from"))
 }
 
 /// The option that has to be given: where to listen.
@@ -154,7 +174,7 @@ fn text<'a>(alloc: Global, name: &'a str) -> Arg<'a>
 }
 
 /// An option that has a number.
-fn number<'a>(alloc: Global, name: &'a str) -> Arg<'a>
+pub(crate) fn number<'a>(alloc: Global, name: &'a str) -> Arg<'a>
     ensures rule { rule_of result ≡ number_rule name.entry.now }
     ensures local { result.global ≡ false }
 {
@@ -200,6 +220,7 @@ fn asked<'a>(matches: &ArgMatches<'a>) -> Result<Serve<'a>, Fault>
         connections,
         cluster,
         member,
+        from: matches.get_str("from"),
         control: is_set(matches.get_str("control")),
         recording: matches.get_str("record"),
     })
@@ -216,7 +237,7 @@ fn is_set(text: Option<&str>) -> bool
 }
 
 /// The number of an option, or the one that stands for none, where it is in its range.
-fn number_of(
+pub(crate) fn number_of(
     matches: &ArgMatches<'_>,
     name: &str,
     otherwise: u64,
@@ -249,7 +270,7 @@ fn within(given: Option<u64>, otherwise: u64, least: u64, most: u64) -> Option<u
 }
 
 /// Which fault it is that clap took the words for an error.
-fn fault_of(error: &Error) -> Fault
+pub(crate) fn fault_of(error: &Error) -> Fault
     ensures memory { kind_of error.now ≡ ErrorKind.OutOfMemory → result ≡ Fault.Memory }
     ensures other { kind_of error.now ≢ ErrorKind.OutOfMemory → result ≡ Fault.Arguments }
 {

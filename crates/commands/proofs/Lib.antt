@@ -5,3 +5,4 @@ pub mod Reading
 pub mod Writing
 pub mod Verdicts
 pub mod Orders
+pub mod Played

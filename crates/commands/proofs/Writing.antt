@@ -2,6 +2,7 @@
 use Rattle.std.proofs.Common.{◌≡◌, ℕ, List, [], ◌∷◌, ◌++◌, map, Option, None, Some, IfSome, Result}
 use Rattle.std.proofs.Common.{Ok, Err, OnOk, IfErr, Bool, true, false, codes, refl, ap, subst, ◌∙◌}
 use Rattle.std.specs.Io.KnownBytes.{Appends}
+use Rattle.kv_model.specs.declared.ids.Ids.{Ids}
 use Rattle.kv_model.specs.Wire.{WireEvent}
 use Rattle.json_gateway.specs.declared.wire.WireOutcome.{WireOutcome}
 use Rattle.json_gateway.specs.declared.wire.WireOutcome.TheVariants as outcome
@@ -12,7 +13,7 @@ use Rattle.commands.specs.Script.{line_events}
 use Rattle.commands.specs.declared.said.Said.{Said}
 use Rattle.commands.specs.Said.{Answers, AreShown, bytes_of, first_text, line_said}
 use Rattle.commands.specs.Said.{line_shown, other_texts, replies_said, text_shown, texts_left, texts_shown}
-use Rattle.commands.specs.Replies.{IsAnswered, events_among, outcome_line, reply_lines}
+use Rattle.commands.specs.Replies.{IsAnsweredBy, events_among, outcome_line, reply_lines}
 use Rattle.commands.specs.Writes.{AppendsFront, Writes}
 
 none_left : (ls : List (Option WireEvent)) (es : List WireEvent) (ts : List (List ℕ))
@@ -74,32 +75,32 @@ by_lines text lines s are shown =
     ∙ replies_are (line_events text) s.outcomes.items (map bytes_of s.texts.items) shown
 
 -- what holds of the replies to the lines of the script that was read holds of what answers it
-answers_from : (known : Option (List ℕ)) (text : List ℕ) (lines : Lines) (s : Said) (P : List ℕ → Type 0)
-    → IfSome known (λ t. text ≡ t) → AreLines lines (line_events text) → Answers text s
+answers_from : (ids : Ids) (known : Option (List ℕ)) (text : List ℕ) (lines : Lines) (s : Said) (P : List ℕ → Type 0)
+    → IfSome known (λ t. text ≡ t) → AreLines lines (line_events text) → Answers ids text s
     → P (replies_of lines s)
-    → IfSome known (λ script. (x : List ℕ) × IsAnswered script x × P x)
-answers_from None text lines s P same are run p = tt
-answers_from (Some t) text lines s P same are run p =
-    subst (λ t. (x : List ℕ) × IsAnswered t x × P x) same (
+    → IfSome known (λ script. (x : List ℕ) × IsAnsweredBy ids script x × P x)
+answers_from ids None text lines s P same are run p = tt
+answers_from ids (Some t) text lines s P same are run p =
+    subst (λ t. (x : List ℕ) × IsAnsweredBy ids t x × P x) same (
       reply_lines (line_events text) (map outcome_view s.outcomes.items),
       (map outcome_view s.outcomes.items, run.0, refl),
       subst P (by_lines text lines s are run.1) p,
     )
 
 -- what was written whole is what answers the script that was read
-pub whole_answers : {A E : Type 0} (r : Result A E) (known before after : Option (List ℕ)) (text : List ℕ) (lines : Lines) (s : Said)
-    → IfSome known (λ t. text ≡ t) → AreLines lines (line_events text) → Answers text s
+pub whole_answers : {A E : Type 0} {ids : Ids} (r : Result A E) (known before after : Option (List ℕ)) (text : List ℕ) (lines : Lines) (s : Said)
+    → IfSome known (λ t. text ≡ t) → AreLines lines (line_events text) → Answers ids text s
     → Writes r before after (replies_of lines s)
-    → OnOk r (IfSome known (λ script. (x : List ℕ) × IsAnswered script x × Appends before after x))
+    → OnOk r (IfSome known (λ script. (x : List ℕ) × IsAnsweredBy ids script x × Appends before after x))
 whole_answers (Err e) known before after text lines s same are run p = tt
-whole_answers (Ok a) known before after text lines s same are run p = answers_from known text lines s (Appends before after) same are run p
+whole_answers (Ok a) known before after text lines s same are run p = answers_from _ known text lines s (Appends before after) same are run p
 
 -- and what was written up to a failure is a front of that
-pub front_answers : {A E : Type 0} (r : Result A E) (P : E
+pub front_answers : {A E : Type 0} {ids : Ids} (r : Result A E) (P : E
     → Type 0) (known before after : Option (List ℕ)) (text : List ℕ) (lines : Lines) (s : Said)
-    → IfSome known (λ t. text ≡ t) → AreLines lines (line_events text) → Answers text s
+    → IfSome known (λ t. text ≡ t) → AreLines lines (line_events text) → Answers ids text s
     → Writes r before after (replies_of lines s)
-    → IfErr r (λ e. P e → IfSome known (λ script. (x : List ℕ) × IsAnswered script x × AppendsFront before after x))
+    → IfErr r (λ e. P e → IfSome known (λ script. (x : List ℕ) × IsAnsweredBy ids script x × AppendsFront before after x))
 front_answers (Ok a) P known before after text lines s same are run p = tt
 front_answers (Err e) P known before after text lines s same are run p =
-    λ _. answers_from known text lines s (AppendsFront before after) same are run p
+    λ _. answers_from _ known text lines s (AppendsFront before after) same are run p

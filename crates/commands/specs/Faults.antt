@@ -20,6 +20,13 @@ abbrev pub is_write : Fault → Bool
 is_write (fault.Write error) = true
 is_write _ = false
 
+-- it may come of reading the script that a server goes on from
+abbrev pub is_of_script : Fault → Bool
+is_of_script (fault.Script error) = true
+is_of_script fault.Endless = true
+is_of_script fault.Memory = true
+is_of_script _ = false
+
 -- it may come of reading a text, or of writing what it is answered
 abbrev pub is_of_streams : Fault → Bool
 is_of_streams f = is_read f || is_write f

@@ -6,3 +6,4 @@ pub mod Writes
 pub mod Said
 pub mod Judging
 pub mod Controlling
+pub mod Playing

@@ -78,11 +78,14 @@ reply_lines (None ∷ ls) os = codes "bad line\n" ++ reply_lines ls os
 reply_lines (Some e ∷ ls) [] = reply_lines ls []
 reply_lines (Some e ∷ ls) (o ∷ os) = outcome_line e o ++ reply_lines ls os
 
+-- The replies are those to a run of the script's events on a fresh store, by these ids, which answers as the whole history
+-- does while it is trimmed.
+abbrev pub IsAnsweredBy : Ids → List ℕ → List ℕ → Type 0
+IsAnsweredBy ids script replies = (os : List WireOutcome) × IsRun ids (events_among (line_events script)) os
+    × (replies ≡ reply_lines (line_events script) os)
+
 abbrev pub ids : Ids
 ids = record { cluster = 1; member = 1 }
 
--- The replies are those to a run of the script's events on a fresh store, which answers as the whole history does while
--- it is trimmed.
 abbrev pub IsAnswered : List ℕ → List ℕ → Type 0
-IsAnswered script replies = (os : List WireOutcome) × IsRun ids (events_among (line_events script)) os
-    × (replies ≡ reply_lines (line_events script) os)
+IsAnswered = IsAnsweredBy ids

@@ -3,6 +3,7 @@
 use Rattle.std.specs.Prelude.{◌≡◌, ℕ, List, [], ◌∷◌, ◌++◌, map, drop, Bool, true, false, Ok, codes}
 use Rattle.std.specs.declared.vec.Vec.{Vec}
 use Rattle.std.specs.declared.alloc.Global.{Global}
+use Rattle.kv_model.specs.declared.ids.Ids.{Ids}
 use Rattle.kv_model.specs.Headline.{IsRun}
 use Rattle.kv_model.specs.Wire.{WireEvent}
 use Rattle.json_gateway.specs.declared.wire.WireOutcome.{WireOutcome}
@@ -11,7 +12,7 @@ use Rattle.json_gateway.specs.Runs.{outcome_view}
 use Rattle.certificate_text.specs.Texts.{text_of}
 use Rattle.commands.specs.declared.said.Said.{Said}
 use Rattle.commands.specs.declared.replies.Place.{Place}
-use Rattle.commands.specs.Replies.{events_among, ids, memory_line, outcome_line}
+use Rattle.commands.specs.Replies.{events_among, memory_line, outcome_line}
 use Rattle.commands.specs.Script.{line_events}
 
 -- ---- the texts of what is kept
@@ -81,6 +82,6 @@ texts_from s p = map bytes_of (drop p.text s.texts.items)
 
 -- ---- a run
 
--- they are said to the events of a script, run on a fresh store
-abbrev pub Answers : List ℕ → Said → Type 0
-Answers script s = IsRun ids (events_among (line_events script)) (map outcome_view s.outcomes.items) × AreShown s
+-- they are said to the events of a script, run on a fresh store by these ids
+abbrev pub Answers : Ids → List ℕ → Said → Type 0
+Answers ids script s = IsRun ids (events_among (line_events script)) (map outcome_view s.outcomes.items) × AreShown s

@@ -11,7 +11,7 @@ use thiserror::Error;
 #[derive(Debug, Drop, Error)]
 pub enum Fault {
     /// The words after the program's name are no command.
-    #[error("etcd_one: bad arguments; usage: etcd_one replay < script, etcd_one check < certificate, or etcd_one serve --listen ADDR [--workers 2..32] [--connections N] [--cluster-id N] [--member-id N] [--control] [--record FILE]")]
+    #[error("etcd_one: bad arguments; usage: etcd_one replay [--cluster-id N] [--member-id N] < script, etcd_one check < certificate, or etcd_one serve --listen ADDR [--workers 2..32] [--connections N] [--cluster-id N] [--member-id N] [--from FILE] [--control] [--record FILE]")]
     Arguments,
     /// The input, a script or a certificate, could not be read to its end.
     #[error("etcd_one: the input could not be read: {0}")]
@@ -28,6 +28,15 @@ pub enum Fault {
     /// The file of a recording could not be made, or no further line of it be written.
     #[error("etcd_one: the recording could not be written: {0}")]
     Record(io::Error),
+    /// The script that a server goes on from could not be opened, or not be read to its end.
+    #[error("etcd_one: the script could not be read: {0}")]
+    Script(io::Error),
+    /// The line of this number of that script, counted from 1, asks for no event.
+    #[error("etcd_one: line {0} of the script is no event")]
+    NoEvent(u64),
+    /// The event of the line of this number found no memory.
+    #[error("etcd_one: line {0} of the script found no memory")]
+    Unplayed(u64),
     /// The server could not listen at its address.
     #[error("etcd_one: the address is refused: {0}")]
     Address(io::Error),

@@ -3,7 +3,7 @@ ghost use Rattle.std.specs.Prelude.{◌≡◌, ◌≢◌, ◌≤◌, ◌++◌, t
 ghost use Rattle.std.specs.Prelude.{length, IfOk, IfErr, IfSome, MatchResult};
 ghost use Rattle.std.specs.IoError.{error_kind};
 ghost use Rattle.commands.specs.Script as script;
-ghost use Rattle.commands.specs.Faults.{is_endless, is_read};
+ghost use Rattle.commands.specs.Faults.{is_endless, is_of_script, is_read};
 
 use crate::counted::Counted;
 use crate::fault::Fault;
@@ -61,5 +61,32 @@ fn take_in(read: io::Result<usize>, buffer: &[u8], script: &mut Vec<u8>) -> Resu
                 Err(Fault::Read(error))
             }
         }
+    }
+}
+
+/// Reads the script that a server goes on from to its end.
+///
+/// Fails with `Fault::Script` where a read fails, with `Fault::Endless` where it has not ended after
+/// 2^30 reads, and with `Fault::Memory` where memory is wanting.
+pub fn read_script<R: Read>(alloc: Global, r: &mut R) -> Result<Vec<u8>, Fault>
+    ensures ok { IfOk result (λ script.
+        IfSome (R.remaining r.old) (λ text. script.items ≡ text)) }
+    ensures fault { IfErr result (λ fault. is_of_script fault ≡ true) }
+{
+    let mut reader = Counted::new(r);
+    match read_input(alloc, &mut reader) {
+        Ok(script) => Ok(script),
+        Err(fault) => Err(of_script(fault)),
+    }
+}
+
+/// The fault of a read, where what was read is such a script.
+fn of_script(fault: Fault) -> Fault
+    requires { is_read fault ≡ true }
+    ensures { is_of_script result ≡ true }
+{
+    match fault {
+        Fault::Read(error) => Fault::Script(error),
+        other => other,
     }
 }

@@ -25,6 +25,9 @@
 //! [`control`] answers lines one at a time, of a server that runs ([`Controlling`]): those of `AT`,
 //! `EXPIRE`, `TRIM` and `CERTIFY`, in the words that a script's replies have.
 //!
+//! [`read_script`], [`check_script`] and [`play`] are for a server that goes on from a script: its
+//! text, whether each line of it asks for an event, and these made one after the other ([`Playing`]).
+//!
 //! [`Fault`] says why the program ends before its work is done, a server too, and [`write_number`]
 //! writes a line that ends in a number, whole or up to a failed write.
 //!
@@ -37,6 +40,7 @@ mod fault;
 mod input;
 mod judging;
 mod pieces;
+mod playing;
 mod replaying;
 mod replies;
 mod said;
@@ -45,6 +49,9 @@ mod script;
 pub use controlling::{Controlling, Order, control};
 pub use fault::{Fault, fault_of_words};
 pub use http_reply::Front;
+pub use input::read_script;
+pub use json_gateway::Ids;
 pub use judging::{Verdict, check};
 pub use pieces::{write_bytes, write_number};
-pub use replaying::replay;
+pub use playing::{Playing, check_script, play};
+pub use replaying::{replay, replay_by};

@@ -31,7 +31,7 @@ const IDS: Ids = Ids {
 /// a watch is told, a JSON text, `nothing`, `no watch` or `out of memory`; `closed` or `no watch`;
 /// of a trimming step `removed` or `kept` and a version's revision, or `done` and the number of
 /// versions kept, with `unchecked` where no memory was found for their certificate; or several
-/// lines, the text of what is kept and its certificate.
+/// lines, the text of what is kept and its certificate. It answers as member 1 of cluster 1.
 ///
 /// **What is written is what the model of the whole history answers to the script**, where it is
 /// known what the reader gives and the writer holds. Memory: the script and the bodies of all
@@ -51,9 +51,29 @@ pub fn replay<R: Read, W: Write>(alloc: Global, r: &mut R, w: &mut W) -> Result<
         × AppendsFront (W.contents w.old) (W.contents w.new) replies)) }
     ensures fault { IfErr result (λ fault. is_of_streams fault ≡ true) }
 {
+    replay_by(alloc, &IDS, r, w)
+}
+
+/// As [`replay`], by these ids.
+pub fn replay_by<R: Read, W: Write>(
+    alloc: Global,
+    ids: &Ids,
+    r: &mut R,
+    w: &mut W,
+) -> Result<(), Fault>
+    ensures ok { OnOk result (IfSome (R.remaining r.old) (λ script. (replies : List ℕ)
+        × spec.IsAnsweredBy ids.now script replies
+        × Appends (W.contents w.old) (W.contents w.new) replies)) }
+    ensures unwritten { IfErr result (λ fault. is_write fault ≡ false → w.new ≡ w.old) }
+    ensures cut { IfErr result (λ fault. is_write fault ≡ true
+        → IfSome (R.remaining r.old) (λ script. (replies : List ℕ)
+        × spec.IsAnsweredBy ids.now script replies
+        × AppendsFront (W.contents w.old) (W.contents w.new) replies)) }
+    ensures fault { IfErr result (λ fault. is_of_streams fault ≡ true) }
+{
     let mut reader = Counted::new(r);
     let script = read_input(alloc, &mut reader)?;
-    match run_of(alloc, script.as_slice()) {
+    match run_of(alloc, ids, script.as_slice()) {
         Ok(run) => write_out(w, &run.lines, &run.said),
         Err(_) => Err(Fault::Memory),
     }
@@ -67,12 +87,12 @@ struct Run<'a> {
 }
 
 /// Runs a script's events on a fresh store. Fails for want of memory outside a request.
-fn run_of(alloc: Global, text: &[u8]) -> Result<Run<'_>, AllocError>
+fn run_of<'a>(alloc: Global, ids: &Ids, text: &'a [u8]) -> Result<Run<'a>, AllocError>
     ensures lines { IfOk result (λ run. AreLines run.lines (script.line_events text.now)) }
-    ensures run { IfOk result (λ run. Answers text.now run.said) }
+    ensures run { IfOk result (λ run. Answers ids.now text.now run.said) }
 {
     let lines = line_events(alloc, text)?;
-    let WireRun { outcomes } = run_wire(alloc, lines.events.as_slice(), &IDS)?;
+    let WireRun { outcomes } = run_wire(alloc, lines.events.as_slice(), ids)?;
     let said = said_of(alloc, outcomes)?;
     Ok(Run { lines, said })
 }

@@ -10,12 +10,12 @@
 //! and nothing more on standard output. `--help` and `--version` are bad arguments too, whose line
 //! is what was asked for.
 //!
-//! `etcd_one serve` answers HTTP/1.1 instead, at the address that it is given; with `--control` time
-//! and trimming go by lines on standard input, and with `--record` the events of the server are put
+//! `etcd_one serve` answers HTTP/1.1 instead, at the address that it is given; with `--from` it goes on
+//! from a script, with `--control` time and trimming go by lines on standard input, and with `--record` the events of the server are put
 //! into a file, as a script that `replay` answers as the server did.
 //!
 //! What each command does over any reader and writer is told, and proved, in the crates below:
-//! [`arguments`] and [`serve_on`], the words of the command line and the server that they ask for,
+//! [`arguments`] and [`serve_by`], the words of the command line and the server that they ask for,
 //! in `command_line`, [`replay`] and [`check`] in `commands`. Here stand the program's words, its
 //! standard input and output, and its exit status.
 //!
@@ -24,11 +24,11 @@
 #![tactic(auto)]
 
 pub use command_line::{
-    Advice, Args, Gate, OpenGate, Recording, Serve, Tells, advise, arguments, serve_by,
-    serve_controlled, serve_on,
+    Advice, Args, Gate, OpenGate, Recording, Serve, Start, Starts, Tells, advise, arguments,
+    serve_by, serve_controlled, serve_on,
 };
 use commands::fault_of_words;
-pub use commands::{Fault, Verdict, check, replay};
+pub use commands::{Fault, Ids, Verdict, check, check_script, read_script, replay, replay_by};
 use std::fs::File;
 use std::io::BufWriter;
 use std::net::{Net, TcpListener, TcpStream};
@@ -79,8 +79,8 @@ fn run_as<
         + Sync,
 >(rt: &R, args: &Args<'_>) -> Result<ExitCode, Fault> {
     match args {
-        Args::Replay => {
-            replay_all(rt)?;
+        Args::Replay(ids) => {
+            replay_all(rt, ids)?;
             Ok(ExitCode::SUCCESS)
         }
         Args::Check => {
@@ -110,17 +110,18 @@ fn check_all<R: Runtime + AllocGlobal>(rt: &R) -> Result<Verdict, Fault> {
 }
 
 /// Answers standard input on standard output, through a buffer that is there before the first read.
-fn replay_all<R: Runtime + AllocGlobal>(rt: &R) -> Result<(), Fault> {
+fn replay_all<R: Runtime + AllocGlobal>(rt: &R, ids: &Ids) -> Result<(), Fault> {
     let made = BufWriter::with_capacity(rt.alloc(), BUFFER, io::writer(rt));
     let mut writer = made.map_err(|_| Fault::Memory)?;
-    let ended = replay(rt.alloc(), &mut rt.reader(), &mut writer);
+    let ended = replay_by(rt.alloc(), ids, &mut rt.reader(), &mut writer);
     // A writer that is dropped would write what a failed write has left.
     let _ = writer.into_parts();
     ended
 }
 
-/// Listens, and serves; where that is asked for, with the server's events put into a file, which is
-/// made anew, and with lines on standard input that direct it.
+/// Listens, and serves; where that is asked for, going on from a script, with the server's events put
+/// into a file, which is made anew once each line of the script was seen to ask for an event, and with
+/// lines on standard input that direct it.
 fn serve_all<
     R: Runtime
         + Files<File = File>
@@ -131,33 +132,45 @@ fn serve_all<
         + Sync,
 >(rt: &R, serve: &Serve<'_>) -> Result<(), Fault> {
     let listener = TcpListener::bind(rt, serve.listen).map_err(Fault::Address)?;
-    let Some(path) = serve.recording else {
-        tell_address(rt, &listener);
-        if serve.control {
-            return serve_lines(rt, serve, &listener, &OpenGate);
-        }
+    let telling = Telling { rt };
+    if serve.from.is_none() && serve.recording.is_none() && !serve.control {
+        telling.starts(&listener);
         let args = Args::Serve(*serve);
         return serve_on(rt, rt.alloc(), &listener, &args, &mut io::writer(rt));
+    }
+    let script = script_of(rt, serve)?;
+    let start = Start {
+        listener: &listener,
+        script,
+        hears: &telling,
     };
-    let file = File::create(rt, path).map_err(Fault::Record)?;
-    let gate = Recording::new(rt, rt.alloc(), file, Telling { rt });
-    tell_address(rt, &listener);
-    if serve.control {
-        return serve_lines(rt, serve, &listener, &gate);
-    }
-    let args = Args::Serve(*serve);
-    serve_by(rt, rt.alloc(), &listener, &args, &gate, &mut io::writer(rt))
-}
-
-/// Says on standard error where a server listens.
-fn tell_address<R: Runtime>(rt: &R, listener: &TcpListener) {
-    if let Ok(address) = listener.local_addr() {
-        let _ = eprintln!(rt; "listening on {address}");
+    match serve.recording {
+        Some(path) => {
+            let file = File::create(rt, path).map_err(Fault::Record)?;
+            let gate = Recording::new(rt, rt.alloc(), file, Telling { rt });
+            serve_start(rt, serve, start, &gate)
+        }
+        None => serve_start(rt, serve, start, &OpenGate),
     }
 }
 
-/// Runs a server that lines on standard input direct, by a gate.
-fn serve_lines<
+/// The script that a server goes on from, each line of which asks for an event; an empty one where
+/// there is none.
+fn script_of<R: Runtime + Files<File = File> + AllocGlobal>(
+    rt: &R,
+    serve: &Serve<'_>,
+) -> Result<Vec<u8>, Fault> {
+    let Some(path) = serve.from else {
+        return Ok(Vec::new(rt.alloc()));
+    };
+    let mut file = File::open(rt, path).map_err(Fault::Script)?;
+    let script = read_script(rt.alloc(), &mut file)?;
+    check_script(script.as_slice())?;
+    Ok(script)
+}
+
+/// Runs a server by a gate, directed by lines on standard input where that is asked for.
+fn serve_start<
     G: Gate + Sync,
     R: Runtime
         + AllocGlobal
@@ -165,22 +178,17 @@ fn serve_lines<
         + Threads
         + Wait
         + Sync,
->(rt: &R, serve: &Serve<'_>, listener: &TcpListener, gate: &G) -> Result<(), Fault> {
+>(rt: &R, serve: &Serve<'_>, start: Start<'_, Telling<'_, R>>, gate: &G) -> Result<(), Fault> {
     let args = Args::Serve(*serve);
-    let mut reader = rt.reader();
     let mut writer = io::writer(rt);
-    serve_controlled(
-        rt,
-        rt.alloc(),
-        listener,
-        &args,
-        gate,
-        &mut reader,
-        &mut writer,
-    )
+    if !serve.control {
+        return serve_by(rt, rt.alloc(), start, &args, gate, &mut writer);
+    }
+    let mut reader = rt.reader();
+    serve_controlled(rt, rt.alloc(), start, &args, gate, &mut reader, &mut writer)
 }
 
-/// Tells on standard error where a recording ends before its server does.
+/// Tells on standard error where a server listens, and where a recording ends before its server does.
 #[derive(Drop)]
 struct Telling<'x, R> {
     rt: &'x R,
@@ -189,6 +197,14 @@ struct Telling<'x, R> {
 impl<'x, R: Eprint> Tells for Telling<'x, R> {
     fn tell(&self, fault: &Fault) {
         let _ = self.rt.eprintln(fault);
+    }
+}
+
+impl<'x, R: Eprint> Starts for Telling<'x, R> {
+    fn starts(&self, listener: &TcpListener) {
+        if let Ok(address) = listener.local_addr() {
+            let _ = eprintln!(self.rt; "listening on {address}");
+        }
     }
 }
 

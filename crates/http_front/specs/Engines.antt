@@ -161,6 +161,26 @@ pub record Refused (c : Caller) (a : Asked) (o : Outcome) (c' : Caller) : Type 0
 abbrev pub Answers : Ids → Caller → Asked → Outcome → Caller → Type 0
 Answers ids c a o c' = Did ids c a o c' ⊎ Refused c a o c'
 
+-- ---- a request of a script
+
+-- It asked for a command, which was submitted.
+pub record DidBy (ids : Ids) (c : Caller) (path body : List ℕ) (o : Outcome) (c' : Caller) : Type 0 where
+  pub command : Command
+  pub is : request_of path body ≡ Ok (call_of command)
+  pub does : Does ids c (record { command = command; request = Some (WireEvent.post path body) }) o c'
+
+-- It asked for none, and is refused in the words of its fault; the engine gave nothing.
+pub record RefusedBy (c : Caller) (path body : List ℕ) (o : Outcome) (c' : Caller) : Type 0 where
+  pub bad : Bad
+  pub fails : Fails bad (request_of path body)
+  pub refuses : Refuses o.settled (is_want bad) (fault_of_reading bad)
+  pub same : c' ≡ c
+
+abbrev pub Posts : Ids → Caller → List ℕ → List ℕ → Outcome → Caller → Type 0
+Posts ids c path body o c' = DidBy ids c path body o c' ⊎ RefusedBy c path body o c'
+
+-- ---- a stream
+
 -- A stream is told what the engine told its watch, from a core that had all changes that the client had made. It ends
 -- where there is no such watch, or where somebody said that its client has left.
 abbrev pub Tells : Ids → Type 0 → Caller → ℕ → Told → Caller → Type 0

@@ -2,7 +2,7 @@
 ghost use Rattle.std.specs.Prelude.{◌≡◌, ◌⊎◌, None};
 ghost use Rattle.json_gateway.specs.Endings.{Refuses, fault_of_reading, is_want};
 ghost use Rattle.http_front.specs.Engines as engines;
-ghost use Rattle.http_front.specs.Engines.{AreTrimmed, Awaits, Does, Looks, Submits, lost_answer};
+ghost use Rattle.http_front.specs.Engines.{AreTrimmed, Awaits, Does, Looks, Posts, Submits, lost_answer};
 
 use crate::beside::looked;
 use engine_lock::{Asked, Client, EngineName, Submitted};
@@ -117,6 +117,27 @@ fn done<L: EngineName, G: Gate, R: Wait>(
         return outcome;
     }
     performed(events, client, now, asked)
+}
+
+/// Does what a POST of this body to this path asks for on behalf of a client, as an event of a script
+/// is done: its command is submitted, a Range too, at the engine's clock, and the trimming that its
+/// answer waits for is done. Where it asks for no command it is refused, and the engine gives nothing.
+pub fn post<L: EngineName, G: Gate, R: Wait>(
+    events: &Recorded<'_, L, G, R>,
+    alloc: Global,
+    client: &mut Client<L>,
+    path: &[u8],
+    body: &[u8],
+) -> Outcome
+    ensures { Posts events.now.engine.now client.old path.now body.now result client.new }
+{
+    match read(alloc, path, body) {
+        Ok(command) => {
+            let asked = Asked::by(&command, path, body);
+            performed(events, client, 0, &asked)
+        }
+        Err(bad) => refused(alloc, bad),
+    }
 }
 
 /// Submits a command, and does the trimming that its answer waits for.

@@ -3,6 +3,7 @@ ghost use Rattle.std.specs.Prelude.{IfOk, IfErr};
 ghost use Rattle.engine_lock.specs.Fits.{IsStanding};
 ghost use Rattle.http_front.specs.Ends.{IsOfServer};
 
+use crate::begun::{Begun, Limits};
 use crate::handing::Waking;
 use crate::shared::Shared;
 use crate::threads::{
@@ -29,19 +30,10 @@ const WAKE_WAIT: u64 = 100;
 
 /// Who runs a server by hand.
 pub trait Directing<L: EngineName> {
-    /// Comes once the workers have started, on the thread that started them, with a client that no
-    /// connection has, and the gate that is to be told of its events. The server ends when this
+    /// Comes once the workers have started, on the thread that started them, with the client that the
+    /// engine came with, and the gate that is to be told of its events. The server ends when this
     /// returns.
     fn direct<G: Gate>(&mut self, engine: &Engine<L>, client: &mut Client<L>, gate: &G);
-}
-
-/// How much a server serves.
-#[derive(Clone, Copy, Debug, PartialEq, Eq)]
-pub struct Limits {
-    /// How many connections at once.
-    pub workers: u64,
-    /// How many in all, at most 2^63 - 1.
-    pub connections: u64,
 }
 
 /// A clock that stands at its beginning. A moment that is handed in by it leaves the engine's clock,
@@ -74,7 +66,7 @@ impl Clock for Standing {
 pub fn pool_directed<L, G, D, R>(
     rt: &R,
     alloc: Global,
-    engine: Engine<L>,
+    begun: Begun<L>,
     gate: &G,
     director: &mut D,
     listener: &TcpListener,
@@ -88,9 +80,7 @@ where
     ensures stands { IfOk result (λ core. IsStanding core) }
     ensures fault { IfErr result IsOfServer }
 {
-    let Ok(client) = engine.client(rt) else {
-        return Err(Front::Unclosed);
-    };
+    let Begun { engine, client } = begun;
     let clients = match clients_of(rt, alloc, &engine, limits.workers) {
         Ok(clients) => clients,
         Err(front) => return Err(front),

@@ -19,6 +19,9 @@
 //! [`pool_directed`] serves without the two threads beside the connections, until somebody ends it
 //! ([`Directing`]).
 //!
+//! [`pool_begun`] and `pool_directed` are given an engine that has [`Begun`], with the client by which
+//! events were made before; a request of those is [`post`].
+//!
 //! Where the gate says so, the engine writes its events down as the lines of a script, and the gate is
 //! told behind each event, and may take them ([`Recorded`], [`Takes`]).
 //!
@@ -29,6 +32,7 @@
 #![tactic(auto)]
 
 mod background;
+mod begun;
 mod beside;
 mod by_engine;
 mod by_worker;
@@ -40,12 +44,14 @@ mod streaming;
 mod threads;
 mod workers;
 
+pub use begun::{Begun, Limits};
+pub use by_engine::post;
 pub use connection::work;
-pub use directed::{Directing, Limits, pool_directed};
+pub use directed::{Directing, pool_directed};
 pub use http_head::Head;
 pub use http_input::{Input, Request, next_request};
 pub use http_loop::serve_alone;
 pub use http_peer::{Clock, Gate, MOST_CONNECTIONS, OpenGate, Takes};
 pub use http_reply::{Counted, Front, ReplyBuffer, write_chunk, write_reply};
 pub use recorded_engine::Recorded;
-pub use threads::pool;
+pub use threads::{pool, pool_begun};

@@ -4,6 +4,7 @@ ghost use Rattle.engine_lock.specs.Fits.{IsStanding};
 ghost use Rattle.http_front.specs.Ends.{IsOfServer, fault_of};
 
 use crate::background::{keep_expiring, keep_trimming};
+use crate::begun::{Begun, Limits};
 use crate::handing::Handing;
 use crate::shared::Shared;
 use crate::streaming::{Watching, keep_streams};
@@ -63,10 +64,39 @@ where
     ensures stands { IfOk result (λ core. IsStanding core) }
     ensures fault { IfErr result IsOfServer }
 {
-    let Ok(expirer) = engine.client(rt) else {
-        return Err(Front::Unclosed);
+    let limits = Limits {
+        workers,
+        connections,
     };
-    let clients = match clients_of(rt, alloc, &engine, workers) {
+    match Begun::new(rt, engine) {
+        Ok(begun) => pool_begun(rt, alloc, begun, gate, clock, listener, limits),
+        Err(front) => Err(front),
+    }
+}
+
+/// As [`pool`], of an engine that has begun, with so many workers and connections as these limits say.
+pub fn pool_begun<L, G, C, R>(
+    rt: &R,
+    alloc: Global,
+    begun: Begun<L>,
+    gate: &G,
+    clock: &C,
+    listener: &TcpListener,
+    limits: Limits,
+) -> Result<Core, Front>
+where
+    L: EngineName + Send + Sync,
+    G: Gate + Sync,
+    C: Clock + Sync,
+    R: Wait + Threads + time::Clock + Net + Sync,
+    ensures stands { IfOk result (λ core. IsStanding core) }
+    ensures fault { IfErr result IsOfServer }
+{
+    let Begun {
+        engine,
+        client: expirer,
+    } = begun;
+    let clients = match clients_of(rt, alloc, &engine, limits.workers) {
         Ok(clients) => clients,
         Err(front) => return Err(front),
     };
@@ -74,7 +104,7 @@ where
         Ok(made) => made,
         Err(front) => return Err(front),
     };
-    let shared = Shared::new(&engine, gate, clock, listener, connections, handing);
+    let shared = Shared::new(&engine, gate, clock, listener, limits.connections, handing);
     let beside = Beside { expirer, keeping };
     let Served { clients, trouble } = run_threads(rt, alloc, &shared, clients, beside);
     drop(shared);

@@ -1,5 +1,5 @@
 //! A server that lines control: whoever has them makes requests, too, between one line and the next.
-use command_line::{Args, Gate, OpenGate, Serve, serve_controlled};
+use command_line::{Args, Gate, OpenGate, Serve, Start, Unheard, serve_controlled};
 use std::io::{BufReader, Read, Write};
 use std::net::{Net, SocketAddr, TcpListener, TcpStream};
 use std::sync::Wait;
@@ -162,12 +162,14 @@ where
         connections: 0,
         cluster: 1,
         member: 1,
+        from: None,
         control: true,
         recording: None,
     });
     let mut said = Vec::new(alloc);
+    let start = Start::empty(alloc, &listener, &Unheard);
     let mut reader = BufReader::new(alloc, &mut hand)?;
-    let ended = serve_controlled(rt, alloc, &listener, &args, gate, &mut reader, &mut said);
+    let ended = serve_controlled(rt, alloc, start, &args, gate, &mut reader, &mut said);
     drop(reader);
     let Hand {
         open,

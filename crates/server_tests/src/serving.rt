@@ -1,7 +1,7 @@
 //! A server and its client, on loopback.
 use crate::streams::small_writer;
-use command_line::{Args, Serve, serve_on};
-use commands::Fault;
+use command_line::{Args, OpenGate, Serve, Start, Unheard, serve_by};
+use commands::{Fault, check_script};
 use std::io::Write;
 use std::net::{Net, Shutdown, TcpListener, TcpStream};
 use std::sync::Wait;
@@ -21,13 +21,31 @@ const OTHER_REPLY: &str =
     "HTTP/1.1 200 OK\r\nContent-Type: application/json\r\nContent-Length: 76\r\n\r\n\
     {\"header\":{\"cluster_id\":\"9\",\"member_id\":\"4\",\"raft_term\":\"1\",\"revision\":\"2\"}}";
 
+/// The reply to a put of a store at revision 2.
+const NEXT_REPLY: &str =
+    "HTTP/1.1 200 OK\r\nContent-Type: application/json\r\nContent-Length: 76\r\n\r\n\
+    {\"header\":{\"cluster_id\":\"1\",\"member_id\":\"1\",\"raft_term\":\"1\",\"revision\":\"3\"}}";
+
+/// A server of one connection.
+const LEAST: Serve<'static> = Serve {
+    listen: "",
+    workers: 2,
+    connections: 1,
+    cluster: 1,
+    member: 1,
+    from: None,
+    control: false,
+    recording: None,
+};
+
 const CLOSED: &[u8] = b"closed at revision 2\n";
 
-/// How a server of one connection ends, where a client has written one put and closed its sending
+/// How a server of one connection that goes on from a script ends, where a client has written one put and closed its sending
 /// side before the server accepts, and whether that is answered so.
 fn served<R, W: Write>(
     rt: &R,
     (cluster, member): (u64, u64),
+    script: &[u8],
     reply: &str,
     said: &mut W,
 ) -> Result<(Result<(), Fault>, bool), Fail>
@@ -46,15 +64,16 @@ where
     peer.write_all(PUT)?;
     stream.shutdown(Shutdown::Write)?;
     let args = Args::Serve(Serve {
-        listen: "",
-        workers: 2,
-        connections: 1,
         cluster,
         member,
-        control: false,
-        recording: None,
+        ..LEAST
     });
-    let ended = serve_on(rt, alloc, &listener, &args, said);
+    let start = Start {
+        listener: &listener,
+        script: script.to_vec(alloc)?,
+        hears: &Unheard,
+    };
+    let ended = serve_by(rt, alloc, start, &args, &OpenGate, said);
     let is_answered = io::read_to_string(alloc, peer)?.as_str() == reply;
     Ok((ended, is_answered))
 }
@@ -62,7 +81,7 @@ where
 #[test]
 fn serves_one_connection(rt: HostRuntime) -> Result<(), Fail> {
     let mut said = Vec::new(rt.alloc());
-    let ended = served(&rt, (1, 1), REPLY, &mut said)?;
+    let ended = served(&rt, (1, 1), b"", REPLY, &mut said)?;
     assert!(rt; matches!(ended, (Ok(()), true)));
     assert!(rt; said.as_slice() == CLOSED);
     Ok(())
@@ -72,7 +91,7 @@ fn serves_one_connection(rt: HostRuntime) -> Result<(), Fail> {
 #[test]
 fn answers_by_its_ids(rt: HostRuntime) -> Result<(), Fail> {
     let mut said = Vec::new(rt.alloc());
-    let ended = served(&rt, (9, 4), OTHER_REPLY, &mut said)?;
+    let ended = served(&rt, (9, 4), b"", OTHER_REPLY, &mut said)?;
     assert!(rt; matches!(ended, (Ok(()), true)));
     Ok(())
 }
@@ -81,12 +100,49 @@ fn answers_by_its_ids(rt: HostRuntime) -> Result<(), Fail> {
 #[test]
 fn closing_lines_that_fail(rt: HostRuntime) -> Result<(), Fail> {
     let mut cut = small_writer(rt.alloc(), 6, true, true);
-    let ended = served(&rt, (1, 1), REPLY, &mut cut)?;
+    let ended = served(&rt, (1, 1), b"", REPLY, &mut cut)?;
     assert!(rt; matches!(ended, (Err(Fault::Write(_)), true)));
     assert!(rt; cut.got.as_slice() == b"closed".as_slice());
     let mut kept_back = small_writer(rt.alloc(), usize::MAX, true, false);
-    let ended = served(&rt, (1, 1), REPLY, &mut kept_back)?;
+    let ended = served(&rt, (1, 1), b"", REPLY, &mut kept_back)?;
     assert!(rt; matches!(ended, (Err(Fault::Write(_)), true)));
     assert!(rt; kept_back.got.as_slice() == CLOSED);
+    Ok(())
+}
+
+/// A script with a put, a watch and a lease: the store's revision is 2.
+const SCRIPT: &[u8] = b"AT 1000\nPOST /v3/kv/put {\"key\":\"Zm9v\"}\n\
+    POST /v3/watch {\"create_request\":{\"key\":\"Zm9v\"}}\nDELIVER 1\nCLOSE 2\nEXPIRE\nTRIM\nCERTIFY\n\
+    POST /v3/lease/grant {\"TTL\":\"9\",\"ID\":\"7\"}\nPOST /v3/nothing {}";
+
+/// A server's next put after a script is answered as the script's next line would be.
+#[test]
+fn goes_on_from_a_script(rt: HostRuntime) -> Result<(), Fail> {
+    let mut said = Vec::new(rt.alloc());
+    let ended = served(&rt, (1, 1), SCRIPT, NEXT_REPLY, &mut said)?;
+    assert!(rt; matches!(ended, (Ok(()), true)));
+    assert!(rt; said.as_slice() == b"closed at revision 3\n".as_slice());
+    assert!(rt; check_script(SCRIPT).is_ok());
+    Ok(())
+}
+
+/// A line that asks for no event ends it, and its number is told.
+#[test]
+fn does_not_begin_at_a_bad_line(rt: HostRuntime) -> Result<(), Fail> {
+    let bad = b"AT 1\nAT 2\nPUT a\nAT 3\nPUT b\n".as_slice();
+    assert!(rt; matches!(check_script(bad), Err(Fault::NoEvent(3))));
+    assert!(rt; matches!(check_script(b"\n"), Err(Fault::NoEvent(1))));
+    assert!(rt; check_script(b"").is_ok());
+    let alloc = rt.alloc();
+    let listener = TcpListener::bind(&rt, "127.0.0.1:0")?;
+    let start = Start {
+        listener: &listener,
+        script: bad.to_vec(alloc)?,
+        hears: &Unheard,
+    };
+    let mut said = Vec::new(alloc);
+    let ended = serve_by(&rt, alloc, start, &Args::Serve(LEAST), &OpenGate, &mut said);
+    assert!(rt; matches!(ended, Err(Fault::NoEvent(3))));
+    assert!(rt; said.is_empty());
     Ok(())
 }

@@ -114,7 +114,12 @@ fn is_left_unread(alloc: Global, good: usize) -> bool {
 /// Whether a script that comes byte by byte is answered as one that comes whole.
 fn is_read(alloc: Global) -> bool {
     let mut written = Vec::new(alloc);
-    let ended = replay(alloc, &mut slow_reader(SCRIPT.len() + 1), &mut written);
+    let ended = replay(
+        alloc,
+        &ONES,
+        &mut slow_reader(SCRIPT.len() + 1),
+        &mut written,
+    );
     ended.is_ok() && written.as_slice() == REPLIES
 }
 
@@ -217,11 +222,11 @@ fn writes(rt: HostRuntime) {
     assert!(rt; is_kept_back(rt.alloc()));
 }
 
-/// How these words are read: `Ok` of what they ask for besides `serve`, or the options of `serve`.
+/// How these words are read: what they ask for, and the options with numbers.
 fn said_of(alloc: Global, words: &[&str]) -> Result<(u8, Option<(u64, u64, u64, u64)>), Fail> {
     let line = line_of(alloc, words)?;
     let said = match arguments(alloc, line.as_slice()) {
-        Ok(Args::Replay) => (0, None),
+        Ok(Args::Replay(ids)) => (0, Some((0, 0, ids.cluster, ids.member))),
         Ok(Args::Check) => (1, None),
         Ok(Args::Serve(s)) => (2, Some((s.workers, s.connections, s.cluster, s.member))),
         Err(Fault::Arguments) => (3, None),
@@ -230,7 +235,7 @@ fn said_of(alloc: Global, words: &[&str]) -> Result<(u8, Option<(u64, u64, u64, 
     Ok(said)
 }
 
-const BAD_WORDS: [&[&str]; 21] = [
+const BAD_WORDS: [&[&str]; 27] = [
     &[],
     &[""],
     &["Replay"],
@@ -243,6 +248,12 @@ const BAD_WORDS: [&[&str]; 21] = [
     &["--", "replay"],
     &["replay", "--"],
     &["replay", "x"],
+    &["replay", "--cluster-id"],
+    &["replay", "--cluster-id", "0"],
+    &["replay", "--member-id", "9223372036854775808"],
+    &["replay", "--member-id", "2", "--"],
+    &["replay", "--workers", "2"],
+    &["check", "--member-id", "2"],
     &["check", "--"],
     &["serve", "--help"],
     &["serve", "--listen"],
@@ -260,14 +271,16 @@ const BAD_WORDS: [&[&str]; 21] = [
     ],
 ];
 
-/// `replay` and `check`, each alone, and `serve` with its options are the commands.
+/// `check` alone, and `replay` and `serve` with their options are the commands.
 #[test]
 fn command_lines(rt: HostRuntime) -> Result<(), Fail> {
     let alloc = rt.alloc();
     for words in BAD_WORDS {
         assert!(rt; said_of(alloc, words)? == (3, None), "{words:?}");
     }
-    assert!(rt; said_of(alloc, &["replay"])? == (0, None));
+    assert!(rt; said_of(alloc, &["replay"])? == (0, Some((0, 0, 1, 1))));
+    let given = ["replay", "--member-id", "4", "--cluster-id", "9"];
+    assert!(rt; said_of(alloc, given.as_slice())? == (0, Some((0, 0, 9, 4))));
     assert!(rt; said_of(alloc, &["check"])? == (1, None));
     let least = said_of(alloc, &["serve", "--listen", "x"])?;
     assert!(rt; least == (2, Some((8, 0, 1, 1))));

@@ -1,5 +1,9 @@
+use Rattle.command_line.proofs.Beginning.{on_ok}
 use Rattle.command_line.proofs.Closing.{of_core}
 use Rattle.command_line.proofs.control.controlled_revision.Goals as goal
 
-pub returns : goal.returns
-returns g c = of_core c.pool_directed.result c.ended.result c.pool_directed.ensures.stands c.ended.ensures
+pub returns-in-Ok-clause-revision : goal.returns-in-Ok-clause-revision
+returns-in-Ok-clause-revision g c = of_core c.pool_directed.result c.ended.result c.pool_directed.ensures.stands c.ended.ensures
+
+pub returns-in-Ok-clause-begins : goal.returns-in-Ok-clause-begins
+returns-in-Ok-clause-begins g c = on_ok c.ended.result c.in-Ok.ensures.begins

@@ -1,5 +1,9 @@
+use Rattle.command_line.proofs.Beginning.{begun_too}
 use Rattle.command_line.proofs.Closing.{told_of_core}
 use Rattle.command_line.proofs.serving.serve_by.Goals as goal
 
 pub returns-clause-ok : goal.returns-clause-ok
 returns-clause-ok g c = told_of_core _ _ c.tell_end.result c.run_server.result c.tell_end.ensures.ok c.run_server.ensures.revision
+
+pub returns-clause-begins : goal.returns-clause-begins
+returns-clause-begins g c = begun_too c.tell_end.result c.run_server.result _ c.tell_end.ensures.ok c.run_server.ensures.begins

@@ -13,4 +13,5 @@ returns c =
     let four = c.in_ok-arg-4.ensures.shape c.number-3.ensures.local ∙ ap₂ with_rule three c.number-3.ensures.rule in
     let five = c.in_ok-arg-5.ensures.shape c.number-4.ensures.local ∙ ap₂ with_rule four c.number-4.ensures.rule in
     let six = c.in_ok-arg-6.ensures.shape c.switch.ensures.local ∙ ap₂ with_rule five c.switch.ensures.rule in
-    IfOk-weaker c.arg-7.result _ _ (λ r h. h.shape c.text.ensures.local ∙ ap₂ with_rule six c.text.ensures.rule) c.arg-7.ensures
+    let seven = c.in_ok-arg-7.ensures.shape c.text.ensures.local ∙ ap₂ with_rule six c.text.ensures.rule in
+    IfOk-weaker c.arg-8.result _ _ (λ r h. h.shape c.text-2.ensures.local ∙ ap₂ with_rule seven c.text-2.ensures.rule) c.arg-8.ensures

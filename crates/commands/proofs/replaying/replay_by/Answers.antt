@@ -2,7 +2,7 @@
 use Rattle.std.proofs.Common.{◌≡◌, true}
 use Rattle.commands.specs.Faults.{is_write}
 use Rattle.commands.proofs.Writing.{whole_answers, front_answers}
-use Rattle.commands.proofs.replaying.replay.Goals as goal
+use Rattle.commands.proofs.replaying.replay_by.Goals as goal
 
 pub returns-in-Ok-clause-ok : goal.returns-in-Ok-clause-ok
 returns-in-Ok-clause-ok g c =
