@@ -1,0 +1,6 @@
+pub mod Prefixes
+pub mod Adding
+pub mod Counting
+pub mod Histories
+pub mod Giving
+pub mod Publishing

@@ -1,0 +1,225 @@
+//! What stands under the lock beside the core: the list, and how many events each holder made.
+ghost use Rattle.std.specs.Prelude.{None, ◌≡◌, ◌<◌, ◌+◌, ◌==◌, ◌++◌, ◌∷◌, [], true, All, length, replicate, slice_index_or, slice_set};
+ghost use Rattle.std.specs.List.{list_any};
+ghost use Rattle.event_book.specs.Callers.{made_by_all};
+
+use crate::MOST_HOLDERS;
+use crate::book::{Book, Front, Noted};
+use crate::holder::Holder;
+use crate::naming::{ListName, Opening};
+use crate::roster::Roster;
+use logbook::Plain;
+use std::marker::Model;
+use std::sync::Wait;
+use std::sync::ledger::{self, Share};
+
+/// The list `L`, for the one who holds the lock that this stands under. Clauses see the list.
+#[derive(Drop)]
+pub struct Listing<L: ListName> {
+    list: Book,
+    front: Front,
+    total: ledger::Book<L>,
+    counts: [u64; MOST_HOLDERS],
+}
+
+impl<L: ListName> Model for Listing<L> {
+    ghost use Rattle.std.specs.Prelude.{◌≡◌, List, length};
+    ghost use Rattle.std.specs.Coded.{codes};
+    ghost use Rattle.kv_model.specs.contracts.call.Command as commands;
+    ghost use Rattle.event_book.specs.Events.{Entry, IsHistory};
+    ghost use Rattle.event_book.specs.Lists.{AreCounted};
+
+    ghost Value = { List Entry };
+
+    ghost coded = { Prim.hlevel (codes, commands.the_row.coded) };
+
+    ghost view = { λ l. l.front.list };
+
+    ghost invariant = { λ l. (l.list ≡ L.book) × (l.front.book ≡ L.book)
+        × IsHistory L.ids l.front.list × (l.total.total ≡ length l.front.list)
+        × AreCounted l.counts l.front.list };
+}
+
+impl<L: ListName> Listing<L> {
+    ghost use Rattle.event_book.specs.Callers.{Adds, Caller, Owns, Shows, made_by};
+    ghost use Rattle.event_book.specs.Events.{Answers, IsAskedFor, IsHistory, clocked, events_by, led_to};
+
+    /// A list without an event, and the roster of its holders, of whom there is none. Takes no
+    /// memory.
+    pub fn new(opening: Opening) -> (Listing<L>, Roster<L>)
+        requires name { opening.name ≡ L.Ledger.name }
+        requires parts { opening.parts ≡ L.Ledger.parts }
+        requires book { opening.book ≡ L.book }
+        ensures log { result.0 ≡ [] }
+        ensures holders { result.1 ≡ 0 }
+    {
+        let Opening { blank, list, front } = opening;
+        let (total, rest) = blank.open::<L>();
+        let roster = Roster {
+            rest,
+            holders: 0,
+            front: front.again(),
+        };
+        (
+            Listing {
+                list,
+                front,
+                total,
+                counts: no_counts(),
+            },
+            roster,
+        )
+    }
+
+    /// The list is a history. Takes no memory, and does nothing.
+    pub fn audit(&self)
+        ensures { IsHistory L.ids self.now }
+    {
+        let _ = &self.front;
+    }
+
+    /// Enters an event that this holder made, with its outcome: it is the last of the list, and the
+    /// holder has seen the list up to it. The outcome has to be the model's in the world that the
+    /// list leads to. Takes no memory, constant time.
+    ///
+    /// `about` is what the entry is read from, in the proofs alone: `M` says which it is.
+    ///
+    /// It waits for ever where the list has more events than are counted here, or the holder more of
+    /// its own, and where 2^62 are listed. That never comes, since only who holds this enters events;
+    /// but nothing that a book can say tells so.
+    pub fn enter<R: Wait, X, M: Plain<X, Noted, u64>>(
+        &mut self,
+        rt: &R,
+        holder: &mut Holder<L>,
+        about: &X,
+    )
+        requires state { M.state about.now ≡ None }
+        requires by { (M.ask about.now).by ≡ holder.old.number }
+        requires answers { Answers L.ids (clocked (led_to self.old) (M.ask about.now).event)
+            (M.ask about.now).event (M.ask about.now).outcome }
+        requires asked { IsAskedFor (M.ask about.now).event }
+        ensures log { self.new ≡ self.old ++ M.ask about.now ∷ [] }
+        ensures adds { Adds L.ids holder.old (M.ask about.now).about (M.ask about.now).event
+            (M.ask about.now).outcome holder.new }
+        ensures front { holder.new.front ≡ self.new }
+    {
+        let number = holder.number;
+        let count = holder.count;
+        sure(rt, self.knows(&*holder));
+        sure(rt, count < MOST);
+        let Listing {
+            list,
+            front,
+            total,
+            counts,
+        } = self;
+        let added = front.add::<X, M>(list, &mut holder.front, about);
+        sure(rt, added);
+        counts[number] = count + 1;
+        holder.count = count + 1;
+        total.add(&mut holder.share, 1);
+    }
+
+    /// Shows the holder the whole list. Takes no memory, constant time. It waits for ever where
+    /// [`Listing::enter`] does.
+    pub fn show<R: Wait>(&self, rt: &R, holder: &mut Holder<L>)
+        ensures shows { Shows holder.old holder.new }
+        ensures front { holder.new.front ≡ self.now }
+    {
+        sure(rt, self.knows(&*holder));
+        sure(rt, self.front.begins_with(&holder.front));
+        holder.front = self.front.again();
+    }
+
+    /// The list's end, where all holders came back: they made all of its events. Takes no memory.
+    pub fn finish(self, roster: Roster<L>, holders: Vec<Holder<L>>)
+        requires { length holders.items ≡ roster }
+        ensures { length self ≡ made_by_all holders.items }
+    {
+        let Listing { total, .. } = self;
+        let Roster { rest, .. } = roster;
+        let mut total = total;
+        let mut all = merge_all(rest, holders);
+        total.audit(&mut all);
+    }
+
+    /// Whether each of these has seen all of its own events.
+    pub(crate) fn owned_by(&self, holders: &Vec<Holder<L>>) -> bool
+        ensures { result ≡ true → All (Owns self.now) holders.now.items }
+    {
+        for index in 0..holders.len() {
+            if !self.owns(&holders[index]) {
+                return false;
+            }
+        }
+        true
+    }
+
+    /// Whether the holder made as many events as are counted here.
+    fn knows(&self, holder: &Holder<L>) -> bool
+        ensures { result ≡ true → length (events_by holder.now.number self.now) ≡ made_by holder.now }
+    {
+        self.counts[holder.number] == holder.count
+    }
+
+    /// Whether this one has seen all of its own events.
+    fn owns(&self, holder: &Holder<L>) -> bool
+        ensures { result ≡ true → Owns self.now holder.now }
+    {
+        self.knows(holder) && self.front.begins_with(&holder.front)
+    }
+
+    /// Whether each event is of one of these.
+    pub(crate) fn known_by(&self, holders: &Vec<Holder<L>>) -> bool
+        ensures { result ≡ true → All (λ e. list_any (λ (c : Caller). c.number == e.by) holders.now.items ≡ true) self.now }
+    {
+        for number in 0..MOST_HOLDERS {
+            if self.counts[number] > 0 && !has_number(holders, number) {
+                return false;
+            }
+        }
+        true
+    }
+}
+
+/// No holder's count beyond this.
+const MOST: u64 = 1 << 62;
+
+/// No holder made an event.
+fn no_counts() -> [u64; MOST_HOLDERS]
+    ensures { result ≡ replicate 64 0 }
+{
+    [0; MOST_HOLDERS]
+}
+
+/// Returns where it is so.
+fn sure<R: Wait>(rt: &R, is_so: bool)
+    ensures { is_so ≡ true }
+{
+    for _ in rt.forever() {
+        if is_so {
+            return;
+        }
+    }
+    unreachable!()
+}
+
+/// Whether one of these has the number.
+fn has_number<L: ListName>(holders: &Vec<Holder<L>>, number: usize) -> bool
+    ensures { result ≡ list_any (λ (c : _). c.number == number) holders.now.items }
+{
+    holders.iter().any(|holder| holder.number == number)
+}
+
+/// A share, and those of all these holders.
+fn merge_all<L: ListName>(rest: Share<L>, holders: Vec<Holder<L>>) -> Share<L>
+    ensures parts { result.parts ≡ rest.parts + length holders.items }
+    ensures amount { result.amount ≡ rest.amount + made_by_all holders.items }
+{
+    let mut rest = rest;
+    for holder in holders {
+        let Holder { share, .. } = holder;
+        rest.merge(share);
+    }
+    rest
+}
