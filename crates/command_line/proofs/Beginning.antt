@@ -1,5 +1,5 @@
 -- What a server began with, and why one did not begin.
-use Rattle.std.proofs.Common.{◌≡◌, ◌∙◌, ℕ, List, [], ◌∷◌, ◌++◌, map, length, None, Some, arith, Bool, true, false, Option, Result, Ok, Err, OnOk, IfErr, IfOk, MatchResult, refl, sym, ap, subst, is_ok, true≢false}
+use Rattle.std.proofs.Common.{◌≡◌, ◌∙◌, ℕ, List, [], ◌∷◌, ◌++◌, map, None, Some, Bool, true, false, Option, Result, Ok, Err, OnOk, IfErr, IfOk, MatchResult, refl, sym, ap, subst, is_ok, true≢false}
 use Rattle.kv_model.specs.declared.ids.Ids.{Ids}
 use Rattle.kv_model.specs.Wire.{WireEvent}
 use Rattle.engine_lock.specs.Locked.{Caller}
@@ -98,21 +98,25 @@ server_writes_nothing (Err (fault.Unplayed n)) h = absurd h
 server_writes_nothing (Err (fault.Address x)) h = absurd h
 
 -- what holds where a server has ended holds where that was told
-pub begun_too : {T E P : Type 0} (r : Result T E) (ended : Result ℕ Fault) (Q : ℕ → Type 0) → OnOk r (MatchResult ended Q (λ f. ⊥)) → OnOk ended P → OnOk r P
-begun_too (Err e) ended Q told begins = tt
-begun_too (Ok x) (Err f) Q told begins = absurd told
-begun_too (Ok x) (Ok n) Q told begins = begins
+pub begun_too : {T E : Type 0} (P : Type 0) (r : Result T E) (ended : Result ℕ Fault) (Q : ℕ → Type 0) → OnOk r (MatchResult ended Q (λ f. ⊥)) → OnOk ended P → OnOk r P
+begun_too P (Err e) ended Q told begins = tt
+begun_too P (Ok x) (Err f) Q told begins = absurd told
+begun_too P (Ok x) (Ok n) Q told begins = begins
 
 -- no line of an empty script stops a server
+abbrev has_line : {A : Type 0} → List A → Bool
+has_line [] = false
+has_line (x ∷ xs) = true
+
 no_line : {A : Type 0} (before later : List A) (line : A) → [] ≡ before ++ line ∷ later → ⊥
-no_line [] later line e = absurd (omega (arith, ap length e))
-no_line (b ∷ before) later line e = absurd (omega (arith, ap length e))
+no_line [] later line e = true≢false (sym (ap has_line e))
+no_line (b ∷ before) later line e = true≢false (sym (ap has_line e))
 
 pub without_lines : (ids : Ids) (lines : List (Option WireEvent)) (f : Fault) → lines ≡ [] → StopsServing ids lines f → IsOfRun f
 without_lines ids lines fault.Memory none stops = tt
 without_lines ids lines (fault.Server front) none stops = stops
-without_lines ids lines (fault.NoEvent n) none (c, d, new, before, later, are, rest) = no_line (map Some before) later None (sym none ∙ are)
-without_lines ids lines (fault.Unplayed n) none (c, d, new, before, event, later, t, are, rest) = no_line (map Some before) later (Some event) (sym none ∙ are)
+without_lines ids lines (fault.NoEvent n) none (c, d, new, stops) = absurd (no_line (map Some stops.0) stops.1 None (sym none ∙ stops.2))
+without_lines ids lines (fault.Unplayed n) none (c, d, new, stops) = absurd (no_line (map Some stops.0) stops.2 (Some stops.1) (sym none ∙ stops.4))
 without_lines ids lines fault.Arguments none (c, d, new, stops) = absurd stops
 without_lines ids lines (fault.Read x) none (c, d, new, stops) = absurd stops
 without_lines ids lines fault.Endless none (c, d, new, stops) = absurd stops

@@ -1,5 +1,5 @@
 -- What clap makes of a command that requires one of its subcommands.
-use Rattle.std.proofs.Common.{◌≡◌, List, [], ◌∷◌, length, map, get_or, Bool, true, false, not, ◌&&◌, Option, None, Some, option_map, cond, subst, codes, refl, sym, ap, ◌∙◌, arith, is_some, true≢false}
+use Rattle.std.proofs.Common.{◌≡◌, inl, inr, List, [], ◌∷◌, length, map, get_or, Bool, true, false, not, ◌&&◌, Option, None, Some, option_map, cond, subst, codes, refl, sym, ap, ◌∙◌, arith, is_some, true≢false}
 use Rattle.std.specs.List.{list_any}
 use Rattle.std.specs.Str.{bytes_eq}
 use Rattle.std.proofs.lemmas.Slice.Eq.{bytes_eq-Decides}
@@ -11,7 +11,7 @@ use Rattle.clap.specs.Facts.{explicit_source}
 use Rattle.clap.specs.Takes.{is_given, takes}
 use Rattle.clap.specs.Walk.{Held, Names, Outcome, Row, Rule, Step, Text, Walk, after_flag, after_step, arg_by_index, bundle, done, finished, idle, long_met, arg_by_long, long_or_other, nothing_held, plain, refused, settled, short_or_plain, subcommand_met, to_positional, trailing, next, subcommand, subcommand_or_other, value, waits, walk, walk_from, walked}
 use Rattle.clap.proofs.OnLiterals.{clap_on_literals}
-use Rattle.std.specs.Prelude.{Box, MatchOption, inl, inr}
+use Rattle.std.specs.Prelude.{Box, MatchOption}
 use Rattle.std.specs.Cmp.Lexicographic.{same_text}
 use Rattle.std.specs.Box.{box_value}
 use Rattle.clap.specs.Matches.{subcommand_name_of}

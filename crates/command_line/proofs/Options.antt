@@ -109,7 +109,7 @@ pub finds_no_memory : (words rest : List Text) (e : Error) (f : Fault) (a : App)
 finds_no_memory words rest e f a same is fails memory s asks =
     memory (no_kind (fault_of a rest) e (faults_are words rest a same is ∙ asks.taken) (fails (is_free_too a is)))
 
-abbrev pub has_some : Kinds → Bool
+abbrev has_some : Kinds → Bool
 has_some [] = false
 has_some (k ∷ ks) = true
 

@@ -15,8 +15,8 @@ use Rattle.clap.specs.declared.parser.matches.Found.{Found}
 use Rattle.clap.proofs.OnLiterals.{clap_on_literals}
 use Rattle.clap.proofs.WalkLemmas.{first_value-rows, one_text-rows}
 use Rattle.kv_model.specs.declared.ids.Ids.{Ids}
-use Rattle.command_line.proofs.Options.{has_some, no_kind}
-use Rattle.command_line.specs.Arguments.{AreFound, AreGiven, AreInRange, AsksToReplay, IsNumber, is_end_of_options, replaying}
+use Rattle.command_line.proofs.Options.{no_kind}
+use Rattle.command_line.specs.Arguments.{AreFound, AreGiven, AreInRange, AsksToReplay, IsNumber, asks_replay, is_end_of_options, replaying}
 use Rattle.commands.specs.declared.fault.Fault.{Fault}
 use Rattle.commands.specs.declared.fault.Fault.TheVariants as fault
 
@@ -91,9 +91,6 @@ pub finds_no_memory : (words rest : List Text) (e : Error) (f : Fault) (a : App)
 finds_no_memory words rest e f a same is fails memory s asks =
     memory (no_kind (fault_of a rest) e (faults_are words rest a same is ∙ asks.taken) (fails (is_free_too a is)))
 
-no_word_asks : (s : Ids) → AsksToReplay [] s → ⊥
-unfolding clap_on_literals replaying
-no_word_asks s asks = true≢false (ap has_some asks.taken)
-
-pub nothing_asks : (words : List Text) → length words ≡ 0 → (s : Ids) → AsksToReplay words s → ⊥
-nothing_asks words none s asks = no_word_asks s (subst (λ ws. AsksToReplay ws s) (nil_from_length words none) asks)
+-- no words ask for a replay
+pub nothing_asks : (words : List Text) → length words ≡ 0 → asks_replay words ≡ true → ⊥
+nothing_asks words none asks = true≢false (sym asks ∙ ap asks_replay (nil_from_length words none))

@@ -23,6 +23,7 @@ pub(crate) fn is_replay(words: &[String]) -> bool
 
 /// Reads the words of `replay`, the program's name first, and gives the ids by which it answers.
 pub(crate) fn replay_of(alloc: Global, words: &[String]) -> Result<Ids, Fault>
+    requires { asks_replay (map string_bytes words.now) ≡ true }
     ensures ok { IfOk result (AsksToReplay (map string_bytes words.now)) }
     ensures memory { IfErr result (λ fault. (ids : Ids)
         → AsksToReplay (map string_bytes words.now) ids → fault ≡ Fault.Memory) }

@@ -9,7 +9,7 @@ use Rattle.command_line.proofs.replaying.replay_of.Goals as goal
 
 pub returns-in_default-clause-memory : goal.returns-in_default-clause-memory
 returns-in_default-clause-memory c = λ s asks.
-    absurd (nothing_asks _ (length-map c.args.words.now string_bytes ∙ c.in_default.ensures.cases) s asks)
+    absurd (nothing_asks _ (length-map c.args.words.now string_bytes ∙ c.in_default.ensures.cases) c.requires)
 
 pub returns-then-ends_options-clause-memory : goal.returns-then-ends_options-clause-memory
 returns-then-ends_options-clause-memory c = λ s asks.

@@ -1,8 +1,11 @@
+use Rattle.std.proofs.Common.{subst}
+use Rattle.command_line.specs.From.{IsBegun}
+use Rattle.command_line.specs.Serving.{StopsServing}
 use Rattle.command_line.proofs.Beginning.{of_beginning, of_server, on_ok, server_writes_nothing, writes_nothing}
 use Rattle.command_line.proofs.serving.closed_revision.Goals as goal
 
 pub returns-in-Ok-clause-begins : goal.returns-in-Ok-clause-begins
-returns-in-Ok-clause-begins g c = on_ok c.run_pool.result c.in-Ok.ensures.begins
+returns-in-Ok-clause-begins g c = on_ok c.run_pool.result (subst (λ ids. IsBegun ids _) c.engine_of-engine.ensures c.in-Ok.ensures.begins)
 
 pub returns-in-Ok-clause-fault : goal.returns-in-Ok-clause-fault
 returns-in-Ok-clause-fault g c = server_writes_nothing c.run_pool.result c.run_pool.ensures.fault
@@ -14,4 +17,4 @@ pub returns-in-Err-clause-fault : goal.returns-in-Err-clause-fault
 returns-in-Err-clause-fault g c = writes_nothing _ _ c.in-Err.fault c.in-Err.ensures.fault
 
 pub returns-in-Err-clause-kind : goal.returns-in-Err-clause-kind
-returns-in-Err-clause-kind g c = of_beginning _ _ c.in-Err.fault c.in-Err.ensures.fault
+returns-in-Err-clause-kind g c = subst (λ ids. StopsServing ids _ c.in-Err.fault) c.engine_of-engine.ensures (of_beginning _ _ c.in-Err.fault c.in-Err.ensures.fault)

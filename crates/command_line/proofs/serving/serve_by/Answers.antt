@@ -1,3 +1,6 @@
+use Rattle.std.proofs.Common.{OnOk, subst, sym}
+use Rattle.command_line.specs.From.{IsBegun}
+use Rattle.command_line.specs.Serving.{ids_of}
 use Rattle.command_line.proofs.Beginning.{begun_too}
 use Rattle.command_line.proofs.Closing.{told_of_core}
 use Rattle.command_line.proofs.serving.serve_by.Goals as goal
@@ -6,4 +9,5 @@ pub returns-clause-ok : goal.returns-clause-ok
 returns-clause-ok g c = told_of_core _ _ c.tell_end.result c.run_server.result c.tell_end.ensures.ok c.run_server.ensures.revision
 
 pub returns-clause-begins : goal.returns-clause-begins
-returns-clause-begins g c = begun_too c.tell_end.result c.run_server.result _ c.tell_end.ensures.ok c.run_server.ensures.begins
+returns-clause-begins g c = subst (λ a. OnOk c.tell_end.result (IsBegun (ids_of a) _)) (sym c.in-Serve.is)
+    (begun_too _ c.tell_end.result c.run_server.result _ c.tell_end.ensures.ok c.run_server.ensures.begins)
