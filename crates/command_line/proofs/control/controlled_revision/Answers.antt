@@ -1,3 +1,4 @@
+use Rattle.commands.specs.Script.{line_events}
 use Rattle.std.proofs.Common.{subst}
 use Rattle.command_line.specs.From.{IsBegun}
 use Rattle.command_line.proofs.Beginning.{on_ok}
@@ -8,4 +9,4 @@ pub returns-in-Ok-clause-revision : goal.returns-in-Ok-clause-revision
 returns-in-Ok-clause-revision g c = of_core c.pool_directed.result c.ended.result c.pool_directed.ensures.stands c.ended.ensures
 
 pub returns-in-Ok-clause-begins : goal.returns-in-Ok-clause-begins
-returns-in-Ok-clause-begins g c = on_ok c.ended.result (subst (λ ids. IsBegun ids _) c.engine_of-engine.ensures c.in-Ok.ensures.begins)
+returns-in-Ok-clause-begins g c = on_ok c.ended.result (subst (λ ids. IsBegun ids (line_events c.args.start.script.items)) c.engine_of-engine.ensures.ids c.in-Ok.ensures.begins)

@@ -1,3 +1,4 @@
+use Rattle.commands.specs.Script.{line_events}
 use Rattle.std.proofs.Common.{subst, sym}
 use Rattle.command_line.specs.From.{IsBegun}
 use Rattle.command_line.specs.Serving.{ids_of}
@@ -6,4 +7,4 @@ use Rattle.command_line.proofs.control.serve_controlled.Goals as goal
 
 pub returns-in-Ok-clause-begins : goal.returns-in-Ok-clause-begins
 returns-in-Ok-clause-begins g c = on_ok c.close.result
-    (subst (λ a. IsBegun (ids_of a) _) (sym c.in-Serve.is) (when_ok c.run_controlled-ended.result c.in-Ok.ensures.ended c.run_controlled-ended.ensures.begins))
+    (subst (λ a. IsBegun (ids_of a) (line_events c.args.start.script.items)) (sym c.in-Serve.is) (when_ok c.run_controlled-ended.result c.in-Ok.ensures.ended c.run_controlled-ended.ensures.begins))

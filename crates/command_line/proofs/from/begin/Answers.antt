@@ -5,5 +5,5 @@ use Rattle.command_line.proofs.from.begin.Goals as goal
 
 pub returns-in-Ok-clause-fault : goal.returns-in-Ok-clause-fault
 returns-in-Ok-clause-fault g c =
-    let read = subst (λ t. IfErr c.went_on.result (StopsBeginning _ (line_events t))) c.as_slice.ensures.value c.went_on.ensures.fault in
-    subst (λ ids. IfErr c.went_on.result (StopsBeginning ids _)) c.in-Ok.ensures.engine read
+    let read = subst (λ t. IfErr c.went_on.result (StopsBeginning c.in-Ok.begun.engine (line_events t))) c.as_slice.ensures.value c.went_on.ensures.fault in
+    subst (λ ids. IfErr c.went_on.result (StopsBeginning ids (line_events c.args.script.items))) c.in-Ok.ensures.engine read

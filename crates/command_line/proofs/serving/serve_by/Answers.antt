@@ -1,3 +1,4 @@
+use Rattle.commands.specs.Script.{line_events}
 use Rattle.std.proofs.Common.{OnOk, subst, sym}
 use Rattle.command_line.specs.From.{IsBegun}
 use Rattle.command_line.specs.Serving.{ids_of}
@@ -9,5 +10,5 @@ pub returns-clause-ok : goal.returns-clause-ok
 returns-clause-ok g c = told_of_core _ _ c.tell_end.result c.run_server.result c.tell_end.ensures.ok c.run_server.ensures.revision
 
 pub returns-clause-begins : goal.returns-clause-begins
-returns-clause-begins g c = subst (λ a. OnOk c.tell_end.result (IsBegun (ids_of a) _)) (sym c.in-Serve.is)
+returns-clause-begins g c = subst (λ a. OnOk c.tell_end.result (IsBegun (ids_of a) (line_events c.args.start.script.items))) (sym c.in-Serve.is)
     (begun_too _ c.tell_end.result c.run_server.result _ c.tell_end.ensures.ok c.run_server.ensures.begins)
