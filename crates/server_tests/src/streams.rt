@@ -114,12 +114,7 @@ fn is_left_unread(alloc: Global, good: usize) -> bool {
 /// Whether a script that comes byte by byte is answered as one that comes whole.
 fn is_read(alloc: Global) -> bool {
     let mut written = Vec::new(alloc);
-    let ended = replay(
-        alloc,
-        &ONES,
-        &mut slow_reader(SCRIPT.len() + 1),
-        &mut written,
-    );
+    let ended = replay(alloc, &mut slow_reader(SCRIPT.len() + 1), &mut written);
     ended.is_ok() && written.as_slice() == REPLIES
 }
 
