@@ -17,6 +17,7 @@ use Rattle.gateway_read.specs.declared.bad.Bad.{Bad}
 use Rattle.gateway_read.specs.declared.bad.Bad.TheVariants.{NotJson, BadField, BadBase64, NoPath, TooLong, Memory}
 use Rattle.gateway_read.specs.Fields.{snake_of}
 use Rattle.request_core.specs.State.{CoreState, keeping_of}
+use Rattle.json_gateway.specs.declared.outcome.ReplyBody.TheVariants as body
 use Rattle.json_gateway.specs.declared.outcome.Settled.{Settled}
 use Rattle.json_gateway.specs.declared.outcome.Settled.TheVariants as settled
 use Rattle.json_gateway.specs.declared.outcome.Outcome.{Outcome}
@@ -62,12 +63,12 @@ unanswered changed now = if changed then settled.Lost now else settled.Memory
 
 -- an accepted command, by the body of its answer
 abbrev pub answered : Result (Vec ℕ Global) AllocError → Bool → ℕ → Settled
-answered (Ok body) changed now = settled.Reply (record { status = 200; body = body })
+answered (Ok bytes) changed now = settled.Reply (record { status = 200; body = body.Made bytes })
 answered (Err e) changed now = unanswered changed now
 
 -- a request that is refused, by the body of its refusal
 abbrev pub worded : ℕ → Result (Vec ℕ Global) AllocError → Settled
-worded status (Ok body) = settled.Reply (record { status = status; body = body })
+worded status (Ok bytes) = settled.Reply (record { status = status; body = body.Made bytes })
 worded status (Err e) = settled.Memory
 
 -- ---- refusals
