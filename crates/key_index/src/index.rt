@@ -7,20 +7,20 @@ ghost use Rattle.key_index.specs.Index.{IsIndex, found, in_interval, is_up_to, r
 ghost use Rattle.key_index.specs.Index.{retracted, retracted_newest, undone_at};
 ghost use Rattle.key_index.specs.Index.{with_revision, without_front, without_revision};
 
-use crate::changes;
-use crate::interval::bounds;
 use crate::revisions::Revisions;
+use crate::{changes, interval};
 use bytes::Bytes;
+use key_pages::{KeyPages, Walk};
+use kv_model::span::Span;
 use kv_model::version::{KeyRange, Rev, Version};
 use std::alloc::{AllocError, Global};
-use std::collections::BTreeMap;
 use std::marker::Model;
 
 /// The revisions of each key: an ordered map of the standard library.
 #[derive(Drop)]
 pub struct KeyIndex {
     alloc: Global,
-    keys: BTreeMap<Bytes, Revisions>,
+    keys: KeyPages<Revisions>,
     /// The newest main revision ever added. None in the index is above it.
     newest: u64,
 }
@@ -30,9 +30,9 @@ impl Model for KeyIndex {
 
     ghost Value = { Index };
 
-    ghost view = { λ x. x.keys.entries };
+    ghost view = { λ x. x.keys };
 
-    ghost invariant = { λ x. IsIndex x.keys.entries × IsBound x.newest x.keys.entries };
+    ghost invariant = { λ x. IsIndex x.keys × IsBound x.newest x.keys };
 }
 
 /// A key of the index, lent with its revisions.
@@ -51,7 +51,7 @@ impl KeyIndex {
     {
         KeyIndex {
             alloc,
-            keys: BTreeMap::new(alloc),
+            keys: KeyPages::new(alloc),
             newest: 0,
         }
     }
@@ -93,7 +93,7 @@ impl KeyIndex {
     fn is_up_to(&self, main: u64) -> bool
         ensures { result ≡ is_up_to main self.now }
     {
-        main >= self.newest || is_up_to(&self.keys, main)
+        main >= self.newest || is_up_to(self.keys.all(), main)
     }
 
     /// Drops what the keys of the changes have of a main revision at the end.
@@ -173,16 +173,26 @@ impl KeyIndex {
         ensures keys { IfOk result (λ v. map entry_of v.items ≡ in_interval range.now self.now) }
         ensures sound { IsIndex self.now }
     {
-        self.keys
-            .range(bounds(range))
-            .map(|(key, revisions)| Indexed { key, revisions })
-            .collect(self.alloc)
+        match range.span() {
+            Span::Key(key) => interval::first(self.alloc, self.keys.from(key), key),
+            Span::All => interval::all(self.alloc, self.keys.all()),
+            Span::From(from) => interval::all(self.alloc, self.keys.from(from)),
+            Span::Interval { from, to } => {
+                interval::all_below(self.alloc, self.keys.from(from), to)
+            }
+        }
     }
 }
 
 /// Whether no key has a revision of a later main revision. Walks over the keys, until one has.
-fn is_up_to(keys: &BTreeMap<Bytes, Revisions>, main: u64) -> bool
-    ensures { result ≡ is_up_to main keys.now.entries }
+fn is_up_to(walk: Walk<'_, Revisions>, main: u64) -> bool
+    ensures { result ≡ is_up_to main walk }
 {
-    keys.values().all(|revisions| revisions.ends_up_to(main))
+    let mut walk = walk;
+    'walking: while let Some((_, revisions)) = walk.next() {
+        if !revisions.ends_up_to(main) {
+            return false;
+        }
+    }
+    true
 }

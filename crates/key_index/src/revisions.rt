@@ -53,6 +53,15 @@ impl Revisions {
         }
     }
 
+    /// No revision. Takes no memory.
+    pub(crate) fn none() -> Self
+        ensures { result ≡ [] }
+    {
+        Revisions {
+            held: Held::Nothing,
+        }
+    }
+
     /// Whether there is no revision.
     pub(crate) fn is_empty(&self) -> bool
         ensures { result ≡ is_empty self.now }

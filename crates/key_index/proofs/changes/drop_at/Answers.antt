@@ -1,16 +1,12 @@
--- A key that is not there changes nothing, and one without revisions goes.
+-- What the key has goes out, changes, and goes back; a key that is not there changes nothing.
 use Rattle.std.proofs.Common.{refl, sym, ◌∙◌}
 use Rattle.key_index.specs.KeyRevisions.{without}
-use Rattle.key_index.proofs.Entries.{absent-changed, bare-changed}
+use Rattle.key_index.proofs.Exchanging.{absent-back, there-back}
 use Rattle.key_index.proofs.changes.drop_at.Goals as goal
 
-pub returns-in_default : goal.returns-in_default
-returns-in_default c =
-    rw c.get_mut.follows.holds-at-none
-    (absent-changed (without c.args.rev) refl c.args.key.now c.args.keys.now.entries (sym c.in_default.ensures.value))
+pub returns-then-swap : goal.returns-then-swap
+returns-then-swap c = c.put_back.ensures ∙ there-back (without c.args.rev) c.args.key.now _ _ _ c.args.keys.now _ c.swap.ensures.value c.drop_at.ensures c.swap.ensures.pairs
 
-pub returns-then-is_empty : goal.returns-then-is_empty
-returns-then-is_empty c =
-    bare-changed (without c.args.rev) refl c.args.key.now c.args.keys.now.entries c.in-Some.revisions.now c.drop_at.new.self _ _
-    c.in-Some.ensures.value c.drop_at.ensures (sym c.is_empty.ensures ∙ c.if-is_empty.true)
-    (c.get_mut.follows.holds c.drop_at.new.self).0 c.remove.ensures.entries
+pub returns-else-swap : goal.returns-else-swap
+returns-else-swap c =
+    c.swap.ensures.pairs ∙ absent-back (without c.args.rev) refl c.args.key.now _ c.args.keys.now (sym c.swap.ensures.there ∙ c.if-swap.false)
