@@ -121,7 +121,8 @@ fn are_begun<L: EngineName>(alloc: Global, streams: &mut Streams<L, Socket>) -> 
 fn has_got<L: EngineName>(streams: &Streams<L, Socket>, number: u64, count: usize) -> bool {
     match streams.get(number) {
         Some(line) => {
-            line.call() == 10 + number && line.writer().got.as_slice() == &EVENT[..count]
+            let got = line.writer().got.as_slice();
+            line.call() == number.wrapping_add(10) && got.len() == count && EVENT.starts_with(got)
         }
         None => false,
     }
