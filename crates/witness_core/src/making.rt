@@ -53,7 +53,7 @@ fn put_need(view: &View<'_>, version: &Version) -> Option<Need>
         ≡ put_need
         (is_superseded view.now.versions (max version.now.rev.main view.now.compacted) version.now)
         (nat_lt version.now.rev.main view.now.compacted
-            && is_next_at view.now.versions view.now.compacted version.now)
+        && is_next_at view.now.versions view.now.compacted version.now)
         (max version.now.rev.main view.now.compacted) view.now.compacted }
 {
     let compacted = view.compacted();
