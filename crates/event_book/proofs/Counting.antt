@@ -1,14 +1,17 @@
 -- How many events of a holder a list has.
-use Rattle.std.proofs.Common.{◌≡◌, ◌≢◌, ℕ, zero, suc, ◌+◌, ◌<◌, ◌≤◌, ◌==◌, Bool, true, false, cond, List, [], ◌∷◌, ◌++◌, All, length, refl, ap, sym, subst, ◌∙◌}
+use Rattle.std.proofs.Common.{◌≡◌, ◌≢◌, ℕ, zero, suc, ◌+◌, ◌<◌, ◌≤◌, ◌==◌, Bool, true, false, cond, ◌||◌, List, map, [], ◌∷◌, ◌++◌, All, length, refl, ap, sym, subst, ◌∙◌}
 use Rattle.std.proofs.Common.{arith, length-append}
-use Rattle.std.specs.Prelude.{replicate, slice_index_or, slice_set}
+use Rattle.std.specs.Prelude.{replicate, slice_index_or, slice_set, sum}
+use Rattle.std.specs.List.{list_any}
+use Rattle.std.proofs.lemmas.List.Folds.{list_any-append}
+use Rattle.std.proofs.lemmas.List.Sums.{sum_by_push}
 use Rattle.std.proofs.lemmas.Bool.Decides.{nat_tests}
-use Rattle.std.proofs.lemmas.List.{append-nil, get_or-replicate, get_or-set_same, get_or-set_other, length-set}
+use Rattle.std.proofs.lemmas.List.{append-nil, map-append, get_or-replicate, get_or-set_same, get_or-set_other, length-set}
 use Rattle.std.proofs.lemmas.List.Elements.{All-append, filter-append}
 use mathlib.Core.List.{IsPrefix}
 use Rattle.event_book.specs.Events.{Entry, events_by}
-use Rattle.event_book.specs.Callers.{Caller, Owns}
-use Rattle.event_book.specs.Lists.{AreCounted}
+use Rattle.event_book.specs.Callers.{AreAll, Caller, Owns, made_by, made_by_all}
+use Rattle.event_book.specs.Lists.{AreCounted, AreMarked, IsMarked}
 
 pub by_append : (n : ℕ) (xs ys : List Entry) → events_by n (xs ++ ys) ≡ events_by n xs ++ events_by n ys
 by_append n xs ys = filter-append (λ (e : Entry). e.by == n) xs ys
@@ -139,3 +142,60 @@ counted_first counts log c e = record {
   each = λ n lt. ap (λ (l : List ℕ). slice_index_or l n 0) c ∙ (get_or-replicate 64 n 0 0 lt ∙ sym (ap (λ l. length (events_by n l)) e));
   known = subst (All (λ (e : Entry). e.by < 64)) (sym e) (λ k d lt. absurd (omega (arith, lt)));
 }
+
+-- ---- whose numbers came back
+
+pub marked_first : (marks : List Bool) (list : List Caller) → marks ≡ replicate 64 false → list ≡ [] → AreMarked marks list
+marked_first marks list m e = record {
+  all = ap length m;
+  each = λ n lt. ap (λ (l : List Bool). slice_index_or l n false) m ∙ (get_or-replicate 64 n false false lt ∙ sym (ap (λ l. list_any (λ (c : Caller). c.number == n) l) e));
+}
+
+or_true : (b : Bool) → (b || true) ≡ true
+or_true true = refl
+or_true false = refl
+
+or_false : (b : Bool) → (b || false) ≡ b
+or_false true = refl
+or_false false = refl
+
+any_one : (n : ℕ) (c : Caller) → list_any (λ (c' : Caller). c'.number == n) (c ∷ []) ≡ (c.number == n)
+any_one n c = or_false (c.number == n)
+
+each_marked : (marks : List Bool) (list : List Caller) (c : Caller) (n : ℕ) → AreMarked marks list → c.number < length marks → n < 64
+    → (b : Bool) → (c.number == n) ≡ b
+    → slice_index_or (slice_set marks c.number true) n false ≡ (list_any (λ (c' : Caller). c'.number == n) list || b)
+each_marked marks list c n h room lt true same =
+    let at : c.number ≡ n = grind (arith, nat_tests) in
+    subst (λ (k : ℕ). slice_index_or (slice_set marks c.number true) k false ≡ true) at (get_or-set_same marks c.number true false room)
+    ∙ sym (or_true (list_any (λ (c' : Caller). c'.number == n) list))
+each_marked marks list c n h room lt false same =
+    let other : n ≢ c.number = λ at. absurd (grind (arith, nat_tests)) in
+    get_or-set_other marks c.number n true false other ∙ (h.each n lt ∙ sym (or_false (list_any (λ (c' : Caller). c'.number == n) list)))
+
+-- the number of one that comes back is marked
+pub marked_more : (marks : List Bool) (list : List Caller) (c : Caller) → AreMarked marks list → c.number < 64
+    → AreMarked (slice_set marks c.number true) (list ++ c ∷ [])
+marked_more marks list c h few = record {
+  all = length-set marks c.number true ∙ h.all;
+  each = λ n lt. each_marked marks list c n h (omega (arith, h.all, few)) lt (c.number == n) refl
+      ∙ sym (list_any-append (λ (c' : Caller). c'.number == n) list (c ∷ []) ∙ ap (λ b. list_any (λ (c' : Caller). c'.number == n) list || b) (any_one n c));
+}
+
+-- one holder more made its own events, too
+pub made_more : (list : List Caller) (c : Caller) → made_by_all (list ++ c ∷ []) ≡ made_by_all list + made_by c
+made_more list c = ap sum (map-append made_by list (c ∷ [])) ∙ sum_by_push (λ (k : ℕ). k) (map made_by list) (made_by c)
+
+-- each event is of one that came back, where its number is marked
+pub all_marked : (marks : List Bool) (list : List Caller) (log : List Entry) → AreMarked marks list → All (λ e. IsMarked marks e.by) log
+    → All (Owns log) list → AreAll log list
+all_marked marks list log h is owns = record {
+  owns = owns;
+  each = λ k d lt. sym (h.each (slice_index_or log k d).by (is k d lt).0) ∙ (is k d lt).1;
+}
+
+-- and that is so of each event where it is of each number of which there is one
+pub marked_all : (marks : List Bool) (log : List Entry)
+    → ((n : ℕ) → n < 64 → 0 < length (events_by n log) → slice_index_or marks n false ≡ true)
+    → All (λ e. e.by < 64) log → All (λ e. IsMarked marks e.by) log
+marked_all marks log is known k d lt = (known k d lt, known_all (λ n. slice_index_or marks n false) log is known k d lt)

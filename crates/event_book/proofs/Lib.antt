@@ -4,3 +4,4 @@ pub mod Counting
 pub mod Histories
 pub mod Giving
 pub mod Publishing
+pub mod Raising

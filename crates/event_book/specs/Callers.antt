@@ -60,3 +60,8 @@ made_by c = length (events_by c.number c.front)
 -- and how many they have together
 abbrev pub made_by_all : List Caller → ℕ
 made_by_all holders = sum (map made_by holders)
+
+-- how many holders were made, and those that came back, in order
+pub record Back : Type 0 where
+  pub holders : ℕ
+  pub list : List Caller

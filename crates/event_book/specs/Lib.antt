@@ -3,6 +3,8 @@ pub mod Events
 pub mod Callers
 pub mod Rules
 pub mod Lists
+pub mod CameBack
 pub mod Publishing
 pub mod PublishingLaws
 pub mod GivingLaws
+pub mod Raising

@@ -1,6 +1,7 @@
 //! Laws of what readers beside the lock are told, and of what a holder was given by several calls, each
 //! the contract of a function that does nothing.
 ghost use Rattle.event_book.specs.GivingLaws.{AddsOne, GivesBoth, GivesTheirs, ShowsNone};
+ghost use Rattle.event_book.specs.Raising.{RaisedAll};
 ghost use Rattle.event_book.specs.PublishingLaws.{PublishedSays, PublishedMore, PublishedPrefix, RefusedIsUntold};
 
 /// What is told of all events says what the world that they lead to is, but for its leases and
@@ -42,4 +43,9 @@ pub fn gives_both()
 /// Of what a holder was given, those about what it names by a number are those of them that are.
 pub fn gives_theirs()
     ensures { GivesTheirs }
+{}
+
+/// Where all holders came back, the revision is 1 and what the events of each raised it by.
+pub fn raised_all()
+    ensures { RaisedAll }
 {}

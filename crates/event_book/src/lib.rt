@@ -11,8 +11,8 @@
 //! which the list leads to. Who makes an event on that core enters it there, by a [`Holder`] of its
 //! own. What that says is one record, `Adds` in `specs/Callers.antt`: the list grew by events of
 //! others, and then by just this one, and the holder has seen it up to it. A [`Roster`] stands
-//! beside the engine and makes holders, so nobody to whom it is not lent can make one. For example,
-//! where `a` and `b` are two holders:
+//! beside the engine and makes holders, so nobody to whom it is not lent can make one. At the end it
+//! is a [`Returned`], to which the holders come back. For example, where `a` and `b` are two holders:
 //!
 //! ```text
 //!                          list                       seen by a, b
@@ -21,8 +21,8 @@
 //! enter of a: put a = 1    [put]                      [put], []
 //! enter of b: range a      [put, range]               [put], [put, range]
 //! show of a                [put, range]               both, both
-//! has_all of a             false: b may have made the range
-//! has_all of a, b          true, and finish: they made two events
+//! add of a, of b           [put, range]               they came back
+//! finish                   they made two events, which are all
 //! ```
 //!
 //! What readers beside the lock are told of a list is `published_by` in `specs/Publishing.antt`; the
@@ -33,16 +33,19 @@
 #![tactic(auto)]
 
 mod book;
+mod came;
 mod holder;
 pub mod laws;
 mod listing;
 mod naming;
+mod returned;
 mod roster;
 
 pub use book::{Book, Front, Noted, open};
 pub use holder::Holder;
 pub use listing::Listing;
 pub use naming::{ListName, Opening};
+pub use returned::Returned;
 pub use roster::Roster;
 
 /// How many holders one list has in its life, at most.

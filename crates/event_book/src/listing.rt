@@ -1,7 +1,5 @@
 //! What stands under the lock beside the core: the list, and how many events each holder made.
-ghost use Rattle.std.specs.Prelude.{None, ◌≡◌, ◌<◌, ◌+◌, ◌==◌, ◌++◌, ◌∷◌, [], true, All, length, replicate, slice_index_or, slice_set};
-ghost use Rattle.std.specs.List.{list_any};
-ghost use Rattle.event_book.specs.Callers.{made_by_all};
+ghost use Rattle.std.specs.Prelude.{None, ◌≡◌, ◌<◌, ◌+◌, ◌++◌, ◌∷◌, [], true, All, length, replicate, slice_index_or, slice_set};
 
 use crate::MOST_HOLDERS;
 use crate::book::{Book, Front, Noted};
@@ -10,8 +8,7 @@ use crate::naming::{ListName, Opening};
 use crate::roster::Roster;
 use logbook::Plain;
 use std::marker::Model;
-use std::sync::Wait;
-use std::sync::ledger::{self, Share};
+use std::sync::{Wait, ledger};
 
 /// The list `L`, for the one who holds the lock that this stands under. Clauses see the list.
 #[derive(Drop)]
@@ -41,8 +38,9 @@ impl<L: ListName> Model for Listing<L> {
 }
 
 impl<L: ListName> Listing<L> {
-    ghost use Rattle.event_book.specs.Callers.{Adds, Caller, Owns, Shows, made_by};
+    ghost use Rattle.event_book.specs.Callers.{Adds, Owns, Shows, made_by};
     ghost use Rattle.event_book.specs.Events.{Answers, IsAskedFor, IsHistory, clocked, events_by, led_to};
+    ghost use Rattle.event_book.specs.Lists.{IsMarked};
 
     /// A list without an event, and the roster of its holders, of whom there is none. Takes no
     /// memory.
@@ -131,30 +129,6 @@ impl<L: ListName> Listing<L> {
         holder.front = self.front.again();
     }
 
-    /// The list's end, where all holders came back: they made all of its events. Takes no memory.
-    pub fn finish(self, roster: Roster<L>, holders: Vec<Holder<L>>)
-        requires { length holders.items ≡ roster }
-        ensures { length self ≡ made_by_all holders.items }
-    {
-        let Listing { total, .. } = self;
-        let Roster { rest, .. } = roster;
-        let mut total = total;
-        let mut all = merge_all(rest, holders);
-        total.audit(&mut all);
-    }
-
-    /// Whether each of these has seen all of its own events.
-    pub(crate) fn owned_by(&self, holders: &Vec<Holder<L>>) -> bool
-        ensures { result ≡ true → All (Owns self.now) holders.now.items }
-    {
-        for index in 0..holders.len() {
-            if !self.owns(&holders[index]) {
-                return false;
-            }
-        }
-        true
-    }
-
     /// Whether the holder made as many events as are counted here.
     fn knows(&self, holder: &Holder<L>) -> bool
         ensures { result ≡ true → length (events_by holder.now.number self.now) ≡ made_by holder.now }
@@ -163,22 +137,30 @@ impl<L: ListName> Listing<L> {
     }
 
     /// Whether this one has seen all of its own events.
-    fn owns(&self, holder: &Holder<L>) -> bool
+    pub(crate) fn owns(&self, holder: &Holder<L>) -> bool
         ensures { result ≡ true → Owns self.now holder.now }
     {
         self.knows(holder) && self.front.begins_with(&holder.front)
     }
 
-    /// Whether each event is of one of these.
-    pub(crate) fn known_by(&self, holders: &Vec<Holder<L>>) -> bool
-        ensures { result ≡ true → All (λ e. list_any (λ (c : Caller). c.number == e.by) holders.now.items ≡ true) self.now }
+    /// Whether each number is marked of which there is an event.
+    pub(crate) fn known_by(&self, marks: &[bool; MOST_HOLDERS]) -> bool
+        ensures { result ≡ true → All (λ e. IsMarked marks.now e.by) self.now }
     {
         for number in 0..MOST_HOLDERS {
-            if self.counts[number] > 0 && !has_number(holders, number) {
+            if self.counts[number] > 0 && !marks[number] {
                 return false;
             }
         }
         true
+    }
+
+    /// What counts the events in shares.
+    pub(crate) fn into_total(self) -> ledger::Book<L>
+        ensures { result.total ≡ length self }
+    {
+        let Listing { total, .. } = self;
+        total
     }
 }
 
@@ -193,7 +175,7 @@ fn no_counts() -> [u64; MOST_HOLDERS]
 }
 
 /// Returns where it is so.
-fn sure<R: Wait>(rt: &R, is_so: bool)
+pub(crate) fn sure<R: Wait>(rt: &R, is_so: bool)
     ensures { is_so ≡ true }
 {
     for _ in rt.forever() {
@@ -202,24 +184,4 @@ fn sure<R: Wait>(rt: &R, is_so: bool)
         }
     }
     unreachable!()
-}
-
-/// Whether one of these has the number.
-fn has_number<L: ListName>(holders: &Vec<Holder<L>>, number: usize) -> bool
-    ensures { result ≡ list_any (λ (c : _). c.number == number) holders.now.items }
-{
-    holders.iter().any(|holder| holder.number == number)
-}
-
-/// A share, and those of all these holders.
-fn merge_all<L: ListName>(rest: Share<L>, holders: Vec<Holder<L>>) -> Share<L>
-    ensures parts { result.parts ≡ rest.parts + length holders.items }
-    ensures amount { result.amount ≡ rest.amount + made_by_all holders.items }
-{
-    let mut rest = rest;
-    for holder in holders {
-        let Holder { share, .. } = holder;
-        rest.merge(share);
-    }
-    rest
 }

@@ -1,11 +1,11 @@
 //! Who there is to enter events.
-ghost use Rattle.std.specs.Prelude.{◌≡◌, ◌+◌, ◌≤◌, [], true, IfNone, IfSome, OnSome, length};
+ghost use Rattle.std.specs.Prelude.{◌≡◌, ◌+◌, ◌≤◌, [], IfNone, IfSome, OnSome};
 
 use crate::MOST_HOLDERS;
 use crate::book::Front;
 use crate::holder::Holder;
-use crate::listing::Listing;
 use crate::naming::ListName;
+use crate::returned::Returned;
 use std::marker::Model;
 use std::sync::ledger::Share;
 
@@ -31,8 +31,6 @@ impl<L: ListName> Model for Roster<L> {
 }
 
 impl<L: ListName> Roster<L> {
-    ghost use Rattle.event_book.specs.Callers.{AreAll};
-
     /// One more holder, which has seen nothing of the list yet. None comes after 64. Takes no memory.
     pub fn holder(&mut self) -> Option<Holder<L>>
         ensures number { IfSome result (λ h. h.number ≡ self.old) }
@@ -54,16 +52,18 @@ impl<L: ListName> Roster<L> {
         })
     }
 
-    /// Whether these are all holders that were made: each event of the list is then one of theirs,
-    /// and each of them has seen all of its own. Takes no memory; the time is that of 64 comparisons
-    /// for each of them.
-    pub fn has_all(&self, listing: &Listing<L>, holders: &Vec<Holder<L>>) -> bool
-        ensures all { result ≡ true → AreAll listing.now holders.now.items }
-        ensures number { result ≡ true → length holders.now.items ≡ self.now }
+    /// How many holders were made. Takes no memory.
+    pub fn holders(&self) -> usize
+        ensures { result ≡ self.now }
     {
-        if holders.len() != self.holders {
-            return false;
-        }
-        listing.owned_by(holders) && listing.known_by(holders)
+        self.holders
+    }
+
+    /// No holder more is made, and none came back yet. Takes no memory.
+    pub fn returned(self) -> Returned<L>
+        ensures { result ≡ record { holders = self; list = [] } }
+    {
+        let Roster { rest, holders, .. } = self;
+        Returned::of(rest, holders)
     }
 }
