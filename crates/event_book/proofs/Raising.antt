@@ -5,7 +5,6 @@ use Rattle.std.specs.List.{list_any}
 use Rattle.std.proofs.lemmas.Bool.Decides.{nat_tests}
 use Rattle.std.proofs.lemmas.List.Elements.{All-head, All-tail}
 use Rattle.std.proofs.lemmas.List.Sums.{sum_by-cons}
-use Rattle.kv_model.specs.declared.ids.Ids.{Ids}
 use Rattle.kv_model.specs.Commands.{call_of}
 use Rattle.kv_model.specs.Follows.{Outcome}
 use Rattle.kv_model.specs.Step.{expire, perform}
@@ -14,10 +13,10 @@ use Rattle.kv_model.specs.Wire.{WireOutcome, raised}
 use Rattle.kv_model.specs.World.{World, at_moment, opening, revision, watch_at}
 use Rattle.store_laws.specs.Growth.{RaisesByOne}
 use Rattle.store_laws.proofs.RaiseLaws.{command_raises, expiry_raises}
-use Rattle.event_book.specs.Asking.{Asking}
-use Rattle.event_book.specs.Callers.{Adds, Caller, Owns, Shows, made_by, made_by_all}
+use Rattle.event_book.specs.Callers.{Caller, Owns, made_by, made_by_all}
 use Rattle.event_book.specs.Events.{Entry, Event, after, clocked, entry, events_by, led_to, left_by, made_of}
-use Rattle.event_book.specs.Raising.{RaisedAll, raised_by, raised_from, raises, rise_of, was_made}
+use Rattle.event_book.specs.Raising.{raised_by, raised_from, raises, rise_of}
+use Rattle.event_book.specs.RaisingLaws.{RaisedAdds, RaisedAll, RaisedShows, RiseCommand, RiseExpiry}
 use Rattle.event_book.proofs.Counting.{none_between}
 
 -- ---- lists that grow
@@ -40,8 +39,7 @@ own_rise : (n : ℕ) (r : ℕ) → cond (n == n) r 0 ≡ r
 own_rise n r = let own : (n == n) ≡ true = grind (arith, nat_tests) in ap (λ (b : Bool). cond b r 0) own
 
 -- a call that enters an event raises by what that event does
-pub raised_adds : (ids : Ids) (c later : Caller) (about : ℕ) (e : Event) (o : WireOutcome) (a : Adds ids c about e o later)
-    → raises later ≡ raises c + rise_of (led_to (c.front ++ a.between)) (entry c.number about e o)
+pub raised_adds : RaisedAdds
 raised_adds ids c later about e o a =
     let n = c.number in
     let one : Entry = entry n about e o in
@@ -55,7 +53,7 @@ raised_adds ids c later about e o a =
     omega (arith, named, parts, before, none, own_rise n (rise_of w one))
 
 -- one that shows the list raises nothing
-pub raised_shows : (c later : Caller) → Shows c later → raises later ≡ raises c
+pub raised_shows : RaisedShows
 raised_shows c later s =
     let named : raises later ≡ raised_by c.number (c.front ++ s.between) =
     ap (λ k. raised_by k later.front) s.number ∙ ap (raised_by c.number) s.grows in
@@ -111,9 +109,7 @@ rise_by w u v at (inr h) =
     let one : revision u - revision w ≡ 1 = omega (arith, h.0, at) in one ∙ sym (ap (λ (o : Option ℕ). cond (is_some o) 1 0) h.1)
 
 -- a command that was made raises by one where it tells that it did
-pub rise_command : (w : World) (by about now : ℕ) (asking : Asking) (o : WireOutcome) → was_made o ≡ true
-    → rise_of w (entry by about (Event.command now asking) o)
-    ≡ cond (is_some (raised (at_moment w now) (perform (at_moment w now) (call_of asking.command)).1)) 1 0
+pub rise_command : RiseCommand
 rise_command w by about now asking Outcome.memory is = absurd (cc is)
 rise_command w by about now asking (Outcome.lost l) is =
     rise_by w (perform (at_moment w now) (call_of asking.command)).1 (at_moment w now) refl (command_raises (at_moment w now) (call_of asking.command))
@@ -121,8 +117,7 @@ rise_command w by about now asking (Outcome.said t) is =
     rise_by w (perform (at_moment w now) (call_of asking.command)).1 (at_moment w now) refl (command_raises (at_moment w now) (call_of asking.command))
 
 -- and so does a step of expiry
-pub rise_expiry : (w : World) (by about now : ℕ) (o : WireOutcome) → was_made o ≡ true
-    → rise_of w (entry by about (Event.expiry now) o) ≡ cond (is_some (raised (at_moment w now) (expire (at_moment w now)).1)) 1 0
+pub rise_expiry : RiseExpiry
 rise_expiry w by about now Outcome.memory is = absurd (cc is)
 rise_expiry w by about now (Outcome.lost l) is = rise_by w (expire (at_moment w now)).1 (at_moment w now) refl (expiry_raises (at_moment w now))
 rise_expiry w by about now (Outcome.said t) is = rise_by w (expire (at_moment w now)).1 (at_moment w now) refl (expiry_raises (at_moment w now))

@@ -8,3 +8,4 @@ pub mod Publishing
 pub mod PublishingLaws
 pub mod GivingLaws
 pub mod Raising
+pub mod RaisingLaws

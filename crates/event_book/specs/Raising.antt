@@ -1,10 +1,10 @@
 -- By how much the events of each holder raise the revision.
-use Rattle.std.specs.Prelude.{◌≡◌, ◌+◌, ◌-◌, ◌==◌, ℕ, List, [], ◌∷◌, Bool, true, false, cond, length, map, sum}
+use Rattle.std.specs.Prelude.{◌+◌, ◌-◌, ◌==◌, ℕ, List, [], ◌∷◌, Bool, true, false, cond}
 use Rattle.kv_model.specs.Follows.{Outcome}
 use Rattle.kv_model.specs.Wire.{WireOutcome}
 use Rattle.kv_model.specs.World.{World, opening, revision}
-use Rattle.event_book.specs.Callers.{AreAll, Caller, made_by_all}
-use Rattle.event_book.specs.Events.{Entry, after, led_to}
+use Rattle.event_book.specs.Callers.{Caller}
+use Rattle.event_book.specs.Events.{Entry, after}
 
 -- one event in its world
 abbrev pub rise_of : World → Entry → ℕ
@@ -28,8 +28,3 @@ abbrev pub was_made : WireOutcome → Bool
 was_made Outcome.memory = false
 was_made (Outcome.lost l) = true
 was_made (Outcome.said t) = true
-
--- at the end the revision is 1 and what all holders raised it by
-abbrev pub RaisedAll : Type 0
-RaisedAll = (log : List Entry) (cs : List Caller) → AreAll log cs → length log ≡ made_by_all cs
-    → revision (led_to log) ≡ 1 + sum (map raises cs)

@@ -1,8 +1,8 @@
-//! Laws of what readers beside the lock are told, and of what a holder was given by several calls, each
-//! the contract of a function that does nothing.
+//! Laws of what readers beside the lock are told, of what a holder was given by several calls, and of
+//! what events raise the revision by, each the contract of a function that does nothing.
 ghost use Rattle.event_book.specs.GivingLaws.{AddsOne, GivesBoth, GivesTheirs, ShowsNone};
-ghost use Rattle.event_book.specs.Raising.{RaisedAll};
 ghost use Rattle.event_book.specs.PublishingLaws.{PublishedSays, PublishedMore, PublishedPrefix, RefusedIsUntold};
+ghost use Rattle.event_book.specs.RaisingLaws.{RaisedAdds, RaisedAll, RaisedShows, RiseCommand, RiseExpiry};
 
 /// What is told of all events says what the world that they lead to is, but for its leases and
 /// watches.
@@ -43,6 +43,26 @@ pub fn gives_both()
 /// Of what a holder was given, those about what it names by a number are those of them that are.
 pub fn gives_theirs()
     ensures { GivesTheirs }
+{}
+
+/// A call that enters an event raises its holder's share of the revision by what that event does.
+pub fn raised_adds()
+    ensures { RaisedAdds }
+{}
+
+/// A call that shows a holder the list raises nothing.
+pub fn raised_shows()
+    ensures { RaisedShows }
+{}
+
+/// A command that was made raises the revision by one where it tells that it did, and else not.
+pub fn rise_command()
+    ensures { RiseCommand }
+{}
+
+/// A step of expiry that was made raises the revision by one where it tells that it did, and else not.
+pub fn rise_expiry()
+    ensures { RiseExpiry }
 {}
 
 /// Where all holders came back, the revision is 1 and what the events of each raised it by.
