@@ -19,30 +19,10 @@ use Rattle.kv_model.specs.World.{Watch, World, at_moment, opening, revision, wat
 use Rattle.recording.specs.Lines.{Written, blank, handed, line_of, lines_of}
 use Rattle.event_book.specs.Asking.{Asking, Asks, IsAskedBy}
 use Rattle.event_book.specs.Events.{Answers, Entry, Event, FollowsFrom, IsAskedFor, after, clocked, left_by}
-use Rattle.event_script.specs.Leading.{AllAsked, AllFit, Fits, HasLine, HasRequest, ScriptLeads, run_by}
+use Rattle.event_script.specs.Leading.{AllAsked, AllFit, AreLines, Fits, HasLine, HasRequest, ScriptLeads, run_by}
 use Rattle.event_script.specs.Scripts.{delivery_line, ending_line, expiry_line, handed_with, noted, noted_by, noted_if, noted_trimming, write}
+use Rattle.event_script.proofs.Lined.{line_more, no_lines, with_moment}
 use Rattle.event_script.proofs.Clocks.{command_clock, delivery_clock, expiry_clock, moments, same_clock, twice}
-
--- ---- texts
-
-abbrev script : List WireEvent → List ℕ
-script es = concat (map line_of es)
-
-scripts : (es fs : List WireEvent) → script (es ++ fs) ≡ script es ++ script fs
-scripts [] fs = refl
-scripts (e ∷ es) fs = ap (λ t. line_of e ++ t) (scripts es fs) ∙ sym (append_assoc (line_of e) (script es) (script fs))
-
--- the events of the lines that are written for one
-abbrev with_moment : Bool → ℕ → WireEvent → List WireEvent
-with_moment b clock e = cond b (e ∷ []) (WireEvent.moment clock ∷ e ∷ [])
-
-lined : (b : Bool) (clock : ℕ) (e : WireEvent) → clock < 2 ^ 64 → HasLine e → All HasLine (with_moment b clock e)
-lined true clock e c h = All-cons HasLine e [] h (All-nil HasLine)
-lined false clock e c h = All-cons HasLine (WireEvent.moment clock) (e ∷ []) c (All-cons HasLine e [] h (All-nil HasLine))
-
-lines_are : (b : Bool) (clock : ℕ) (e : WireEvent) → cond b [] (line_of (WireEvent.moment clock)) ++ line_of e ≡ script (with_moment b clock e)
-lines_are true clock e = sym (append-nil (line_of e))
-lines_are false clock e = ap (λ t. line_of (WireEvent.moment clock) ++ t) (sym (append-nil (line_of e)))
 
 -- ---- worlds
 
@@ -59,12 +39,10 @@ at_clock ids false w told clock e is at = refl
 -- the text is the lines of these events; at the moment that was handed in last they lead to the world, and the last line of
 -- the clock tells their clock
 record Led (l : Written) (w : World) : Type 0 where
-  pub events : List WireEvent
-  pub each : All HasLine events
-  pub lines : l.text ≡ script events
+  pub text : AreLines l.text
   pub clock : l.clock < 2 ^ 64
-  pub leads : (ids : Ids) → at_moment (run_by ids events) l.clock ≡ w
-  pub told : (ids : Ids) → at_moment (run_by ids events) l.told ≡ run_by ids events
+  pub leads : (ids : Ids) → at_moment (run_by ids text.events) l.clock ≡ w
+  pub told : (ids : Ids) → at_moment (run_by ids text.events) l.told ≡ run_by ids text.events
 
 -- ---- one line more
 
@@ -72,16 +50,13 @@ led_line : (l : Written) (w u : World) (e : WireEvent) → Led l w → HasLine e
     → u.clock ≡ w.clock → Led (noted l e) u
 led_line l w u e d line step clock =
     let some : List WireEvent = with_moment (l.told == l.clock) l.clock e in
-    let comes : (ids : Ids) → run_by ids (d.events ++ some) ≡ u = λ ids. run_on ids d.events some
-    ∙ at_clock ids (l.told == l.clock) (run_by ids d.events) l.told l.clock e refl (d.told ids)
+    let comes : (ids : Ids) → run_by ids (d.text.events ++ some) ≡ u = λ ids. run_on ids d.text.events some
+    ∙ at_clock ids (l.told == l.clock) (run_by ids d.text.events) l.told l.clock e refl (d.told ids)
     ∙ ap (λ v. (wire_step ids v e).1) (d.leads ids) ∙ step ids in
     let stays : (ids : Ids) → at_moment u l.clock ≡ u = λ ids. same_clock u w l.clock clock
-    (subst (λ v. at_moment v l.clock ≡ v) (d.leads ids) (twice (run_by ids d.events) l.clock)) in
+    (subst (λ v. at_moment v l.clock ≡ v) (d.leads ids) (twice (run_by ids d.text.events) l.clock)) in
     record {
-      events = d.events ++ some;
-      each = All-append HasLine d.events some d.each (lined (l.told == l.clock) l.clock e d.clock line);
-      lines = ap (λ t. t ++ lines_of l.told l.clock e) d.lines ∙ ap (λ t. script d.events ++ t) (lines_are (l.told == l.clock) l.clock e)
-          ∙ sym (scripts d.events some);
+      text = line_more l e d.text d.clock line;
       clock = d.clock;
       leads = λ ids. ap (λ v. at_moment v l.clock) (comes ids) ∙ stays ids;
       told = λ ids. subst (λ v. at_moment v l.clock ≡ v) (sym (comes ids)) (stays ids);
@@ -89,20 +64,16 @@ led_line l w u e d line step clock =
 
 led_handed : (l : Written) (w : World) (now : ℕ) → Led l w → now < 2 ^ 64 → Led (handed l now) (at_moment w now)
 led_handed l w now d fits = record {
-  events = d.events;
-  each = d.each;
-  lines = d.lines;
+  text = d.text;
   clock = omega (arith, d.clock, fits);
-  leads = λ ids. sym (moments (run_by ids d.events) l.clock now) ∙ ap (λ u. at_moment u now) (d.leads ids);
+  leads = λ ids. sym (moments (run_by ids d.text.events) l.clock now) ∙ ap (λ u. at_moment u now) (d.leads ids);
   told = d.told;
 }
 
 -- the mark of trimming is no part of it
 led_marked : (b : Bool) (l : Written) (w : World) → Led l w → Led (record l { is_trimmed = b }) w
 led_marked b l w d = record {
-  events = d.events;
-  each = d.each;
-  lines = d.lines;
+  text = d.text;
   clock = d.clock;
   leads = d.leads;
   told = d.told;
@@ -242,9 +213,7 @@ led_by ids l w (e ∷ log) d h asked fit = led_by ids (write l e) (after w e) lo
 
 start : Led (blank false) opening
 start = record {
-  events = [];
-  each = All-nil HasLine;
-  lines = refl;
+  text = no_lines;
   clock = omega arith;
   leads = λ ids. refl;
   told = λ ids. refl;
@@ -252,8 +221,8 @@ start = record {
 
 pub script_leads : ScriptLeads
 script_leads ids log h asked fit = let d = led_by ids (blank false) opening log start h asked fit in record {
-  events = d.events;
-  each = d.each;
-  lines = d.lines;
+  events = d.text.events;
+  each = d.text.each;
+  lines = d.text.lines;
   leads = d.leads;
 }

@@ -6,9 +6,9 @@ use Rattle.kv_model.specs.declared.ids.Ids.{Ids}
 use Rattle.kv_model.specs.Requests.{request_of}
 use Rattle.kv_model.specs.Wire.{WireEvent, wire_step}
 use Rattle.kv_model.specs.World.{World, at_moment, opening}
-use Rattle.recording.specs.Lines.{Written, line_of}
+use Rattle.recording.specs.Lines.{Written, all_of, line_of}
 use Rattle.event_book.specs.Events.{Entry, Event, IsHistory, led_to}
-use Rattle.event_script.specs.Scripts.{script_of, written_by}
+use Rattle.event_script.specs.Scripts.{IsWritten, script_of, written_by}
 
 -- an event that is written down: a request is one for a command, and numbers have 64 bits
 abbrev pub HasLine : WireEvent → Type 0
@@ -42,6 +42,12 @@ AllAsked log = All (λ e. HasRequest e.event) log
 abbrev pub AllFit : List Entry → Type 0
 AllFit log = All (λ e. Fits e.event) log
 
+-- the text is the lines of these events
+pub record AreLines (text : List ℕ) : Type 0 where
+  pub events : List WireEvent
+  pub each : All HasLine events
+  pub lines : text ≡ concat (map line_of events)
+
 -- the script is the lines of these events, which lead to the world of the list at the moment that was handed in last
 pub record Leads (log : List Entry) : Type 0 where
   pub events : List WireEvent
@@ -55,3 +61,11 @@ ScriptLeads = (ids : Ids) (log : List Entry) → IsHistory ids log → AllAsked 
 -- the script of a beginning begins the script of the list
 abbrev pub ScriptGrows : Type 0
 ScriptGrows = (front log : List Entry) → IsPrefix front log → IsPrefix (script_of front) (script_of log)
+
+-- the script of a history is lines of events
+abbrev pub ScriptIsLines : Type 0
+ScriptIsLines = (ids : Ids) (log : List Entry) → IsHistory ids log → AllFit log → AreLines (script_of log)
+
+-- and so is all that was written down of one, where lines were lost too
+abbrev pub WrittenIsLines : Type 0
+WrittenIsLines = (ids : Ids) (l : Written) (log : List Entry) → IsWritten l log → IsHistory ids log → AllFit log → AreLines (all_of l)

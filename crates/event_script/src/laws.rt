@@ -1,5 +1,5 @@
 //! Laws of scripts, each the contract of a function that does nothing.
-ghost use Rattle.event_script.specs.Leading.{ScriptGrows, ScriptLeads};
+ghost use Rattle.event_script.specs.Leading.{ScriptGrows, ScriptIsLines, ScriptLeads, WrittenIsLines};
 
 /// The script of a history whose commands have their requests is the lines of events that lead to
 /// the world of the list.
@@ -10,4 +10,14 @@ pub fn script_leads()
 /// The script of a beginning of a list begins the script of the list.
 pub fn script_grows()
     ensures { ScriptGrows }
+{}
+
+/// The script of a history is lines of events, whether its commands have their requests or not.
+pub fn script_is_lines()
+    ensures { ScriptIsLines }
+{}
+
+/// All that was written down of a history is lines of events, where lines were lost too.
+pub fn written_is_lines()
+    ensures { WrittenIsLines }
 {}
