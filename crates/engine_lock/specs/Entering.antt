@@ -127,7 +127,8 @@ MayTrim ids c (Err e) later = ShowsTo c later
 -- model's, and what is kept is as a run has to keep it.
 pub record Makes (ids : Ids) (c : Caller) (e : Event) (event : WireEvent) (o : WireOutcome) (later : Caller) : Type 0 where
   pub enters : Enters ids c e o later
-  pub told : IsTold false c later
+  pub published : Bool
+  pub told : IsTold published c later
   pub old : CoreState
   pub new : CoreState
   pub stood : StandsFor old.store (before ids c e o later enters)

@@ -98,15 +98,15 @@ impl<L: EngineName> Client<L> {
         made: Made<'_>,
         raised: bool,
     )
-        requires answers { Answers L.ListName.ids (clocked (led_to listing.old) (event_made made))
-            (event_made made) (outcome_made made) }
-        requires asked { IsAskedFor (event_made made) }
+        requires answers { Answers L.ListName.ids (clocked (led_to listing.old) (event_made made.entry))
+            (event_made made.entry) (outcome_made made.entry) }
+        requires asked { IsAskedFor (event_made made.entry) }
         requires rises { rise_of (led_to listing.old) (entry self.old.holder.number self.old.about
-            (event_made made) (outcome_made made)) ≡ cond raised 1 0 }
+            (event_made made.entry) (outcome_made made.entry)) ≡ cond raised 1 0 }
         ensures log { listing.new ≡ listing.old ++ entry self.old.holder.number self.old.about
-            (event_made made) (outcome_made made) ∷ [] }
-        ensures adds { Adds L.ListName.ids self.old.holder self.old.about (event_made made)
-            (outcome_made made) self.new.holder }
+            (event_made made.entry) (outcome_made made.entry) ∷ [] }
+        ensures adds { Adds L.ListName.ids self.old.holder self.old.about (event_made made.entry)
+            (outcome_made made.entry) self.new.holder }
         ensures front { self.new.holder.front ≡ listing.new }
         ensures same { self.new ≡ record self.old { holder = self.new.holder } }
     {

@@ -16,9 +16,9 @@ use crate::asked::Asked;
 use crate::client::Client;
 use crate::closing::CloseFault;
 use crate::engine::watching::News;
+use crate::kept::Kept;
 use crate::opening::{EngineName, Opening};
 use crate::state::State;
-use event_book::Roster;
 use json_gateway::{Expiry, Ids, Message, Outcome, Refusal, Trim};
 use kv_model::call::Command;
 use request_core::store::Core;
@@ -43,7 +43,7 @@ const TURNS: u64 = 200;
 pub struct Engine<L: EngineName> {
     alloc: Global,
     ids: Ids,
-    roster: Roster<L>,
+    roster: Kept<L>,
     state: Mutex<State<L>>,
     /// Whether a watch fell behind since somebody asked.
     news: News,
@@ -102,7 +102,7 @@ impl<L: EngineName> Engine<L> {
         Engine {
             alloc,
             ids,
-            roster,
+            roster: Kept::new(roster),
             state: Mutex::new(state),
             news: News::none(),
         }
@@ -126,7 +126,7 @@ impl<L: EngineName> Engine<L> {
         let Ok(reader) = locked(rt, &self.state).reader() else {
             return Err(Refusal::NoPlace);
         };
-        match self.roster.holder() {
+        match self.roster.holder(rt) {
             Some(holder) => Ok(Client::of(holder, reader)),
             None => Err(Refusal::NoPlace),
         }
@@ -260,11 +260,24 @@ impl<L: EngineName> Engine<L> {
         ensures clients { IfErr result (λ f. f.clients ≡ clients) }
         ensures ids { IfErr result (λ f. f.engine ≡ self) }
     {
-        let engine = self;
-        if clients.len() < engine.roster.holders() {
+        let Engine {
+            alloc,
+            ids,
+            roster,
+            state,
+            news,
+        } = self;
+        let roster = roster.into_roster();
+        if clients.len() < roster.holders() {
+            let engine = Engine {
+                alloc,
+                ids,
+                roster: Kept::new(roster),
+                state,
+                news,
+            };
             return Err(CloseFault { engine, clients });
         }
-        let Engine { roster, state, .. } = engine;
         Ok(state.into_inner().finish(rt, roster, clients))
     }
 }

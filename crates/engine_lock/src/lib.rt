@@ -50,6 +50,7 @@ pub mod asked;
 mod client;
 mod closing;
 pub mod engine;
+mod kept;
 mod making;
 mod noting;
 pub mod opening;

@@ -54,11 +54,15 @@ pub(crate) struct State<L: EngineName> {
 
 impl<L: EngineName> Model for State<L> {
     ghost use Rattle.std.specs.Prelude.{◌≡◌};
+    ghost use Rattle.std.specs.Coded.{codes};
+    ghost use Rattle.kv_model.specs.contracts.call.Command as commands;
     ghost use Rattle.snapshot_feed.specs.States.{appended};
     ghost use Rattle.engine_lock.specs.Fits.{IsLocked};
     ghost use Rattle.engine_lock.specs.Locked.{LockState};
 
     ghost Value = { LockState };
+
+    ghost coded = { Prim.hlevel (codes, commands.the_row.coded) };
 
     ghost view = { λ s. record {
       core = s.core;
@@ -161,7 +165,7 @@ impl<L: EngineName> State<L> {
         self.lines.hand_in(now);
         let outcome = performed(alloc, &mut self.core, &mut self.feed, asked, ids);
         let raised = is_raised(&outcome);
-        let made = Made::Command(now, asked, &outcome);
+        let made = Made::Command(now, &*asked, &outcome);
         client.note(rt, &mut self.listing, made, raised);
         note_done(&mut self.lines, asked, &outcome);
         outcome
