@@ -1,5 +1,3 @@
-pub mod Advice
-pub mod Arguments
 pub mod Serving
 pub mod Controls
 pub mod ReadBack

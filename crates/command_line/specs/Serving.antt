@@ -8,9 +8,9 @@ use Rattle.http_front.specs.Ends.{IsOfServer}
 use Rattle.command_line.specs.From.{StopsBeginning}
 use Rattle.commands.specs.declared.fault.Fault.{Fault}
 use Rattle.commands.specs.declared.fault.Fault.TheVariants as fault
-use Rattle.command_line.specs.declared.words.Args.{Args}
-use Rattle.command_line.specs.declared.words.Args.TheVariants as args
-use Rattle.command_line.specs.declared.words.Serve.{Serve}
+use Rattle.command_words.specs.declared.words.Args.{Args}
+use Rattle.command_words.specs.declared.words.Args.TheVariants as args
+use Rattle.command_words.specs.declared.words.Serve.{Serve}
 
 -- what was asked for is a server
 abbrev pub asks_to_serve : Args → Bool

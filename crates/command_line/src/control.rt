@@ -14,7 +14,7 @@ ghost use Rattle.commands.specs.Script.{line_events};
 
 use crate::from::{Start, Starts, begin};
 use crate::serving::{clients_of, ended, engine_of, limits_of, write_closing};
-use crate::words::{Args, Serve};
+use command_words::{Args, Serve};
 use commands::{Controlling, Fault, Order, control};
 use engine_lock::{Client, Engine, EngineName, Opening};
 use http_front::{Directing, Gate, Recorded, pool_directed};

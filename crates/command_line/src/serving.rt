@@ -12,7 +12,7 @@ ghost use Rattle.commands.specs.Writes.{AppendsFront, Writes};
 ghost use Rattle.engine_lock.specs.Fits.{IsStanding};
 
 use crate::from::{Start, Starts, Unheard, begin};
-use crate::words::{Args, Serve};
+use command_words::{Args, Serve};
 use commands::{Fault, Front, write_number};
 use engine_lock::{Engine, EngineName, Opening};
 use http_front::{Begun, Clock, Gate, Limits, MOST_CONNECTIONS, OpenGate, pool_begun};

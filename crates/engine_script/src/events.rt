@@ -6,7 +6,8 @@ use crate::telling::{
 };
 use engine_lock::{Client, Engine, EngineName};
 use json_gateway::{
-    Expiry, Message, Refusal, Reply, Settled, Trim, declined, dismissed, range_text, read,
+    Expiry, Message, Refusal, Reply, ReplyBody, Settled, Trim, declined, dismissed, range_text,
+    read,
 };
 use kv_model::call::{Command, RangeQuery};
 use range_view::RangeReply;
@@ -118,11 +119,11 @@ fn submit<L: EngineName, R: Wait, W: Write>(
 /// Answers a Range from what is published.
 fn looked<L: EngineName>(alloc: Global, client: &mut Client<L>, query: &RangeQuery) -> Settled {
     if let Err(refusal) = client.enter() {
-        return declined(alloc, refusal);
+        return declined(refusal);
     }
     let settled = match client.range(alloc, query) {
         Ok(reply) => replied(alloc, &reply),
-        Err(refusal) => declined(alloc, refusal),
+        Err(refusal) => declined(refusal),
     };
     client.leave();
     settled
@@ -131,7 +132,10 @@ fn looked<L: EngineName>(alloc: Global, client: &mut Client<L>, query: &RangeQue
 /// How a Range ends that has this reply.
 fn replied(alloc: Global, reply: &RangeReply<'_>) -> Settled {
     match range_text(alloc, reply, &IDS) {
-        Ok(body) => Settled::Reply(Reply { status: 200, body }),
+        Ok(bytes) => Settled::Reply(Reply {
+            status: 200,
+            body: ReplyBody::Made(bytes),
+        }),
         Err(_) => Settled::Memory,
     }
 }

@@ -15,7 +15,7 @@
 //! into a file, as a script that `replay` answers as the server did.
 //!
 //! What each command does over any reader and writer is told, and proved, in the crates below:
-//! [`arguments`] and [`serve_by`], the words of the command line and the server that they ask for,
+//! [`arguments`], the words of the command line, in `command_words`, [`serve_by`], the server that they ask for,
 //! in `command_line`, [`replay`] and [`check`] in `commands`. Here stand the program's words, its
 //! standard input and output, and its exit status.
 //!

@@ -25,12 +25,14 @@ mod header;
 mod json_text;
 mod key_value;
 mod leases;
+mod refusal_bodies;
 mod refusals;
 mod transactions;
 mod watches;
 
 pub use answers::{delete_text, put_text, range_text};
 pub use leases::{granted_text, leases_text, renewed_text, revoked_text, time_left_text};
+pub use refusal_bodies::refusal_body;
 pub use refusals::{Wording, lost_text, memory_text, refusal_text, refusal_wording};
 pub use transactions::txn_text;
 pub use watches::{cancelled_text, created_text, events_text};

@@ -10,7 +10,7 @@ ghost use Rattle.http_front.specs.Engines.{Starts, Stays, response_over};
 
 use engine_lock::{Client, EngineName};
 use http_peer::Gate;
-use json_gateway::{Ids, Outcome, Refusal, Reply, Settled, declined, range_text};
+use json_gateway::{Ids, Outcome, Refusal, Reply, ReplyBody, Settled, declined, range_text};
 use kv_model::call::{Command, RangeQuery};
 use range_view::RangeReply;
 use recorded_engine::Recorded;
@@ -132,7 +132,7 @@ fn settled(alloc: Global, answer: Result<RangeReply<'_>, Refusal>, ids: &Ids) ->
 {
     match answer {
         Ok(reply) => replied(alloc, &reply, ids),
-        Err(refusal) => declined(alloc, refusal),
+        Err(refusal) => declined(refusal),
     }
 }
 
@@ -142,7 +142,10 @@ fn replied(alloc: Global, reply: &RangeReply<'_>, ids: &Ids) -> Settled
         → SettlesAs (response_over ids.now told) result }
 {
     match range_text(alloc, reply, ids) {
-        Ok(body) => Settled::Reply(Reply { status: 200, body }),
+        Ok(bytes) => Settled::Reply(Reply {
+            status: 200,
+            body: ReplyBody::Made(bytes),
+        }),
         Err(_) => Settled::Memory,
     }
 }

@@ -12,7 +12,7 @@ use Rattle.http_reply.specs.declared.front.Front.{Front}
 use Rattle.json_gateway.specs.declared.outcome.Outcome.{Outcome}
 use Rattle.json_gateway.specs.declared.outcome.Settled.{Settled}
 use Rattle.json_gateway.specs.declared.outcome.Settled.TheVariants as settled
-use Rattle.json_gateway.specs.Outcomes.{IsBare, is_accepted}
+use Rattle.json_gateway.specs.Outcomes.{IsBare, body_of, is_accepted}
 use Rattle.json_gateway.specs.Runs.{command_view, ending_view}
 use Rattle.json_gateway.specs.Steps.{Steps}
 use Rattle.http_loop.specs.Served.{Answers, Finishes, Leaves, Stands, Tells, ids_alone}
@@ -81,7 +81,7 @@ ended s t a done written new (settled.Reply x) up None out r h o bare l told end
   is = IsAnswered.by_reply (ending_view (settled.Reply x) up None) o refl told.1;
 }
 ended s t a done written new (settled.Reply x) up (Some n) out r h o bare l told ends =
-    let m = streams n x.body.items done written out r told t h (l n) in
+    let m = streams n (body_of x.body) done written out r told t h (l n) in
     record { after = dropped (Some n) m.after; stands = ends m.after m.stands; is = IsAnswered.by_stream (ending_view (settled.Reply x) up (Some n)) n o refl m.is }
 ended s t a done written new settled.Memory up watch out r h o bare l told ends = record {
   after = t;

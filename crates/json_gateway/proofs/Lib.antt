@@ -1,6 +1,7 @@
 pub mod Accepted
 pub mod Deliveries
 pub mod Events
+pub mod First
 pub mod Keeps
 pub mod Settling
 pub mod Sinks

@@ -3,6 +3,7 @@ use Rattle.std.specs.Prelude.{◌≡◌, ℕ, ◌+◌, ◌%◌, ◌^◌, ◌||�
 use Rattle.std.specs.Prelude.{Vec}
 use Rattle.std.specs.declared.alloc.AllocError.{AllocError}
 use Rattle.std.specs.declared.alloc.Global.{Global}
+use Rattle.kv_model.specs.declared.refusal.Refusal.{Refusal}
 use Rattle.kv_model.specs.declared.refusal.Refusal.TheVariants as refusal
 use Rattle.kv_model.specs.Answers.{Response, Fault, refused, fault_of, fault_of_bad}
 use Rattle.kv_model.specs.Requests as requests
@@ -16,7 +17,9 @@ use Rattle.store_laws.specs.Stands.{StandsFor}
 use Rattle.gateway_read.specs.declared.bad.Bad.{Bad}
 use Rattle.gateway_read.specs.declared.bad.Bad.TheVariants.{NotJson, BadField, BadBase64, NoPath, TooLong, Memory}
 use Rattle.gateway_read.specs.Fields.{snake_of}
+use Rattle.request_core.specs.Answers.{is_memory}
 use Rattle.request_core.specs.State.{CoreState, keeping_of}
+use Rattle.json_gateway.specs.declared.outcome.ReplyBody.TheVariants as body
 use Rattle.json_gateway.specs.declared.outcome.Settled.{Settled}
 use Rattle.json_gateway.specs.declared.outcome.Settled.TheVariants as settled
 use Rattle.json_gateway.specs.declared.outcome.Outcome.{Outcome}
@@ -62,12 +65,12 @@ unanswered changed now = if changed then settled.Lost now else settled.Memory
 
 -- an accepted command, by the body of its answer
 abbrev pub answered : Result (Vec ℕ Global) AllocError → Bool → ℕ → Settled
-answered (Ok body) changed now = settled.Reply (record { status = 200; body = body })
+answered (Ok bytes) changed now = settled.Reply (record { status = 200; body = body.Made bytes })
 answered (Err e) changed now = unanswered changed now
 
 -- a request that is refused, by the body of its refusal
 abbrev pub worded : ℕ → Result (Vec ℕ Global) AllocError → Settled
-worded status (Ok body) = settled.Reply (record { status = status; body = body })
+worded status (Ok bytes) = settled.Reply (record { status = status; body = body.Made bytes })
 worded status (Err e) = settled.Memory
 
 -- ---- refusals
@@ -77,6 +80,13 @@ abbrev pub Refuses : Settled → Bool → Fault → Type 0
 Refuses (settled.Reply r) is_want fault = (is_want ≡ false) × (response_of r ≡ refused fault)
 Refuses settled.Memory is_want fault = ⊤
 Refuses (settled.Lost revision) is_want fault = ⊥
+
+-- A command that is refused ends with exactly the status and the bytes of its refusal, whose text is fixed: without
+-- memory only where that is the refusal.
+abbrev pub Declines : Settled → Refusal → Type 0
+Declines (settled.Reply r) e = (is_memory e ≡ false) × (response_of r ≡ refused (fault_of e))
+Declines settled.Memory e = is_memory e ≡ true
+Declines (settled.Lost revision) e = ⊥
 
 -- what a request that is not read is told
 abbrev pub fault_of_reading : Bad → Fault

@@ -1,14 +1,21 @@
 -- How a request ended: what is written for it, and whether it was accepted.
-use Rattle.std.specs.Prelude.{◌≡◌, ◌==◌, Bool, true, false, None}
+use Rattle.std.specs.Prelude.{◌≡◌, ◌==◌, ℕ, List, Bool, true, false, None}
 use Rattle.kv_model.specs.declared.refusal.Refusal.TheVariants as refusal
 use Rattle.kv_model.specs.Answers.{Response, refused, fault_of, lost_fault}
 use Rattle.json_gateway.specs.declared.outcome.Reply.{Reply}
+use Rattle.json_gateway.specs.declared.outcome.ReplyBody.{ReplyBody}
+use Rattle.json_gateway.specs.declared.outcome.ReplyBody.TheVariants as body
 use Rattle.json_gateway.specs.declared.outcome.Settled.{Settled}
 use Rattle.json_gateway.specs.declared.outcome.Settled.TheVariants as settled
 use Rattle.json_gateway.specs.declared.outcome.Outcome.{Outcome}
 
+-- the bytes of a body
+abbrev pub body_of : ReplyBody → List ℕ
+body_of (body.Made bytes) = bytes.items
+body_of (body.Of e) = (refused (fault_of e)).body
+
 abbrev pub response_of : Reply → Response
-response_of r = record { status = r.status; body = r.body.items }
+response_of r = record { status = r.status; body = body_of r.body }
 
 -- what is written for a request that ended so
 abbrev pub wire_response : Settled → Response

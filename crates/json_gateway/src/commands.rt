@@ -1,6 +1,7 @@
 //! One command or one request on a core, from bytes to bytes.
-ghost use Rattle.std.specs.Prelude.{◌≡◌, ◌&&◌, true, false, None, Ok, map, IfOk};
-ghost use Rattle.kv_model.specs.Answers.{success_response, fault_of, response_to};
+ghost use Rattle.std.specs.Prelude.{◌≡◌, ◌&&◌, true, false, None, Some, Ok, map, IfOk};
+ghost use Rattle.kv_model.specs.Answers.{success_response, fault_of, refused, response_to};
+ghost use Rattle.kv_model.specs.declared.refusal.Refusal.{Refusal as RefusalOf};
 ghost use Rattle.kv_model.specs.Commands.{call_of};
 ghost use Rattle.kv_model.specs.Requests.{request_of};
 ghost use Rattle.store_laws.specs.Stands.{StandsFor};
@@ -12,12 +13,13 @@ ghost use Rattle.gateway_text.specs.Views.{wording_view};
 ghost use Rattle.request_core.specs.Answers.{IsReadable, answer_of, answer_view, has_changed};
 ghost use Rattle.request_core.specs.Answers.{is_memory, time_left_view};
 ghost use Rattle.request_core.specs.Commands.{IsToldChange, StoresChange};
-ghost use Rattle.json_gateway.specs.Endings.{Ends, IsCounted, KeepsAs, Refuses, Settles};
+ghost use Rattle.request_core.specs.Refusing.{fault_without_memory};
+ghost use Rattle.json_gateway.specs.Endings.{Declines, Ends, IsCounted, KeepsAs, Refuses, Settles};
 ghost use Rattle.json_gateway.specs.Endings.{fault_of_reading, is_change, is_change_by};
 ghost use Rattle.json_gateway.specs.Endings.{answered, is_physical, is_want, unanswered, worded};
-ghost use Rattle.json_gateway.specs.Outcomes.{IsBare, is_accepted};
+ghost use Rattle.json_gateway.specs.Outcomes.{IsBare, is_accepted, wire_response};
 
-use crate::outcome::{Outcome, Reply, Settled};
+use crate::outcome::{Outcome, Reply, ReplyBody, Settled};
 use gateway_read::bad::Bad;
 use gateway_read::read;
 use gateway_text::{
@@ -36,7 +38,8 @@ use std::alloc::{AllocError, Global};
 /// Does one command on a core, and gives its outcome.
 ///
 /// The answer is written after the command is done: where no memory is found for it and the command
-/// changed the store, the outcome is `Lost`, and where it changed nothing, `Memory`. At `Memory`
+/// changed the store, the outcome is `Lost`, and where it changed nothing, `Memory`. A refusal that
+/// comes before memory is asked for is always told in its own words (`first`). At `Memory`
 /// and at each refusal, whose status is not 200, the core is as it was, and neither a revision nor
 /// a watch is told; so it is where an accepted command changes nothing. A change adds one to the
 /// core's stamp.
@@ -55,6 +58,9 @@ pub fn perform(alloc: Global, core: &mut Core, command: &Command, ids: &Ids) -> 
     ensures ready { is_accepted result.settled ≡ false → result.waits ≡ false }
     ensures waits { (w : World) → StandsFor core.old.store w → is_accepted result.settled ≡ true
         → result.waits ≡ is_physical_call w (Ok (call_of command.now)) }
+    ensures first { (w : World) → StandsFor core.old.store w → (e : RefusalOf)
+        → fault_without_memory w (call_of command.now) ≡ Some e
+        → wire_response result.settled ≡ refused (fault_of e) }
 {
     perform_to(alloc, core, command, ids, &mut NoSink)
 }
@@ -92,6 +98,9 @@ pub fn perform_to<S: Sink>(
         → StoresChange core.old core.new (call_of command.now) }
     ensures untold { (w : World) → StandsFor core.old.store w
         → is_accepted result.settled ≡ false → sink.new ≡ sink.old }
+    ensures first { (w : World) → StandsFor core.old.store w → (e : RefusalOf)
+        → fault_without_memory w (call_of command.now) ≡ Some e
+        → wire_response result.settled ≡ refused (fault_of e) }
 {
     match core.apply_to(command, sink) {
         Ok(receipt) => Outcome {
@@ -101,7 +110,7 @@ pub fn perform_to<S: Sink>(
             waits: waits(command, &receipt),
         },
         Err(refusal) => Outcome {
-            settled: declined(alloc, refusal),
+            settled: declined(refusal),
             raised: None,
             watch: None,
             waits: false,
@@ -169,7 +178,10 @@ fn answered(made: Result<Vec<u8>, AllocError>, receipt: &Receipt<'_>) -> Settled
     ensures { result ≡ answered made (has_changed receipt.now) receipt.now.revision }
 {
     match made {
-        Ok(body) => Settled::Reply(Reply { status: 200, body }),
+        Ok(bytes) => Settled::Reply(Reply {
+            status: 200,
+            body: ReplyBody::Made(bytes),
+        }),
         Err(_) => unanswered(receipt),
     }
 }
@@ -278,15 +290,20 @@ fn left_text(
     }
 }
 
-/// How a refused command ends: in the words of the refusal, or as `Memory`, where memory was wanting
-/// for it or for its text.
-pub fn declined(alloc: Global, refusal: Refusal) -> Settled
-    ensures { Refuses result (is_memory refusal) (fault_of refusal) }
+/// How a refused command ends: in exactly the words of the refusal, and as `Memory` only where memory
+/// was wanting for the command itself (`declines`). Takes no memory.
+pub fn declined(refusal: Refusal) -> Settled
+    ensures declines { Declines result refusal }
+    ensures refuses { Refuses result (is_memory refusal) (fault_of refusal) }
+    ensures told { wire_response result ≡ refused (fault_of refusal) }
 {
     if refusal == Refusal::Memory {
         return Settled::Memory;
     }
-    refused(alloc, &refusal_wording(refusal))
+    Settled::Reply(Reply {
+        status: refusal_wording(refusal).status,
+        body: ReplyBody::Of(refusal),
+    })
 }
 
 /// How a request ends that [`read`](crate::read) gives no command for: refused in the words of that
@@ -313,7 +330,10 @@ fn worded(status: u16, made: Result<Vec<u8>, AllocError>) -> Settled
     ensures { result ≡ worded status made }
 {
     match made {
-        Ok(body) => Settled::Reply(Reply { status, body }),
+        Ok(bytes) => Settled::Reply(Reply {
+            status,
+            body: ReplyBody::Made(bytes),
+        }),
         Err(_) => Settled::Memory,
     }
 }

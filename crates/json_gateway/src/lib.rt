@@ -49,7 +49,7 @@ pub use gateway_text::range_text;
 pub use kv_model::ids::Ids;
 pub use kv_model::refusal::Refusal;
 pub use messages::message;
-pub use outcome::{Certified, Message, Outcome, Reply, Settled, Trimmed};
+pub use outcome::{Certified, Message, Outcome, Reply, ReplyBody, Settled, Trimmed};
 pub use range_view::tables::Trim;
 pub use request_core::answer::Expiry;
 pub use request_core::store::Core;

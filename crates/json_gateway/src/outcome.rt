@@ -1,5 +1,6 @@
 //! What a command, a request or a watch was answered.
-use gateway_text::{lost_text, memory_text};
+use gateway_text::{lost_text, memory_text, refusal_body};
+use kv_model::refusal::Refusal;
 use kv_model::version::Rev;
 use witness_core::{Certificate, Dump};
 
@@ -7,7 +8,16 @@ use witness_core::{Certificate, Dump};
 #[derive(Debug, Drop)]
 pub struct Reply {
     pub status: u16,
-    pub body: Vec<u8>,
+    pub body: ReplyBody,
+}
+
+/// The bytes of a reply's body.
+#[derive(Debug, Drop)]
+pub enum ReplyBody {
+    /// They were made for this reply.
+    Made(Vec<u8>),
+    /// They are those of a refusal, which are fixed.
+    Of(Refusal),
 }
 
 /// How a request ended.
@@ -69,6 +79,21 @@ pub struct Certified {
     pub dump: Dump,
     /// In order, a need for each of them that has one.
     pub certificate: Certificate,
+}
+
+impl ReplyBody {
+    ghost use Rattle.std.specs.Prelude.{◌≡◌};
+    ghost use Rattle.json_gateway.specs.Outcomes.{body_of};
+
+    /// The bytes. Takes no memory.
+    pub fn as_slice(&self) -> &[u8]
+        ensures { result.now ≡ body_of self.now }
+    {
+        match self {
+            ReplyBody::Made(bytes) => bytes.as_slice(),
+            ReplyBody::Of(refusal) => refusal_body(*refusal),
+        }
+    }
 }
 
 impl Settled {

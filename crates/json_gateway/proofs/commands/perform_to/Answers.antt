@@ -4,6 +4,7 @@ use Rattle.kv_model.specs.Answers.{success_response, fault_of}
 use Rattle.request_core.specs.Answers.{answer_of, has_changed}
 use Rattle.json_gateway.specs.Endings.{is_physical}
 use Rattle.json_gateway.proofs.Accepted.{accepted_counted}
+use Rattle.json_gateway.proofs.First.{accepted_first, refused_first}
 use Rattle.json_gateway.proofs.Keeps.{accepted_keeps, refused_keeps}
 use Rattle.json_gateway.proofs.Sinks.{accepted_untold}
 use Rattle.json_gateway.proofs.Trims.{does_wait, none_waits}
@@ -29,10 +30,19 @@ returns-in-Ok-clause-keeps g c =
 pub returns-in-Err-clause-keeps : goal.returns-in-Err-clause-keeps
 returns-in-Err-clause-keeps g c =
     refused_keeps g.S.Sink.never_fails c.args.core.now c.apply_to.new.self (call_of c.args.command.now) c.in-Err.refusal c.declined.result
-    (fault_of c.in-Err.refusal) c.in-Err.ensures.refused c.declined.ensures
+    (fault_of c.in-Err.refusal) c.in-Err.ensures.refused c.declined.ensures.refuses
 
 pub returns-in-Ok-clause-untold : goal.returns-in-Ok-clause-untold
 returns-in-Ok-clause-untold g c =
     accepted_untold g.S.Sink.takes c.args.sink.now c.apply_to.new.sink c.args.core.now c.apply_to.new.self
     (call_of c.args.command.now) c.in-Ok.receipt c.settled.result (success_response c.args.ids.now (answer_of c.in-Ok.receipt c.apply_to.new.self)) refl
     c.in-Ok.ensures.done c.settled.ensures c.in-Ok.ensures.told
+
+pub returns-in-Ok-clause-first : goal.returns-in-Ok-clause-first
+returns-in-Ok-clause-first g c =
+    accepted_first c.args.core.now c.apply_to.new.self (call_of c.args.command.now) c.in-Ok.receipt c.settled.result c.in-Ok.ensures.done
+
+pub returns-in-Err-clause-first : goal.returns-in-Err-clause-first
+returns-in-Err-clause-first g c =
+    refused_first g.S.Sink.never_fails c.args.core.now c.apply_to.new.self (call_of c.args.command.now) c.in-Err.refusal c.declined.result
+    c.in-Err.ensures.refused c.declined.ensures.told

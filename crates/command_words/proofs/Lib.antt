@@ -1,0 +1,4 @@
+pub mod CommandLine
+pub mod FirstOutside
+pub mod Options
+pub mod ReplayOptions
