@@ -1,5 +1,5 @@
 -- By how much an event raises the revision, as its outcome tells it.
-use Rattle.std.proofs.Common.{◌≡◌, ℕ, Bool, true, false, cond, Option, None, Some, Result, Ok, Err, refl, sym, ◌∙◌, ap}
+use Rattle.std.proofs.Common.{◌≡◌, ◌≤◌, ◌+◌, ◌==◌, ℕ, Bool, true, false, cond, List, [], ◌∷◌, length, Option, None, Some, Result, Ok, Err, refl, sym, ◌∙◌, ap, arith}
 use Rattle.std.specs.Prelude.{is_some}
 use Rattle.kv_model.specs.declared.ids.Ids.{Ids}
 use Rattle.kv_model.specs.declared.refusal.Refusal.{Refusal}
@@ -9,7 +9,7 @@ use Rattle.kv_model.specs.Follows.Outcome.{lost, memory, said}
 use Rattle.kv_model.specs.Step.{Made, expire, made_in, perform, world_of}
 use Rattle.kv_model.specs.Told as told
 use Rattle.kv_model.specs.Wire.{IsChange, Loss, WireOutcome, WireTold, raised}
-use Rattle.kv_model.specs.World.{World, at_moment}
+use Rattle.kv_model.specs.World.{World, at_moment, opening}
 use Rattle.store_laws.specs.Growth.{says_raised}
 use Rattle.store_laws.proofs.RaiseLaws.{expiry_tells}
 use Rattle.request_core.specs.declared.answer.Expiry.{Expiry}
@@ -21,9 +21,10 @@ use Rattle.json_gateway.specs.declared.outcome.Outcome.{Outcome}
 use Rattle.json_gateway.specs.Outcomes.{IsBare, is_accepted}
 use Rattle.json_gateway.specs.Runs.{command_view, ending_view, expired_view}
 use Rattle.event_book.specs.Asking.{Asking}
-use Rattle.event_book.specs.Events.{Answers, Event, entry}
-use Rattle.event_book.specs.Raising.{rise_of}
-use Rattle.event_book.proofs.Raising.{rise_command, rise_expiry, rise_memory}
+use Rattle.event_book.specs.Callers as list
+use Rattle.event_book.specs.Events.{Answers, Entry, Event, after, entry, events_by}
+use Rattle.event_book.specs.Raising.{raised_from, raises, rise_of}
+use Rattle.event_book.proofs.Raising.{rise_certificate, rise_command, rise_delivery, rise_ending, rise_expiry, rise_memory, rise_moment, rise_trimming}
 use Rattle.event_script.specs.Notes.{step_outcome}
 use Rattle.engine_lock.specs.Entering.{raises_revision}
 
@@ -80,3 +81,34 @@ expiry_rises ids w by about now (Err e) h = refused (is_memory e) h
     refused true h = rise_memory w by about (Event.expiry now)
     refused false h = rise_expiry w by about now spent refl
         ∙ ap (λ b. cond b 1 0) (sym (expiry_tells (at_moment w now)) ∙ sym (ap expiry_told h))
+
+-- ---- a client made at most as many changes as events
+
+at_most : (b : Bool) (n : ℕ) → n ≡ cond b 1 0 → n ≤ 1
+at_most true n e = omega (arith, e)
+at_most false n e = omega (arith, e)
+
+rise_most : (w : World) (by about : ℕ) (e : Event) (o : WireOutcome) → rise_of w (entry by about e o) ≤ 1
+rise_most w by about (Event.moment now) o = omega (arith, rise_moment w by about now o)
+rise_most w by about (Event.command now a) memory = omega (arith, rise_memory w by about (Event.command now a))
+rise_most w by about (Event.command now a) (lost l) = at_most _ _ (rise_command w by about now a (lost l) refl)
+rise_most w by about (Event.command now a) (said t) = at_most _ _ (rise_command w by about now a (said t) refl)
+rise_most w by about (Event.expiry now) memory = omega (arith, rise_memory w by about (Event.expiry now))
+rise_most w by about (Event.expiry now) (lost l) = at_most _ _ (rise_expiry w by about now (lost l) refl)
+rise_most w by about (Event.expiry now) (said t) = at_most _ _ (rise_expiry w by about now (said t) refl)
+rise_most w by about (Event.delivery n) o = omega (arith, rise_delivery w by about n o)
+rise_most w by about (Event.ending n) o = omega (arith, rise_ending w by about n o)
+rise_most w by about Event.trimming o = omega (arith, rise_trimming w by about o)
+rise_most w by about Event.certificate o = omega (arith, rise_certificate w by about o)
+
+raised_most : (n : ℕ) (w : World) (log : List Entry) → raised_from n w log ≤ length (events_by n log)
+raised_most n w [] = omega arith
+raised_most n w (e ∷ log) = by (e.by == n) (raised_most n (after w e) log)
+  where
+    by : (b : Bool) → raised_from n (after w e) log ≤ length (events_by n log)
+        → cond b (rise_of w e) 0 + raised_from n (after w e) log ≤ length (cond b (e ∷ events_by n log) (events_by n log))
+    by true h = omega (arith, h, rise_most w e.by e.about e.event e.outcome)
+    by false h = omega (arith, h)
+
+pub raises_most : (c : list.Caller) → raises c ≤ list.made_by c
+raises_most c = raised_most c.number opening c.front

@@ -121,6 +121,11 @@ makes_trimming ids t told old new f g e x = record {
   stored = λ w h. ap tables_of x.left;
 }
 
+-- and whatever it tells instead
+pub checked_trimming : (ids : Ids) (t : Trim) (told : WireTold) (old new : CoreState) (fed more : List Published)
+    → MakesOn ids Event.trimming (said (trim_told (told_of t) None)) old new fed more → MakesOn ids Event.trimming (said told) old new fed more
+checked_trimming ids t told old new fed more m = record { answers = λ w h. tt; stands = m.stands; told = m.told; stored = m.stored }
+
 -- ---- a command
 
 -- an answer that is no success is that of a refusal, which changes nothing
@@ -240,17 +245,17 @@ pub makes_expiry : (ids : Ids) (now : ℕ) (r : Result Expiry Refusal) (old new 
     → IfOk r (λ e. Expires old new e) → OnOk r (IsToldExpiry (λ f op g. g ≡ with_op f op) old.store f g) → OnOk r (StoresExpiry old new)
     → IfErr r (λ e. RefusesExpiry old new e) → OnErr r (g ≡ f)
     → MakesOn ids (Event.expiry now) (step_outcome r) old new (appended f) (appended g)
-makes_expiry ids now (Ok e) old new f g done told stored refused untold = record {
+makes_expiry ids now (Ok e) old new f g done heard stored refused untold = record {
   answers = λ w h. ap (λ x. WireTold.expiry x) (sym (viewed e) ∙ (done.expired w h).tells);
   stands = λ w h. (done.expired w h).stands;
-  told = λ w h. took_all (change_of_expiry w) f g (told w h);
+  told = λ w h. took_all (change_of_expiry w) f g (heard w h);
   stored = λ w h. stored w h;
 }
   where
     viewed : (e : Expiry) → expiry_view e ≡ expired_view e
     viewed expiry.Nothing = refl
     viewed (expiry.Expired id revision raised) = refl
-makes_expiry ids now (Err e) old new f g done told stored refused untold = by (is_memory e) refused.refused
+makes_expiry ids now (Err e) old new f g done heard stored refused untold = by (is_memory e) refused.refused
   where
     by : (b : Bool) → MatchBool b ⊤ ((e ≡ RevisionsSpent) × ((w : World) → StandsFor old.store w → (expire w).0 ≡ told.Expiry.spent))
         → MakesOn ids (Event.expiry now) (cond b memory (said (WireTold.expiry told.Expiry.spent))) old new (appended f) (appended g)

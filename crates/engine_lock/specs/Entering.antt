@@ -99,6 +99,10 @@ pub record SubmitsExpiry (ids : Ids) (c : Caller) (now : ℕ) (r : Result Expiry
   pub stood : StandsFor old.store (before ids c (Event.expiry now) (step_outcome r) later enters)
   pub makes : MakesExpiry old new r
 
+-- and the client was told nothing for its reads yet
+abbrev pub ExpiresUntold : Ids → Caller → ℕ → Result Expiry Refusal → Caller → Type 0
+ExpiresUntold ids c now r later = (s : SubmitsExpiry ids c now r later) × (s.published ≡ false)
+
 -- A moment was handed in, and the client was told of all that was done.
 pub record CatchesUp (ids : Ids) (c : Caller) (now : ℕ) (is_told : Bool) (later : Caller) : Type 0 where
   pub clock : ℕ

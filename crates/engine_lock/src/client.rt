@@ -98,11 +98,11 @@ impl<L: EngineName> Client<L> {
         made: Made<'_>,
         raised: bool,
     )
-        requires answers { Answers L.ListName.ids (clocked (led_to listing.old) (event_made made.entry))
-            (event_made made.entry) (outcome_made made.entry) }
-        requires asked { IsAskedFor (event_made made.entry) }
+        requires answers { Answers L.ListName.ids (clocked (led_to listing.old) (event_made made))
+            (event_made made) (outcome_made made) }
+        requires asked { IsAskedFor (event_made made) }
         requires rises { rise_of (led_to listing.old) (entry self.old.holder.number self.old.about
-            (event_made made.entry) (outcome_made made.entry)) ≡ cond raised 1 0 }
+            (event_made made) (outcome_made made)) ≡ cond raised 1 0 }
         ensures log { listing.new ≡ listing.old ++ entry self.old.holder.number self.old.about
             (event_made made.entry) (outcome_made made.entry) ∷ [] }
         ensures adds { Adds L.ListName.ids self.old.holder self.old.about (event_made made.entry)
@@ -117,6 +117,8 @@ impl<L: EngineName> Client<L> {
         };
         listing.enter::<R, Making<'_>, Makings>(rt, &mut self.holder, &making);
         if raised {
+            // It made at most as many changes as events, whose number has 64 bits.
+            let _events = self.holder.made();
             self.made += 1;
         }
     }

@@ -16,7 +16,7 @@ ghost use Rattle.event_book.specs.Events.{Event, led_to};
 ghost use Rattle.event_book.specs.Publishing.{published_by};
 ghost use Rattle.event_script.specs.Notes.{step_outcome};
 ghost use Rattle.engine_lock.specs.Entering.{CatchesUp, EntersAlone, IsTold};
-ghost use Rattle.engine_lock.specs.Entering.{StaysOut, Submits, SubmitsExpiry};
+ghost use Rattle.engine_lock.specs.Entering.{ExpiresUntold, StaysOut, Submits, SubmitsExpiry};
 
 mod ending;
 mod orders;
@@ -224,7 +224,7 @@ impl<L: EngineName> State<L> {
         now: u64,
     ) -> Result<Expiry, Refusal>
         requires { client.old.reader.inside ≡ false }
-        ensures submits { SubmitsExpiry L.ListName.ids client.old now result client.new }
+        ensures submits { ExpiresUntold L.ListName.ids client.old now result client.new }
         ensures front { client.new.holder.front ≡ self.new.log }
         ensures out { client.new.reader.inside ≡ false }
     {

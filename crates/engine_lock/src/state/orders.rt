@@ -7,7 +7,7 @@ ghost use Rattle.kv_model.specs.Wire.{WireTold};
 ghost use Rattle.kv_model.specs.Wire as events;
 ghost use Rattle.json_gateway.specs.Runs.{certified_outcome, trimmed_view};
 ghost use Rattle.event_book.specs.Events.{Event};
-ghost use Rattle.engine_lock.specs.Entering.{Makes, ShowsTo};
+ghost use Rattle.engine_lock.specs.Entering.{IsTold, Makes, ShowsTo};
 
 use super::State;
 use crate::client::Client;
@@ -25,6 +25,7 @@ impl<L: EngineName> State<L> {
         requires { client.old.reader.inside ≡ false }
         ensures makes { Makes L.ListName.ids client.old (Event.moment now) (events.WireEvent.moment now)
             (said (WireTold.clock result)) client.new }
+        ensures quiet { IsTold false client.old client.new }
         ensures front { client.new.holder.front ≡ self.new.log }
         ensures out { client.new.reader.inside ≡ false }
     {

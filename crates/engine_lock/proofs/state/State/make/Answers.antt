@@ -1,0 +1,52 @@
+use Rattle.std.proofs.Common.{◌≡◌, refl, sym, ◌∙◌, ap, subst, cond, rules}
+use Rattle.snapshot_feed.specs.States.{appended}
+use Rattle.event_book.specs.Events.{Entry, Event, clocked, entry, led_to}
+use Rattle.kv_model.specs.declared.ids.Ids.{Ids}
+use Rattle.kv_model.specs.World.{at_moment}
+use Rattle.json_gateway.specs.Runs.{command_view}
+use Rattle.recording.specs.Lines.{Written}
+use Rattle.event_script.specs.Notes.{NotesCommand}
+use Rattle.event_script.proofs.Writing.{written_command}
+use Rattle.engine_lock.specs.Entering.{Submits}
+use Rattle.engine_lock.specs.Fits.{MakesOn}
+use Rattle.engine_lock.proofs.Fitting.{answers_entered}
+use Rattle.engine_lock.proofs.Locking.{locked_more}
+use Rattle.engine_lock.proofs.Rising.{command_rises}
+use Rattle.engine_lock.proofs.Submitting.{noted, submits_made}
+use Rattle.engine_lock.proofs.state.State.make.Goals as goal
+
+pub note-requires-clause-answers : goal.note-requires-clause-answers
+note-requires-clause-answers g c =
+    (answers_entered g.L.ListName.ids c.self.inside.core c.moved.new.core c.performed-outcome.new.core c.self.inside.listing
+    (appended c.self.inside.feed) (appended c.performed-outcome.new.feed) (entry c.args.client.now.holder.number c.args.client.now.about (Event.command c.args.now c.args.asked.now) (command_view c.performed-outcome.result)) c.self.invariant.0.fits c.moved.ensures.stands
+    (subst (λ (i : Ids). MakesOn i (Event.command c.args.now c.args.asked.now) (command_view c.performed-outcome.result) c.moved.new.core c.performed-outcome.new.core (appended c.self.inside.feed) (appended c.performed-outcome.new.feed))
+    c.requires.ids (c.performed-outcome.ensures.makes c.args.now)))
+
+pub note-requires-clause-rises : goal.note-requires-clause-rises
+note-requires-clause-rises g c =
+    command_rises g.L.ListName.ids (led_to c.self.inside.listing) c.args.client.now.holder.number c.args.client.now.about c.args.now c.args.asked.now c.performed-outcome.result
+    (answers_entered g.L.ListName.ids c.self.inside.core c.moved.new.core c.performed-outcome.new.core c.self.inside.listing
+    (appended c.self.inside.feed) (appended c.performed-outcome.new.feed) (entry c.args.client.now.holder.number c.args.client.now.about (Event.command c.args.now c.args.asked.now) (command_view c.performed-outcome.result)) c.self.invariant.0.fits c.moved.ensures.stands
+    (subst (λ (i : Ids). MakesOn i (Event.command c.args.now c.args.asked.now) (command_view c.performed-outcome.result) c.moved.new.core c.performed-outcome.new.core (appended c.self.inside.feed) (appended c.performed-outcome.new.feed))
+    c.requires.ids (c.performed-outcome.ensures.makes c.args.now))) c.performed-outcome.ensures.bare
+    ∙ ap (λ b. cond b 1 0) (sym c.is_raised-raised.ensures)
+
+pub invariant_of-self : goal.invariant_of-self
+invariant_of-self g c = (
+  locked_more g.L.ListName.ids c.self.inside.core c.moved.new.core c.performed-outcome.new.core c.self.inside.listing c.note.new.listing (appended c.self.inside.feed)
+      (appended c.performed-outcome.new.feed) c.self.inside.lines c.note_done.new.lines (entry c.args.client.now.holder.number c.args.client.now.about (Event.command c.args.now c.args.asked.now) (command_view c.performed-outcome.result)) c.self.invariant.0 c.moved.ensures.stands
+      c.moved.ensures.tables (subst (λ (i : Ids). MakesOn i (Event.command c.args.now c.args.asked.now) (command_view c.performed-outcome.result) c.moved.new.core c.performed-outcome.new.core (appended c.self.inside.feed) (appended c.performed-outcome.new.feed))
+    c.requires.ids (c.performed-outcome.ensures.makes c.args.now)) c.note.ensures.log
+      (λ w. written_command c.self.inside.lines c.note_done.new.lines c.self.inside.listing c.args.client.now.holder.number c.args.client.now.about c.args.now
+      c.args.asked.now c.performed-outcome.result w
+      (subst (λ (l : Written). NotesCommand c.performed-outcome.result.settled c.args.asked.now.request l c.note_done.new.lines) c.hand_in.ensures c.note_done.ensures)),
+  c.performed-outcome.ensures.book (at_moment (led_to c.self.inside.listing) c.args.now) (c.moved.ensures.stands (led_to c.self.inside.listing) c.self.invariant.0.fits.stands) ∙ c.self.invariant.1,
+)
+
+pub returns-clause-submits : goal.returns-clause-submits
+returns-clause-submits g c =
+    subst (λ (i : Ids). Submits i c.args.client.now c.args.now c.args.asked.now _ c.note.new.self) (sym c.requires.ids)
+    (submits_made g.L.ListName.ids c.args.client.now c.note.new.self c.args.now c.args.asked.now c.performed-outcome.result c.self.inside.listing
+    (noted g.L.ListName.ids c.args.client.now (Event.command c.args.now c.args.asked.now) (command_view c.performed-outcome.result) c.note.new.self c.self.inside.listing c.note.new.listing c.requires.out c.note.ensures.adds c.note.ensures.same c.note.ensures.front c.note.ensures.log)
+    c.performed-outcome.ensures.bare c.performed-outcome.ensures.ready
+    (c.performed-outcome.ensures.waits (at_moment (led_to c.self.inside.listing) c.args.now) (c.moved.ensures.stands (led_to c.self.inside.listing) c.self.invariant.0.fits.stands)))
