@@ -42,6 +42,7 @@ lost_raised w call l (Err e) h = absurd h
 command_by : (ids : Ids) (w : World) (by about now : ℕ) (a : Asking) (s : Settled) (up watch : Option ℕ)
     → Answers ids (at_moment w now) (Event.command now a) (ending_view s up watch) → (is_accepted s ≡ false → (up ≡ None) × (watch ≡ None))
     → rise_of w (entry by about (Event.command now a) (ending_view s up watch)) ≡ cond (is_some up) 1 0
+unfolding raised_told
 command_by ids w by about now a (settled.Reply r) up watch h bare =
     rise_command w by about now a (ending_view (settled.Reply r) up watch) refl ∙ ap (λ u. cond (is_some u) 1 0) (sym (ap raised_told h))
 command_by ids w by about now a settled.Memory up watch h bare =
@@ -64,13 +65,14 @@ expiry_told _ = false
 pub expiry_rises : (ids : Ids) (w : World) (by about now : ℕ) (r : Result Expiry Refusal)
     → Answers ids (at_moment w now) (Event.expiry now) (step_outcome r)
     → rise_of w (entry by about (Event.expiry now) (step_outcome r)) ≡ cond (raises_revision r) 1 0
+unfolding expiry_told
 expiry_rises ids w by about now (Ok e) h =
     rise_expiry w by about now (step_outcome (Ok e)) refl
     ∙ ap (λ b. cond b 1 0) (sym (expiry_tells (at_moment w now)) ∙ sym (ap expiry_told h) ∙ says e)
   where
     says : (e : Expiry) → says_raised (expired_view e) ≡ raises_revision (Ok e)
     says expiry.Nothing = refl
-    says (expiry.Expired id revision raised) = refl
+    says (expiry.Expired id revision rose) = refl
 expiry_rises ids w by about now (Err e) h = refused (is_memory e) h
   where
     spent : WireOutcome

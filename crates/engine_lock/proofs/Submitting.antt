@@ -1,25 +1,31 @@
 -- What a holding says, from its event and from what the client was told then.
-use Rattle.std.proofs.Common.{◌≡◌, ℕ, Bool, true, false, List, [], ◌∷◌, ◌++◌, Result, Ok, Err, refl, sym, ◌∙◌, ap, subst}
+use Rattle.std.specs.Prelude.{MatchResult}
+use Rattle.std.proofs.Common.{◌≡◌, ℕ, Bool, true, false, List, [], ◌∷◌, ◌++◌, None, Result, Ok, Err, refl, sym, ◌∙◌, ap, subst}
 use Rattle.kv_model.specs.declared.ids.Ids.{Ids}
 use Rattle.kv_model.specs.declared.refusal.Refusal.{Refusal}
 use Rattle.kv_model.specs.Commands.{call_of}
 use Rattle.kv_model.specs.Follows.Outcome.{said}
-use Rattle.kv_model.specs.Wire.{WireEvent, WireOutcome, WireTold, is_physical_call}
+use Rattle.kv_model.specs.Wire.{WireEvent, WireOutcome, WireTold, is_physical_call, trim_told}
 use Rattle.kv_model.specs.World.{World, at_moment, revision}
 use Rattle.store_laws.specs.Stands.{StandsFor}
+use Rattle.trim_core.specs.declared.trimmer.Trim.{Trim}
+use Rattle.trim_core.specs.Told.{told_of}
 use Rattle.request_core.specs.declared.answer.Expiry.{Expiry}
+use Rattle.request_core.specs.Commands.{TrimsOnce}
 use Rattle.request_core.specs.State.{CoreState}
 use Rattle.json_gateway.specs.declared.outcome.Outcome.{Outcome}
 use Rattle.json_gateway.specs.Outcomes.{IsBare, is_accepted}
-use Rattle.json_gateway.specs.Runs.{command_view}
+use Rattle.json_gateway.specs.declared.outcome.Trimmed.{Trimmed}
+use Rattle.json_gateway.specs.Runs.{command_view, trimmed_view}
 use Rattle.json_gateway.specs.Steps.{Steps}
 use Rattle.event_book.specs.Asking.{Asking}
 use Rattle.event_book.specs.Callers.{Adds}
 use Rattle.event_book.specs.Events.{Entry, Event, clocked, entry, led_to}
 use Rattle.event_script.specs.Notes.{step_outcome}
-use Rattle.engine_lock.specs.Entering.{CatchesUp, Enters, ExpiresUntold, IsTold, Makes, MakesExpiry, StaysOut, Submits, SubmitsExpiry, before}
+use Rattle.engine_lock.specs.Entering.{CatchesUp, Enters, ExpiresUntold, IsTold, Makes, MakesExpiry, MayTrim, ShowsTo, StaysOut, Submits, SubmitsExpiry, TrimsFor, before}
+use Rattle.engine_lock.specs.declared.engine.Submitted.{Submitted}
 use Rattle.engine_lock.specs.Fits.{StepsIn}
-use Rattle.engine_lock.specs.Locked.{Caller}
+use Rattle.engine_lock.specs.Locked.{Caller, left}
 use Rattle.engine_lock.proofs.Entered.{enters, enters_told, in_world, told_nothing, told_since}
 
 -- an event that this client entered, in no reading, behind this list
@@ -143,3 +149,80 @@ catches_up ids c m d now clock b t s quiet = record {
   enters = then ids c (Event.moment now) (said (WireTold.clock clock)) m d b t s.enters;
   told = told_since b c m d quiet t.told;
 }
+
+-- ---- trimming
+
+pub trims_noted : (ids : Ids) (c later : Caller) (t : Trim) (log : List Entry) (old new : CoreState)
+    → Noted ids c Event.trimming (said (trim_told (told_of t) None)) later log → StandsFor old.store (led_to log) → TrimsOnce old new t → TrimsFor ids c t later
+trims_noted ids c later t log old new n stood trims = record {
+  enters = its_event ids c Event.trimming (said (trim_told (told_of t) None)) later log n;
+  told = quietly ids c Event.trimming (said (trim_told (told_of t) None)) later log n;
+  old = old;
+  new = new;
+  stood = in_its_world ids c Event.trimming (said (trim_told (told_of t) None)) later log n (StandsFor old.store) stood;
+  trims = trims;
+}
+
+-- ---- a client that left its reading before the call
+
+module _ (ids : Ids) (c later : Caller) where
+  pub left_submits : (out : Caller) (now : ℕ) (a : Asking) (s : Submitted) → out ≡ left c → Submits ids out now a s later → Submits ids c now a s later
+  left_submits out now a s is h = by (subst (λ (y : Caller). Submits ids y now a s later) is h)
+    where
+      by : Submits ids (left c) now a s later → Submits ids c now a s later
+      by h = record {
+        enters = record { adds = h.enters.adds; same = h.enters.same };
+        told = h.told;
+        revision = h.revision;
+        bare = h.bare;
+        ready = h.ready;
+        waits = h.waits;
+      }
+
+  pub left_expires : (out : Caller) (now : ℕ) (r : Result Expiry Refusal) → out ≡ left c → SubmitsExpiry ids out now r later → SubmitsExpiry ids c now r later
+  left_expires out now r is h = by (subst (λ (y : Caller). SubmitsExpiry ids y now r later) is h)
+    where
+      by : SubmitsExpiry ids (left c) now r later → SubmitsExpiry ids c now r later
+      by h = record {
+        enters = record { adds = h.enters.adds; same = h.enters.same };
+        published = h.published;
+        told = h.told;
+        old = h.old;
+        new = h.new;
+        stood = h.stood;
+        makes = h.makes;
+      }
+
+  pub left_makes : (out : Caller) (e : Event) (event : WireEvent) (o : WireOutcome) → out ≡ left c → Makes ids out e event o later → Makes ids c e event o later
+  left_makes out e event o is h = by (subst (λ (y : Caller). Makes ids y e event o later) is h)
+    where
+      by : Makes ids (left c) e event o later → Makes ids c e event o later
+      by h = record {
+        enters = record { adds = h.enters.adds; same = h.enters.same };
+        published = h.published;
+        told = h.told;
+        old = h.old;
+        new = h.new;
+        stood = h.stood;
+        steps = h.steps;
+      }
+
+  left_trims : (t : Trim) → TrimsFor ids (left c) t later → TrimsFor ids c t later
+  left_trims t h = record {
+    enters = record { adds = h.enters.adds; same = h.enters.same };
+    told = h.told;
+    old = h.old;
+    new = h.new;
+    stood = h.stood;
+    trims = h.trims;
+  }
+
+  pub left_may_trim : (out : Caller) (r : Result Trim Refusal) → out ≡ left c → MayTrim ids out r later → MayTrim ids c r later
+  left_may_trim out (Ok t) is h = left_trims t (subst (λ (y : Caller). TrimsFor ids y t later) is h)
+  left_may_trim out (Err e) is h = subst (λ (y : Caller). ShowsTo y later) is h
+
+  pub left_checked : (out : Caller) (r : Result Trimmed Refusal) → out ≡ left c
+      → MatchResult r (λ t. Makes ids out Event.trimming WireEvent.trim (said (trimmed_view t)) later) (λ e. ShowsTo out later)
+      → MatchResult r (λ t. Makes ids c Event.trimming WireEvent.trim (said (trimmed_view t)) later) (λ e. ShowsTo c later)
+  left_checked out (Ok t) is h = left_makes out Event.trimming WireEvent.trim (said (trimmed_view t)) is h
+  left_checked out (Err e) is h = subst (λ (y : Caller). ShowsTo y later) is h

@@ -1,8 +1,8 @@
-use Rattle.std.proofs.Common.{◌≡◌, refl, sym, ◌∙◌, ap, subst, cond, rules}
+use Rattle.std.proofs.Common.{◌≡◌, false, refl, sym, ◌∙◌, ap, subst, cond, rules}
 use Rattle.snapshot_feed.specs.States.{appended}
 use Rattle.event_book.specs.Events.{Entry, Event, clocked, entry, led_to}
 use Rattle.kv_model.specs.declared.ids.Ids.{Ids}
-use Rattle.kv_model.specs.World.{at_moment}
+use Rattle.kv_model.specs.World.{at_moment, revision}
 use Rattle.json_gateway.specs.Runs.{command_view}
 use Rattle.recording.specs.Lines.{Written}
 use Rattle.event_script.specs.Notes.{NotesCommand}
@@ -45,7 +45,7 @@ invariant_of-self g c = (
 
 pub returns-clause-submits : goal.returns-clause-submits
 returns-clause-submits g c =
-    subst (λ (i : Ids). Submits i c.args.client.now c.args.now c.args.asked.now _ c.note.new.self) (sym c.requires.ids)
+    subst (λ (i : Ids). Submits i c.args.client.now c.args.now c.args.asked.now (record { outcome = c.performed-outcome.result; published = false; revision = revision (led_to c.note.new.self.holder.front) }) c.note.new.self) (sym c.requires.ids)
     (submits_made g.L.ListName.ids c.args.client.now c.note.new.self c.args.now c.args.asked.now c.performed-outcome.result c.self.inside.listing
     (noted g.L.ListName.ids c.args.client.now (Event.command c.args.now c.args.asked.now) (command_view c.performed-outcome.result) c.note.new.self c.self.inside.listing c.note.new.listing c.requires.out c.note.ensures.adds c.note.ensures.same c.note.ensures.front c.note.ensures.log)
     c.performed-outcome.ensures.bare c.performed-outcome.ensures.ready

@@ -7,9 +7,9 @@ use Rattle.engine_lock.proofs.state.State.new.Goals as goal
 pub invariant_of-state : goal.invariant_of-state
 invariant_of-state g c = (
   record {
-    fits = fits_first c.first_core.result c.new.result.0 c.opening.inside.feed c.first_core.ensures.core c.first_core.ensures.tables
-        c.new.ensures.log c.opening.invariant.1 c.opening.invariant.2;
-    written = subst (IsWritten c.first_lines.result) (sym c.new.ensures.log) (first (not c.args.is_recorded) c.first_lines.result c.first_lines.ensures);
+    fits = fits_first c.first_core.result c.new-listing.result.0 c.opening.inside.feed c.first_core.ensures.core c.first_core.ensures.tables
+        c.new-listing.ensures.log c.opening.invariant.1 c.opening.invariant.2;
+    written = subst (IsWritten c.first_lines.result) (sym c.new-listing.ensures.log) (first (not c.args.is_recorded) c.first_lines.result c.first_lines.ensures);
   },
   search rules,
 )
