@@ -104,15 +104,18 @@ submits_told ids c m d now a o b q r t s is = record {
 pub expires_made : (ids : Ids) (c later : Caller) (now : ℕ) (r : Result Expiry Refusal) (log : List Entry) (old new : CoreState)
     → Noted ids c (Event.expiry now) (step_outcome r) later log → StandsFor old.store (at_moment (led_to log) now) → MakesExpiry old new r
     → ExpiresUntold ids c now r later
-expires_made ids c later now r log old new n stood makes = (record {
-  enters = its_event ids c (Event.expiry now) (step_outcome r) later log n;
-  published = false;
-  told = quietly ids c (Event.expiry now) (step_outcome r) later log n;
-  old = old;
-  new = new;
-  stood = in_its_world ids c (Event.expiry now) (step_outcome r) later log n (StandsFor old.store) stood;
-  makes = makes;
-}, refl)
+expires_made ids c later now r log old new n stood makes = (
+  record {
+    enters = its_event ids c (Event.expiry now) (step_outcome r) later log n;
+    published = false;
+    told = quietly ids c (Event.expiry now) (step_outcome r) later log n;
+    old = old;
+    new = new;
+    stood = in_its_world ids c (Event.expiry now) (step_outcome r) later log n (StandsFor old.store) stood;
+    makes = makes;
+  },
+  refl,
+)
 
 -- ---- a step of expiry of which the client was told nothing for its reads yet
 

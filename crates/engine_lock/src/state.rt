@@ -217,12 +217,7 @@ impl<L: EngineName> State<L> {
 
     /// Hands in a moment and makes a step of expiry, of which the client is told nothing for its reads
     /// yet.
-    fn end<R: Wait>(
-        &mut self,
-        rt: &R,
-        client: &mut Client<L>,
-        now: u64,
-    ) -> Result<Expiry, Refusal>
+    fn end<R: Wait>(&mut self, rt: &R, client: &mut Client<L>, now: u64) -> Result<Expiry, Refusal>
         requires { client.old.reader.inside ≡ false }
         ensures submits { ExpiresUntold L.ListName.ids client.old now result client.new }
         ensures front { client.new.holder.front ≡ self.new.log }
@@ -252,7 +247,12 @@ impl<L: EngineName> State<L> {
             client.new }
     {
         let message = told(alloc, &mut self.core, &self.feed, number, ids);
-        client.note(rt, &mut self.listing, Made::Delivery(number, &message), false);
+        client.note(
+            rt,
+            &mut self.listing,
+            Made::Delivery(number, &message),
+            false,
+        );
         note_told(&mut self.lines, number, &message);
         message
     }

@@ -50,11 +50,7 @@ impl<L: EngineName> Engine<L> {
     /// the certificate of what is kept, in the same holding. `Memory` comes where the feed finds none
     /// for the step, and then nothing has changed; where the certificate finds none, the step tells
     /// none. The client's reading is left.
-    pub fn trim_checked<R: Wait>(
-        &self,
-        rt: &R,
-        client: &mut Client<L>,
-    ) -> Result<Trimmed, Refusal>
+    pub fn trim_checked<R: Wait>(&self, rt: &R, client: &mut Client<L>) -> Result<Trimmed, Refusal>
         ensures makes { MatchResult result (λ t. Makes self.now client.old Event.trimming
             events.WireEvent.trim (said (trimmed_view t)) client.new)
             (λ e. ShowsTo client.old client.new) }

@@ -13,12 +13,7 @@ use std::sync::Wait;
 impl<L: EngineName> State<L> {
     /// The core, where all clients came back. Their readings end first, since the feed's end waits for
     /// each of them.
-    pub(crate) fn finish<R: Wait>(
-        self,
-        rt: &R,
-        roster: Roster<L>,
-        clients: Vec<Client<L>>,
-    ) -> Core
+    pub(crate) fn finish<R: Wait>(self, rt: &R, roster: Roster<L>, clients: Vec<Client<L>>) -> Core
         requires { roster ≤ length clients.items }
         ensures { Closes L.ListName.ids result clients.items }
     {

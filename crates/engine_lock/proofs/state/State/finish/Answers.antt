@@ -1,4 +1,4 @@
-use Rattle.engine_lock.proofs.Closing.{closes}
+use Rattle.engine_lock.proofs.LastEvents.{closes}
 use Rattle.engine_lock.proofs.state.State.finish.Goals as goal
 
 pub returns : goal.returns
