@@ -42,7 +42,7 @@ where
 
     ghost Tells = { λ by. engines.Tells by.events.engine.now (G.Left by.events.gate.now by.call) };
 
-    ghost Finishes = { λ by. engines.Finishes };
+    ghost Finishes = { λ by. engines.Finishes by.events.engine.now };
 
     fn awaits(&self) {
         self.events.gate.awaits(self.call);
@@ -63,7 +63,7 @@ where
     }
 
     /// The next message of a watch. It rests where there is none, or where no memory was found for
-    /// it, and then the stream ends where the client has left.
+    /// it, each of which is a delivery of its own, and then the stream ends where the client has left.
     fn tell(&self, _alloc: Global, state: &mut Client<L>, number: u64) -> Told {
         for _ in self.events.rt.forever() {
             match self.events.deliver(state, number) {
@@ -121,7 +121,7 @@ fn done<L: EngineName, G: Gate, R: Wait>(
 
 /// Does what a POST of this body to this path asks for on behalf of a client, as an event of a script
 /// is done: its command is submitted, a Range too, at the engine's clock, and the trimming that its
-/// answer waits for is done. Where it asks for no command it is refused, and the engine gives nothing.
+/// answer waits for is done. Where it asks for no command it is refused, and no event is made.
 pub fn post<L: EngineName, G: Gate, R: Wait>(
     events: &Recorded<'_, L, G, R>,
     alloc: Global,
@@ -159,15 +159,15 @@ fn awaited<L: EngineName, G: Gate, R: Wait>(
     client: &mut Client<L>,
     submitted: Submitted,
 ) -> Outcome
-    ensures { Awaits submitted result client.old client.new }
+    ensures { Awaits events.now.engine.now submitted result client.old client.new }
 {
-    if !submitted.outcome.waits {
-        return submitted.outcome;
+    if submitted.outcome.waits {
+        if trim_all(events, client) {
+            return submitted.outcome;
+        }
+        return lost(submitted);
     }
-    if trim_all(events, client) {
-        return submitted.outcome;
-    }
-    lost(submitted)
+    submitted.outcome
 }
 
 /// The outcome of a command that changed the store, and whose answer is lost.
@@ -183,16 +183,17 @@ fn lost(submitted: Submitted) -> Outcome
 }
 
 /// Makes trimming steps until one says that trimming is done, and says that it is. One that is
-/// refused for memory is tried again; after 1,000 refusals in a row it is given up.
+/// refused for memory is tried again; after 1,000 refusals in a row it is given up. Each step that is
+/// not refused is an event of the client.
 fn trim_all<L: EngineName, G: Gate, R: Wait>(
     events: &Recorded<'_, L, G, R>,
     client: &mut Client<L>,
 ) -> bool
-    ensures { AreTrimmed 0 result client.old client.new }
+    ensures { AreTrimmed events.now.engine.now result client.old client.new }
 {
     let mut refusals = 0;
     for _ in events.rt.forever() {
-        match events.trim_for(client) {
+        match events.trim(client) {
             Ok(Trim::Done(_)) => return true,
             Ok(_) => refusals = 0,
             Err(_) => {
