@@ -1,7 +1,7 @@
 -- What is made for a client by what answers a connection, in order.
-use Rattle.std.proofs.Common.{◌≡◌, ◌⊎◌, inl, inr, ℕ, ◌×◌, List, [], ◌∷◌, All, Bool, true, false, Option, None, Some, Result, Ok, Err, refl, sym, ◌∙◌, ap, subst}
+use Rattle.std.proofs.Common.{◌≡◌, ◌⊎◌, inl, inr, ℕ, List, [], ◌∷◌, ◌++◌, All, Bool, true, false, Option, None, Some, Result, Ok, Err, refl, sym, ◌∙◌, ap, subst}
 use Rattle.std.proofs.lemmas.List.{append-nil}
-use Rattle.std.proofs.lemmas.List.Elements.{All-append}
+use Rattle.std.proofs.lemmas.List.Elements.{All-append, All-cons, All-nil}
 use Rattle.kv_model.specs.declared.ids.Ids.{Ids}
 use Rattle.kv_model.specs.declared.call.Command.{Command}
 use Rattle.kv_model.specs.Wire.{WireOutcome}
@@ -20,16 +20,16 @@ use Rattle.http_loop.specs.declared.answering.Told.{Told}
 use Rattle.http_loop.specs.declared.answering.Told.TheVariants as told
 use Rattle.http_loop.specs.Answered.{AreMessages, Conn, IsAnswered, IsStream, IsStreamOf, IsTold, streamed}
 use Rattle.http_loop.specs.Turned.{NotBegun, Serves, progress}
-use Rattle.http_front.specs.Engines.{Answers, AreMade, AreQuiet, Awaits, Begins, Delivers, Does, Finishes, Gets, Looks, Starts, Stays, Submits, Tells}
+use Rattle.http_front.specs.Engines.{Answers, AreMade, AreQuiet, Awaits, Begins, Does, Finishes, Gets, Looks, Says, Starts, Stays, Submits, Tells}
 
 -- ---- of any calls
 
 -- what is seen of a client here
-seen : Caller → list.Caller × ℕ
+abbrev seen : Caller → list.Caller × ℕ
 seen c = (c.holder, c.about)
 
 shown : (c d : Caller) → list.Shows c.holder d.holder → d.about ≡ c.about → Gets c d
-shown c d x e = record { own = []; gives = shows_none c.holder d.holder x; all = tt; about = e }
+shown c d x e = record { own = []; gives = shows_none c.holder d.holder x; all = All-nil (λ (x : Entry). x.about ≡ c.about); about = e }
 
 rests : (c d : Caller) → seen d ≡ seen c → Gets c d
 rests c d e =
@@ -49,7 +49,7 @@ enters : (ids : Ids) (c d : Caller) (e : Event) (o : WireOutcome) → Enters ids
 enters ids c d e o x = record {
   own = entry c.holder.number c.about e o ∷ [];
   gives = adds_one ids c.holder c.about e o d.holder x.adds;
-  all = (refl, tt);
+  all = All-cons (λ (x : Entry). x.about ≡ c.about) (entry c.holder.number c.about e o) [] refl (All-nil (λ (x : Entry). x.about ≡ c.about));
   about = ap (λ (c : Caller). c.about) x.same;
 }
 
@@ -63,7 +63,7 @@ module _ (ids : Ids) (Left : Type 0) where
 
   awaits : (s : Submitted) (o : Outcome) (c d : Caller) → Awaits ids s o c d → Gets c d
   awaits s _ c _ (Awaits.at_once h) = rests c c refl
-  awaits s _ c d (Awaits.behind h t) = both c t.from d (made c t.from t.refused t.made) (enters ids t.from d _ _ t.trims.enters)
+  awaits s _ c d (Awaits.behind h t) = both c t.from d (made c t.from t.refusals t.made) (enters ids t.from d _ _ t.trims.enters)
   awaits s _ c d (Awaits.lost h t) = made c d 1000 t
 
   does : (c d : Caller) (asking : Asking) (o : Outcome) → Does ids c asking o d → Gets c d
@@ -75,7 +75,7 @@ module _ (ids : Ids) (Left : Type 0) where
 
   starts : (command : Command) (c d : Caller) → Starts ids command c d → Gets c d
   starts command c d (inl h) = rests c d (ap seen h)
-  starts command c d (inr h) = stays c d h.1.1
+  starts command c d (inr h) = stays c d h.2
 
   begins : (s : Bool) (c d : Caller) → Begins ids s c d → Gets c d
   begins true c d h = rests c d (ap seen h)
@@ -91,18 +91,18 @@ module _ (ids : Ids) (Left : Type 0) where
 
   quiet : (n : ℕ) (c d : Caller) → AreQuiet ids n c d → Gets c d
   quiet n c _ AreQuiet.none = rests c c refl
-  quiet n c d (AreQuiet.nothing {d = m} before h) = both c m d (quiet n c m before) (enters ids m d _ _ h.0)
-  quiet n c d (AreQuiet.wanting {d = m} before h) = both c m d (quiet n c m before) (enters ids m d _ _ h.0)
+  quiet n c d (AreQuiet.more {d = m} before (inl h)) = both c m d (quiet n c m before) (enters ids m d _ _ h.0)
+  quiet n c d (AreQuiet.more {d = m} before (inr h)) = both c m d (quiet n c m before) (enters ids m d _ _ h.0)
 
-  delivers : (n : ℕ) (c d : Caller) (o : WireOutcome) → Delivers ids n c o d → Gets c d
-  delivers n c d o h = both c h.from d (quiet n c h.from h.quiet) (enters ids h.from d _ _ h.enters.0)
+  says : (c d : Caller) (n : ℕ) (x : Told) → Says ids n c x d → Gets c d
+  says c d n (told.Text x) h = enters ids c d _ _ h.0
+  says c d n told.End h = enters ids c d _ _ h.0
+  says c d n told.Memory h = absurd h
+  says c d n told.Away h = absurd h
 
   tells : (c d : Caller) (n : ℕ) (x : Told) → Tells ids Left c n x d → Gets c d
-  tells c d n (told.Text x) h = delivers n c d _ h
-  tells c d n told.End (inl h) = delivers n c d _ h
-  tells c d n told.End (inr h) = quiet n c d h.1
-  tells c d n told.Memory h = absurd h
-  tells c d n told.Away h = absurd h
+  tells c d n x (inl h) = both c h.0 d (quiet n c h.0 h.1) (says h.0 d n x h.2)
+  tells c d n x (inr h) = quiet n c d h.2
 
   finishes : (c d : Caller) (w : Option ℕ) → Finishes ids c w d → Gets c d
   finishes c d None h = rests c d (ap seen h)

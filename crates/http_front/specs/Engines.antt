@@ -16,7 +16,7 @@ use Rattle.kv_model.specs.History.{end_of}
 use Rattle.kv_model.specs.Ranges as ranges
 use Rattle.kv_model.specs.Requests.{request_of}
 use Rattle.kv_model.specs.Told as model
-use Rattle.kv_model.specs.Wire.{WireEvent, WireOutcome, WireTold}
+use Rattle.kv_model.specs.Wire.{WireEvent, WireTold}
 use Rattle.store_laws.specs.Snapshots.{Untrimmed, untrimmed_of}
 use Rattle.trim_core.specs.declared.trimmer.Trim.{Trim}
 use Rattle.trim_core.specs.Told.{told_of}
@@ -53,9 +53,9 @@ pub data AreMade (ids : Ids) (c : Caller) : ℕ → Caller → Type 0 where
 
 -- they ended with one that says that trimming is done
 pub record Trims (ids : Ids) (c later : Caller) : Type 0 where
-  pub refused : ℕ
+  pub refusals : ℕ
   pub from : Caller
-  pub made : AreMade ids c refused from
+  pub made : AreMade ids c refusals from
   pub last : Trim
   pub trims : TrimsFor ids from last later
   pub ends : is_done (told_of last) ≡ true
@@ -180,27 +180,27 @@ Posts ids c path body o later = Did path body (λ command. Does ids c (asking_by
 
 -- ---- a stream
 
--- deliveries to a watch were made for a client, each of which told nothing or found no memory
+-- a delivery to a watch was made for a client, which told nothing or found no memory
+abbrev pub IsQuiet : Ids → ℕ → Caller → Caller → Type 0
+IsQuiet ids n c later = EntersAlone ids c (Event.delivery n) (said WireTold.nothing) later
+    ⊎ EntersAlone ids c (Event.delivery n) memory later
+
+-- or its stream was told so by it: where that ends, there was no such watch
+abbrev pub Says : Ids → ℕ → Caller → Told → Caller → Type 0
+Says ids n c (told.Text x) later = EntersAlone ids c (Event.delivery n) (said (WireTold.message x.items)) later
+Says ids n c told.End later = EntersAlone ids c (Event.delivery n) (said WireTold.no_watch) later
+Says ids n c told.Memory later = ⊥
+Says ids n c told.Away later = ⊥
+
+-- deliveries that told nothing were made, one after the other
 pub data AreQuiet (ids : Ids) (n : ℕ) (c : Caller) : Caller → Type 0 where
   none : AreQuiet ids n c c
-  nothing : {d later : Caller} → AreQuiet ids n c d → EntersAlone ids d (Event.delivery n) (said WireTold.nothing) later
-      → AreQuiet ids n c later
-  wanting : {d later : Caller} → AreQuiet ids n c d → EntersAlone ids d (Event.delivery n) memory later
-      → AreQuiet ids n c later
+  more : {d later : Caller} → AreQuiet ids n c d → IsQuiet ids n d later → AreQuiet ids n c later
 
--- and then one of which the outcome is this
-pub record Delivers (ids : Ids) (n : ℕ) (c : Caller) (o : WireOutcome) (later : Caller) : Type 0 where
-  pub from : Caller
-  pub quiet : AreQuiet ids n c from
-  pub enters : EntersAlone ids from (Event.delivery n) o later
-
--- A stream is told what its watch was told. It ends where there was no such watch, or where somebody said that its client
--- has left.
+-- A stream is told what a delivery behind such ones told; or it ends, since somebody said that its client has left.
 abbrev pub Tells : Ids → Type 0 → Caller → ℕ → Told → Caller → Type 0
-Tells ids Left c n (told.Text x) later = Delivers ids n c (said (WireTold.message x.items)) later
-Tells ids Left c n told.End later = Delivers ids n c (said WireTold.no_watch) later ⊎ (Left × AreQuiet ids n c later)
-Tells ids Left c n told.Memory later = ⊥
-Tells ids Left c n told.Away later = ⊥
+Tells ids Left c n t later = ((from : Caller) × AreQuiet ids n c from × Says ids n from t later)
+    ⊎ ((t ≡ told.End) × Left × AreQuiet ids n c later)
 
 -- Behind a reply the watch that its request made is ended.
 abbrev pub Finishes : Ids → Caller → Option ℕ → Caller → Type 0

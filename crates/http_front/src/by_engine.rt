@@ -1,8 +1,8 @@
 //! An engine answers a connection, on behalf of one of its clients.
-ghost use Rattle.std.specs.Prelude.{◌≡◌, ◌⊎◌, None};
+ghost use Rattle.std.specs.Prelude.{◌≡◌, ◌⊎◌, None, MatchOption};
 ghost use Rattle.json_gateway.specs.Endings.{Refuses, fault_of_reading, is_want};
 ghost use Rattle.http_front.specs.Engines as engines;
-ghost use Rattle.http_front.specs.Engines.{AreTrimmed, Awaits, Does, Looks, Posts, Submits, lost_answer};
+ghost use Rattle.http_front.specs.Engines.{AreTrimmed, Awaits, Does, IsQuiet, Looks, Posts, Says, Submits, lost_answer};
 
 use crate::beside::looked;
 use engine_lock::{Asked, Client, EngineName, Submitted};
@@ -66,10 +66,8 @@ where
     /// it, each of which is a delivery of its own, and then the stream ends where the client has left.
     fn tell(&self, _alloc: Global, state: &mut Client<L>, number: u64) -> Told {
         for _ in self.events.rt.forever() {
-            match self.events.deliver(state, number) {
-                Ok(Message::Text(text)) => return Told::Text(text),
-                Ok(Message::NoWatch) => return Told::End,
-                Ok(Message::Nothing) | Err(_) => {}
+            if let Some(told) = told_next(&self.events, state, number) {
+                return told;
             }
             thread::sleep(self.events.rt, Duration::from_millis(WATCH_REST));
             if self.events.gate.has_left(self.call) {
@@ -84,6 +82,23 @@ where
             let _ = self.events.drop_watch(state, number);
         }
         self.events.gate.after(self.call);
+    }
+}
+
+/// What the stream of a watch is told next; `None` where it is told nothing, or no memory was found.
+fn told_next<L: EngineName, G: Gate, R: Wait>(
+    events: &Recorded<'_, L, G, R>,
+    client: &mut Client<L>,
+    number: u64,
+) -> Option<Told>
+    ensures { MatchOption result (IsQuiet events.now.engine.now number client.old client.new)
+        (λ t. Says events.now.engine.now number client.old t client.new) }
+{
+    match events.deliver(client, number) {
+        Ok(Message::Text(text)) => Some(Told::Text(text)),
+        Ok(Message::NoWatch) => Some(Told::End),
+        Ok(Message::Nothing) => None,
+        Err(_) => None,
     }
 }
 

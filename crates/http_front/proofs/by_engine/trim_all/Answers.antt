@@ -2,9 +2,12 @@ use Rattle.std.proofs.Common.{arith, refl, ℕ, subst}
 use Rattle.http_front.specs.Engines.{AreMade}
 use Rattle.http_front.proofs.by_engine.trim_all.Goals as goal
 
+pub loop-init : goal.loop-init
+loop-init g c = (AreMade.none, omega arith)
+
 pub returns-in-Ok-Done : goal.returns-in-Ok-Done
 returns-in-Ok-Done g c = record {
-  refused = c.loop.refusals;
+  refusals = c.loop.refusals;
   from = c.loop.client;
   made = c.loop.invariant.0;
   last = c.in-Ok-Done.field-0;
@@ -16,7 +19,7 @@ pub loop-preserved-in-Ok : goal.loop-preserved-in-Ok
 loop-preserved-in-Ok g c = (AreMade.more c.in-Ok.field-0 c.loop.invariant.0 c.in-Ok.ensures.trims, omega arith)
 
 pub returns-then-refusals-eq-MOST_REFUSALS : goal.returns-then-refusals-eq-MOST_REFUSALS
-returns-then-refusals-eq-MOST_REFUSALS g c = subst (λ (k : ℕ). AreMade c.args.events.now.engine.now c.args.client.now k c.trim.new.client)
+returns-then-refusals-eq-MOST_REFUSALS g c = subst (λ (k : ℕ). AreMade _ _ k _)
     c.if-refusals-eq-MOST_REFUSALS.true (AreMade.again c.loop.invariant.0 c.in-Err.ensures.trims)
 
 pub loop-preserved : goal.loop-preserved
