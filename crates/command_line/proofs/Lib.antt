@@ -1,6 +1,7 @@
 pub mod Beginning
 pub mod Closing
 pub mod CommandLine
+pub mod Expiring
 pub mod FirstOutside
 pub mod Options
 pub mod ReadBack
