@@ -1,7 +1,6 @@
 pub mod Beginning
 pub mod Closing
 pub mod CommandLine
-pub mod Expiring
 pub mod FirstOutside
 pub mod Options
 pub mod ReadBack

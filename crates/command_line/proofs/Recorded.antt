@@ -23,6 +23,7 @@ use Rattle.event_book.specs.Events.{Entry, FollowsFrom, IsHistory, after}
 use Rattle.event_script.specs.Leading.{AllAsked, AllFit, Fits, HasLine, HasRequest, Leads}
 use Rattle.event_script.specs.Scripts.{IsCut, IsWritten, script_of, written_by}
 use Rattle.event_script.proofs.Leading.{script_leads}
+use Rattle.event_script.proofs.Lined.{written_is_lines}
 use Rattle.commands.specs.Playing.{AreAllEvents}
 use Rattle.commands.specs.Script.{is, line_events}
 use Rattle.command_line.specs.ReadBack.{IsOfPath, IsReadAs, IsRecordable, IsRecordingReadBack, IsRecordingScript, as_read}
@@ -103,14 +104,18 @@ recordable WireEvent.expire h = h
 recordable WireEvent.trim h = h
 recordable WireEvent.certify h = h
 
+-- the lines of events are read as those events
+lines_read : (text : List ℕ) (events : List WireEvent) → All HasLine events → text ≡ concat (map line_of events)
+    → line_events text ≡ map (λ e. Some (as_read e)) events
+lines_read text events each is =
+    ap line_events (is ∙ sym (append-nil (concat (map line_of events))))
+    ∙ read_back events [] (All-weaker HasLine IsRecordable recordable events each)
+    ∙ append-nil (map (λ e. Some (as_read e)) events)
+
 -- ---- the script of a list
 
--- the lines of events that lead to the world of a list are read as those events
 script_read : (text : List ℕ) (log : List Entry) → text ≡ script_of log → Leads log → IsReadAs text log
-script_read text log is led = (led,
-    ap line_events (is ∙ (led.lines ∙ sym (append-nil (concat (map line_of led.events)))))
-    ∙ read_back led.events [] (All-weaker HasLine IsRecordable recordable led.events led.each)
-    ∙ append-nil (map (λ e. Some (as_read e)) led.events))
+script_read text log is led = (led, lines_read text led.events led.each (is ∙ led.lines))
 
 -- a beginning of a history is one
 follows_front : (ids : Ids) (w : World) (front rest : List Entry) → FollowsFrom ids w (front ++ rest) → FollowsFrom ids w front
@@ -120,33 +125,25 @@ follows_front ids w (e ∷ front) rest h = (h.0, h.1, follows_front ids (after w
 all_front : {A : Type 0} (P : A → Type 0) (front rest : List A) → All P (front ++ rest) → All P front
 all_front P front rest h k d lt = subst P (get_or-append front rest d k lt) (h k d (omega (arith, lt, length-append front rest)))
 
-leads_front : (ids : Ids) (front log : List Entry) → IsPrefix front log → IsHistory ids log → AllAsked log → AllFit log → Leads front
-leads_front ids front log p h asked fit = script_leads ids front
+leads_front : (ids : Ids) (front log : List Entry) → IsPrefix front log → IsHistory ids log → AllFit log → AllAsked log → Leads front
+leads_front ids front log p h fit asked = script_leads ids front
     (follows_front ids opening front p.0 (subst (IsHistory ids) (sym p.1) h))
     (all_front (λ (e : Entry). HasRequest e.event) front p.0 (subst AllAsked (sym p.1) asked))
     (all_front (λ (e : Entry). Fits e.event) front p.0 (subst AllFit (sym p.1) fit))
 
 -- what was written, where a line was lost and where none was
-read_by : (b : Bool) (ids : Ids) (log : List Entry) (l : Written) → l.is_lost ≡ b → IsHistory ids log → AllAsked log → AllFit log
-    → MatchBool b (IsCut l log) (record l { taken = []; text = all_of l } ≡ written_by log)
+read_by : (b : Bool) (ids : Ids) (l : Written) (log : List Entry)
+    → MatchBool b (IsCut l log) (record l { taken = []; text = all_of l } ≡ written_by log) → IsHistory ids log → AllFit log → AllAsked log
     → MatchBool b ((front : List Entry) × IsPrefix front log × IsReadAs (all_of l) front) (IsReadAs (all_of l) log)
-read_by true ids log l is h asked fit cut =
-    (cut.front, cut.begins, script_read (all_of l) cut.front cut.lines (leads_front ids cut.front log cut.begins h asked fit))
-read_by false ids log l is h asked fit whole =
+read_by true ids l log cut h fit asked =
+    (cut.front, cut.begins, script_read (all_of l) cut.front cut.lines (leads_front ids cut.front log cut.begins h fit asked))
+read_by false ids l log whole h fit asked =
     script_read (all_of l) log (ap (λ (w : Written). w.text) whole) (script_leads ids log h asked fit)
 
 pub recording_read_back : IsRecordingReadBack
-recording_read_back ids log l h asked fit w = read_by l.is_lost ids log l refl h asked fit w
-
--- ---- a server goes on from it
-
-events_of_read : (text : List ℕ) (log : List Entry) → IsReadAs text log → AreAllEvents (line_events text)
-events_of_read text log r = (map as_read r.0.events, r.1 ∙ sym (map-map Some as_read r.0.events))
-
-script_by : (b : Bool) (text : List ℕ) (log : List Entry)
-    → MatchBool b ((front : List Entry) × IsPrefix front log × IsReadAs text front) (IsReadAs text log) → AreAllEvents (line_events text)
-script_by true text log r = events_of_read text r.0 r.2
-script_by false text log r = events_of_read text log r
+recording_read_back ids l log w h fit asked = read_by l.is_lost ids l log w h fit asked
 
 pub recording_is_script : IsRecordingScript
-recording_is_script ids log l h asked fit w = script_by l.is_lost (all_of l) log (recording_read_back ids log l h asked fit w)
+recording_is_script ids l log w h fit =
+    let lines = written_is_lines ids l log w h fit in
+    (map as_read lines.events, lines_read (all_of l) lines.events lines.each lines.lines ∙ sym (map-map Some as_read lines.events))

@@ -42,13 +42,13 @@ AreReadBack = (events : List WireEvent) (rest : List ℕ) → All IsRecordable e
 abbrev pub IsReadAs : List ℕ → List Entry → Type 0
 IsReadAs text log = (led : Leads log) × (line_events text ≡ map (λ e. Some (as_read e)) led.events)
 
--- What an engine has written down of a list of events, of which each command has its request and each number 64 bits: where no
--- line was lost, all of it is read as events that lead to the world of the list, and else to that of a beginning of the list.
+-- What an engine has written down of a list of events, of which each command has its request: where no line was lost, all of
+-- it is read as events that lead to the world of the list, and else to that of a beginning of the list.
 abbrev pub IsRecordingReadBack : Type 0
-IsRecordingReadBack = (ids : Ids) (log : List Entry) (l : Written) → IsHistory ids log → AllAsked log → AllFit log → IsWritten l log
+IsRecordingReadBack = (ids : Ids) (l : Written) (log : List Entry) → IsWritten l log → IsHistory ids log → AllFit log → AllAsked log
     → MatchBool l.is_lost ((front : List Entry) × IsPrefix front log × IsReadAs (all_of l) front) (IsReadAs (all_of l) log)
 
--- so each line of it asks for an event: a server goes on from it
+-- Each line of it asks for an event, whether each command has its request or not: a server goes on from it.
 abbrev pub IsRecordingScript : Type 0
-IsRecordingScript = (ids : Ids) (log : List Entry) (l : Written) → IsHistory ids log → AllAsked log → AllFit log → IsWritten l log
+IsRecordingScript = (ids : Ids) (l : Written) (log : List Entry) → IsWritten l log → IsHistory ids log → AllFit log
     → AreAllEvents (line_events (all_of l))

@@ -5,7 +5,7 @@ ghost use Rattle.kv_model.specs.Wire as wire;
 ghost use Rattle.json_gateway.specs.Runs.{outcome_view};
 ghost use Rattle.commands.specs.Controlling.{made_view};
 ghost use Rattle.http_front.specs.Ends.{IsClosed};
-ghost use Rattle.command_line.specs.Controls.{IsExpired, IsMade};
+ghost use Rattle.command_line.specs.Controls.{IsMade};
 ghost use Rattle.command_line.specs.From.{IsBegun};
 ghost use Rattle.command_line.specs.Serving.{IsOfCore, asks_to_serve, closing_line, ids_in, ids_of};
 ghost use Rattle.commands.specs.Script.{line_events};
@@ -50,7 +50,8 @@ fn expired<L: EngineName, G: Gate, R: Wait>(
     events: &Recorded<'_, L, G, R>,
     client: &mut Client<L>,
 ) -> WireOutcome
-    ensures { IsExpired events.now.engine.now client.old (outcome_view result) client.new }
+    ensures { IsMade events.now.engine.now client.old wire.WireEvent.expire (outcome_view result)
+        client.new }
 {
     match events.expire(client, 0) {
         Ok(expiry) => WireOutcome::Expiry(Ok(expiry)),

@@ -60,6 +60,8 @@ fn millis_between(start: Instant, now: Instant) -> u64
 
 /// Serves the connections that come in at a listener, as the arguments ask, and writes the line
 /// `closed at revision` and the revision of the store when it has ended. It begins with an empty store.
+/// That revision is of the world which the history of all that was done leads to, and 1 plus all changes
+/// that the server's clients made in it (`IsClosed` of `http_front`).
 ///
 /// The moments by which leases end are milliseconds since its start. Nothing is written before it
 /// has ended.
