@@ -331,7 +331,7 @@ where
 }
 
 /// The clients of all threads.
-fn handed<L: EngineName, R: Wait>(
+fn make_handed<L: EngineName, R: Wait>(
     rt: &R,
     alloc: Global,
     engine: &mut Engine<L>,
@@ -358,7 +358,7 @@ fn run<L: EngineName + Send + Sync, R: Wait + Threads + Sync>(
 {
     let mut engine = Engine::<L>::new(alloc, opening, ONES);
     let ended = AtomicBool::new(false);
-    let handed = handed(rt, alloc, &mut engine);
+    let handed = make_handed(rt, alloc, &mut engine);
     let back = served(rt, alloc, &engine, handed?, &ended);
     judged(rt, alloc, engine, back?)
 }

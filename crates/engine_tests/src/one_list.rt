@@ -83,10 +83,7 @@ fn said_by<L: EngineName, R: Wait>(
         return (0, 0);
     };
     let submitted = engine.submit(rt, client, 1000, &command);
-    (
-        submitted.revision,
-        submitted.outcome.settled.wire().0,
-    )
+    (submitted.revision, submitted.outcome.settled.wire().0)
 }
 
 /// The number of the first turn that is answered otherwise.
@@ -125,7 +122,7 @@ struct Behind {
     shares: (u64, u64),
 }
 
-fn behind<L: EngineName, R: Wait>(
+fn seen_behind<L: EngineName, R: Wait>(
     rt: &R,
     alloc: Global,
     engine: &Engine<L>,
@@ -223,14 +220,11 @@ fn taken_in_turns<L: EngineName, R: Wait>(
     let mut engine = Engine::<L>::new(alloc, opening, ONES);
     let mut first = engine.client(rt).ok()?;
     let mut second = engine.client(rt).ok()?;
-    let seen = behind(rt, alloc, &engine, &mut first, &mut second);
+    let seen = seen_behind(rt, alloc, &engine, &mut first, &mut second);
     Some((seen, closed(rt, alloc, engine, first, second)))
 }
 
-fn run_taken_in_turns<R: Wait>(
-    rt: &R,
-    alloc: Global,
-) -> Option<(Behind, Option<(usize, u64)>)> {
+fn run_taken_in_turns<R: Wait>(rt: &R, alloc: Global) -> Option<(Behind, Option<(usize, u64)>)> {
     let opening = Opening::new(alloc, rt).ok()?;
     taken_in_turns::<Brand, R>(rt, alloc, opening)
 }

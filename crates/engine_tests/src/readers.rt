@@ -318,7 +318,7 @@ struct Given<L: EngineName> {
 }
 
 /// Makes the clients of all threads.
-fn given<L: EngineName, R: Wait>(
+fn make_given<L: EngineName, R: Wait>(
     rt: &R,
     alloc: Global,
     engine: &mut Engine<L>,
@@ -441,7 +441,7 @@ fn run<L: EngineName + Send + Sync, R: Wait + Threads + Sync>(
 {
     let mut engine = Engine::<L>::new(alloc, opening, ONES);
     let ended = AtomicBool::new(false);
-    let given = given(rt, alloc, &mut engine);
+    let given = make_given(rt, alloc, &mut engine);
     let all = served(rt, alloc, &engine, given?, &ended);
     judged(rt, alloc, engine, all?)
 }
