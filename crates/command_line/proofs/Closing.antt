@@ -1,8 +1,10 @@
 -- The line that a server writes when it has ended.
-use Rattle.std.proofs.Common.{◌≡◌, ℕ, List, Option, Result, Ok, Err, OnOk, IfOk, MatchResult, refl, sym, subst}
+use Rattle.std.proofs.Common.{◌≡◌, ℕ, List, Option, Result, Ok, Err, OnOk, IfErr, IfOk, MatchResult, true, refl, sym, subst}
 use Rattle.std.specs.Io.KnownBytes.{Appends}
 use Rattle.kv_model.specs.declared.ids.Ids.{Ids}
 use Rattle.http_front.specs.Ends.{IsClosed}
+use Rattle.commands.specs.Faults.{is_write}
+use Rattle.commands.specs.Writes.{AppendsFront}
 use Rattle.commands.specs.declared.fault.Fault.{Fault}
 use Rattle.commands.specs.declared.fault.Fault.TheVariants as fault
 use Rattle.command_line.specs.Serving.{IsOfCore, closing_line}
@@ -29,3 +31,12 @@ pub of_core : (ids : Ids) (made : Result _ _) (r : Result ℕ Fault) → IfOk ma
     → MatchResult made (λ core. r ≡ Ok core.store.revision) (λ front. r ≡ Err (fault.Server front)) → IfOk r (IsOfCore ids)
 of_core ids (Ok core) r h e = subst (λ x. IfOk x (IsOfCore ids)) (sym e) (core, h, refl)
 of_core ids (Err front) r h e = subst (λ x. IfOk x (IsOfCore ids)) (sym e) tt
+
+-- where the line was cut, a front of it was written
+pub cut_of_core : {T : Type 0} (ids : Ids) (old new : Option (List ℕ)) (r : Result T Fault) (ended : Result ℕ Fault)
+    → IfErr r (λ f. is_write f ≡ true → MatchResult ended (λ revision. AppendsFront old new (closing_line revision)) (λ f. ⊥))
+    → IfOk ended (IsOfCore ids)
+    → IfErr r (λ f. is_write f ≡ true → (core : _) × IsClosed ids core × AppendsFront old new (closing_line core.store.revision))
+cut_of_core ids old new (Ok x) ended told of = tt
+cut_of_core ids old new (Err f) (Err e) told of w = absurd (told w)
+cut_of_core ids old new (Err f) (Ok revision) told of w = (of.0, of.1, subst (λ n. AppendsFront old new (closing_line n)) of.2 (told w))

@@ -111,7 +111,7 @@ fn went_on<L: EngineName, G: Gate, R: Wait>(
     gate: &G,
     script: &[u8],
 ) -> Result<Begun<L>, Fault>
-    requires new { IsNew begun.client }
+    requires { IsNew begun.client }
     ensures ids { IfOk result (λ b. b.engine ≡ begun.engine) }
     ensures begins { OnOk result (IsBegun begun.engine (line_events script.now)) }
     ensures fault { IfErr result (StopsBeginning begun.engine (line_events script.now)) }

@@ -150,8 +150,7 @@ fn is_gone<L: EngineName, R: Wait>(
     streams: &Streams<L, Socket>,
     number: u64,
 ) -> bool {
-    streams.get(number).is_none()
-        && matches!(events.deliver(client, number), Ok(Message::NoWatch))
+    streams.get(number).is_none() && matches!(events.deliver(client, number), Ok(Message::NoWatch))
 }
 
 /// Whether none of the watches 1 to 4 stands.
