@@ -1,7 +1,7 @@
 -- What an engine writes down of a list of events is read as events that lead to its world.
 use Rattle.std.proofs.Common.{◌≡◌, ℕ, suc, ◌+◌, ◌≤◌, List, [], ◌∷◌, ◌++◌, map, length, Bool, true, false, not, ◌&&◌, ◌||◌, nat_le, nat_lt}
 use Rattle.std.proofs.Common.{Option, None, Some, Ok, Err, is_some, option_and_then, refl, sym, ap, ◌∙◌, subst, cond, codes, IsOk, arith, true≢false}
-use Rattle.std.specs.Prelude.{All, MatchBool, fold, get_or}
+use Rattle.std.specs.Prelude.{All, MatchBool}
 use Rattle.std.proofs.Math.ListN.{get_or-append}
 use Rattle.std.specs.List.{list_all, concat}
 use Rattle.std.proofs.lemmas.Bool.{leb-true, ltb-false}
@@ -21,7 +21,7 @@ use Rattle.recording.specs.Lines.{Written, all_of, line_of, within_line}
 use Rattle.kv_model.specs.World.{World, opening}
 use Rattle.event_book.specs.Events.{Entry, FollowsFrom, IsHistory, after}
 use Rattle.event_script.specs.Leading.{AllAsked, AllFit, Fits, HasLine, HasRequest, Leads}
-use Rattle.event_script.specs.Scripts.{IsCut, IsWritten, script_of, written_by}
+use Rattle.event_script.specs.Scripts.{IsCut, script_of, written_by}
 use Rattle.event_script.proofs.Leading.{script_leads}
 use Rattle.event_script.proofs.Lined.{written_is_lines}
 use Rattle.commands.specs.Playing.{AreAllEvents}

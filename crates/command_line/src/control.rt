@@ -1,5 +1,5 @@
 //! `serve --control`: the store over HTTP, whose time, expiry and trimming somebody else decides.
-ghost use Rattle.std.specs.Prelude.{◌≡◌, false, true, is_ok, Ok, Err, IfOk, OnOk};
+ghost use Rattle.std.specs.Prelude.{◌≡◌, false, Ok, Err, IfOk, OnOk};
 ghost use Rattle.std.specs.Io.KnownBytes.{Appends};
 ghost use Rattle.kv_model.specs.Wire as wire;
 ghost use Rattle.json_gateway.specs.Runs.{outcome_view};
