@@ -1,6 +1,8 @@
--- What an engine writes down are events whose lines are read.
+-- What an engine writes down of a list of events is read as events that lead to its world.
 use Rattle.std.proofs.Common.{◌≡◌, ℕ, suc, ◌+◌, ◌≤◌, List, [], ◌∷◌, ◌++◌, map, length, Bool, true, false, not, ◌&&◌, ◌||◌, nat_le, nat_lt}
 use Rattle.std.proofs.Common.{Option, None, Some, Ok, Err, is_some, option_and_then, refl, sym, ap, ◌∙◌, subst, cond, codes, IsOk, arith, true≢false}
+use Rattle.std.specs.Prelude.{All, MatchBool}
+use Rattle.std.proofs.Math.ListN.{get_or-append}
 use Rattle.std.specs.List.{list_all, concat}
 use Rattle.std.proofs.lemmas.Bool.{leb-true, ltb-false}
 use Rattle.std.proofs.lemmas.Bool.Decides.{nat_tests}
@@ -13,10 +15,18 @@ use Rattle.kv_model.specs.Requests.{Bad, Read, body_or_empty, json_of, longest_b
 use Rattle.kv_model.specs.Requests.{paths, request_of, some_or, too_long, ◌>>=◌}
 use Rattle.kv_model.specs.Wire.{WireEvent}
 use Rattle.store_laws.proofs.HistoryLaws.{same_key-eq}
-use Rattle.recording.specs.Lines.{line_of, within_line}
-use Rattle.engine_lock.specs.Written.{HasLine}
+use mathlib.Core.List.{IsPrefix}
+use Rattle.kv_model.specs.declared.ids.Ids.{Ids}
+use Rattle.recording.specs.Lines.{Written, all_of, line_of, within_line}
+use Rattle.kv_model.specs.World.{World, opening}
+use Rattle.event_book.specs.Events.{Entry, FollowsFrom, IsHistory, after}
+use Rattle.event_script.specs.Leading.{AllAsked, AllFit, Fits, HasLine, HasRequest, Leads}
+use Rattle.event_script.specs.Scripts.{IsCut, script_of, written_by}
+use Rattle.event_script.proofs.Leading.{script_leads}
+use Rattle.event_script.proofs.Lined.{written_is_lines}
+use Rattle.commands.specs.Playing.{AreAllEvents}
 use Rattle.commands.specs.Script.{is, line_events}
-use Rattle.command_line.specs.ReadBack.{IsOfPath, IsRecordable, IsRecordingReadBack, IsRecordingScript, as_read}
+use Rattle.command_line.specs.ReadBack.{IsOfPath, IsReadAs, IsRecordable, IsRecordingReadBack, IsRecordingScript, as_read}
 use Rattle.command_line.proofs.ReadBack.{read_back}
 
 -- ---- the path of a request
@@ -94,11 +104,46 @@ recordable WireEvent.expire h = h
 recordable WireEvent.trim h = h
 recordable WireEvent.certify h = h
 
+-- the lines of events are read as those events
+lines_read : (text : List ℕ) (events : List WireEvent) → All HasLine events → text ≡ concat (map line_of events)
+    → line_events text ≡ map (λ e. Some (as_read e)) events
+lines_read text events each is =
+    ap line_events (is ∙ sym (append-nil (concat (map line_of events))))
+    ∙ read_back events [] (All-weaker HasLine IsRecordable recordable events each)
+    ∙ append-nil (map (λ e. Some (as_read e)) events)
+
+-- ---- the script of a list
+
+script_read : (text : List ℕ) (log : List Entry) → text ≡ script_of log → Leads log → IsReadAs text log
+script_read text log is led = (led, lines_read text led.events led.each (is ∙ led.lines))
+
+-- a beginning of a history is one
+follows_front : (ids : Ids) (w : World) (front rest : List Entry) → FollowsFrom ids w (front ++ rest) → FollowsFrom ids w front
+follows_front ids w [] rest h = tt
+follows_front ids w (e ∷ front) rest h = (h.0, h.1, follows_front ids (after w e) front rest h.2)
+
+all_front : {A : Type 0} (P : A → Type 0) (front rest : List A) → All P (front ++ rest) → All P front
+all_front P front rest h k d lt = subst P (get_or-append front rest d k lt) (h k d (omega (arith, lt, length-append front rest)))
+
+leads_front : (ids : Ids) (front log : List Entry) → IsPrefix front log → IsHistory ids log → AllFit log → AllAsked log → Leads front
+leads_front ids front log p h fit asked = script_leads ids front
+    (follows_front ids opening front p.0 (subst (IsHistory ids) (sym p.1) h))
+    (all_front (λ (e : Entry). HasRequest e.event) front p.0 (subst AllAsked (sym p.1) asked))
+    (all_front (λ (e : Entry). Fits e.event) front p.0 (subst AllFit (sym p.1) fit))
+
+-- what was written, where a line was lost and where none was
+read_by : (b : Bool) (ids : Ids) (l : Written) (log : List Entry)
+    → MatchBool b (IsCut l log) (record l { taken = []; text = all_of l } ≡ written_by log) → IsHistory ids log → AllFit log → AllAsked log
+    → MatchBool b ((front : List Entry) × IsPrefix front log × IsReadAs (all_of l) front) (IsReadAs (all_of l) log)
+read_by true ids l log cut h fit asked =
+    (cut.front, cut.begins, script_read (all_of l) cut.front cut.lines (leads_front ids cut.front log cut.begins h fit asked))
+read_by false ids l log whole h fit asked =
+    script_read (all_of l) log (ap (λ (w : Written). w.text) whole) (script_leads ids log h asked fit)
+
 pub recording_read_back : IsRecordingReadBack
-recording_read_back l core w =
-    ap line_events (w.lines ∙ sym (append-nil (concat (map line_of w.events))))
-    ∙ read_back w.events [] (All-weaker HasLine IsRecordable recordable w.events w.each)
-    ∙ append-nil (map (λ e. Some (as_read e)) w.events)
+recording_read_back ids l log w h fit asked = read_by l.is_lost ids l log w h fit asked
 
 pub recording_is_script : IsRecordingScript
-recording_is_script l core w = (map as_read w.events, recording_read_back l core w ∙ sym (map-map Some as_read w.events))
+recording_is_script ids l log w h fit =
+    let lines = written_is_lines ids l log w h fit in
+    (map as_read lines.events, lines_read (all_of l) lines.events lines.each lines.lines ∙ sym (map-map Some as_read lines.events))

@@ -1,10 +1,13 @@
 -- Laws of a recording: what is written down of events is read as those events.
-use Rattle.std.specs.Prelude.{◌≡◌, ◌≢◌, ⊤, ℕ, ◌+◌, ◌^◌, ◌<◌, ◌≤◌, List, ◌++◌, All, map, length, Some}
+use Rattle.std.specs.Prelude.{◌≡◌, ◌≢◌, ⊤, ℕ, ◌+◌, ◌^◌, ◌<◌, ◌≤◌, List, ◌++◌, All, MatchBool, map, length, Some}
 use Rattle.std.specs.List.{before_first, concat}
+use mathlib.Core.List.{IsPrefix}
+use Rattle.kv_model.specs.declared.ids.Ids.{Ids}
 use Rattle.kv_model.specs.Wire.{WireEvent}
-use Rattle.request_core.specs.State.{CoreState}
 use Rattle.recording.specs.Lines.{Written, all_of, within_line, line_of}
-use Rattle.engine_lock.specs.Written.{IsWritten}
+use Rattle.event_book.specs.Events.{Entry, IsHistory}
+use Rattle.event_script.specs.Leading.{AllAsked, AllFit, Leads}
+use Rattle.event_script.specs.Scripts.{IsWritten}
 use Rattle.commands.specs.Playing.{AreAllEvents}
 use Rattle.commands.specs.Script.{longest_line, is, event_of, line_events}
 
@@ -35,11 +38,17 @@ abbrev pub AreReadBack : Type 0
 AreReadBack = (events : List WireEvent) (rest : List ℕ) → All IsRecordable events
     → line_events (concat (map line_of events) ++ rest) ≡ map (λ e. Some (as_read e)) events ++ line_events rest
 
--- all that an engine has written down is read as the events that led to its core
-abbrev pub IsRecordingReadBack : Type 0
-IsRecordingReadBack = (l : Written) (core : CoreState) (w : IsWritten l core)
-    → line_events (all_of l) ≡ map (λ e. Some (as_read e)) w.events
+-- a text is read as events that lead to the world of a list
+abbrev pub IsReadAs : List ℕ → List Entry → Type 0
+IsReadAs text log = (led : Leads log) × (line_events text ≡ map (λ e. Some (as_read e)) led.events)
 
--- so each line of it asks for an event: a server goes on from it
+-- What an engine has written down of a list of events, of which each command has its request: where no line was lost, all of
+-- it is read as events that lead to the world of the list, and else to that of a beginning of the list.
+abbrev pub IsRecordingReadBack : Type 0
+IsRecordingReadBack = (ids : Ids) (l : Written) (log : List Entry) → IsWritten l log → IsHistory ids log → AllFit log → AllAsked log
+    → MatchBool l.is_lost ((front : List Entry) × IsPrefix front log × IsReadAs (all_of l) front) (IsReadAs (all_of l) log)
+
+-- Each line of it asks for an event, whether each command has its request or not: a server goes on from it.
 abbrev pub IsRecordingScript : Type 0
-IsRecordingScript = (l : Written) (core : CoreState) → IsWritten l core → AreAllEvents (line_events (all_of l))
+IsRecordingScript = (ids : Ids) (l : Written) (log : List Entry) → IsWritten l log → IsHistory ids log → AllFit log
+    → AreAllEvents (line_events (all_of l))
