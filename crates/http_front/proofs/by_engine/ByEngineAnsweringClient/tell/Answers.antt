@@ -5,8 +5,8 @@ use Rattle.http_front.proofs.by_engine.ByEngineAnsweringClient.tell.Goals as goa
 pub loop-init : goal.loop-init
 loop-init g c = AreQuiet.none
 
-pub returns-in-Some : goal.returns-in-Some
-returns-in-Some g c = inl (_, c.loop.invariant, c.in-Some.ensures)
+pub returns-in-Some-told_next : goal.returns-in-Some-told_next
+returns-in-Some-told_next g c = inl (_, c.loop.invariant, c.in-Some.ensures)
 
 pub loop-preserved : goal.loop-preserved
 loop-preserved g c = AreQuiet.more c.loop.invariant c.in_default.ensures
