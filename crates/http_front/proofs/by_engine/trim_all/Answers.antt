@@ -1,4 +1,7 @@
-use Rattle.std.proofs.Common.{arith, refl, ℕ, subst}
+use Rattle.std.proofs.Common.{◌≡◌, arith, refl, sym, true, ℕ, subst}
+use Rattle.trim_core.specs.declared.trimmer.Trim.{Trim}
+use Rattle.trim_core.specs.Told.{told_of}
+use Rattle.json_gateway.specs.Endings.{is_done}
 use Rattle.http_front.specs.Engines.{AreMade}
 use Rattle.http_front.proofs.by_engine.trim_all.Goals as goal
 
@@ -12,14 +15,14 @@ returns-in-Ok-Done g c = record {
   made = c.loop.invariant.0;
   last = c.in-Ok-Done.field-0;
   trims = c.in-Ok-Done.ensures.trims;
-  ends = refl;
+  ends = subst (λ (x : Trim). is_done (told_of x) ≡ true) (sym c.in-Ok-Done.field-0-is) refl;
 }
 
 pub loop-preserved-in-Ok : goal.loop-preserved-in-Ok
 loop-preserved-in-Ok g c = (AreMade.more c.in-Ok.field-0 c.loop.invariant.0 c.in-Ok.ensures.trims, omega arith)
 
 pub returns-then-refusals-eq-MOST_REFUSALS : goal.returns-then-refusals-eq-MOST_REFUSALS
-returns-then-refusals-eq-MOST_REFUSALS g c = subst (λ (k : ℕ). AreMade _ _ k _)
+returns-then-refusals-eq-MOST_REFUSALS g c = subst (λ (k : ℕ). AreMade c.args.events.now.engine.now c.args.client.now k c.trim.new.client)
     c.if-refusals-eq-MOST_REFUSALS.true (AreMade.again c.loop.invariant.0 c.in-Err.ensures.trims)
 
 pub loop-preserved : goal.loop-preserved
