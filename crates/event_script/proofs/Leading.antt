@@ -1,10 +1,8 @@
 -- The script of a history is the lines of events that lead where the list leads.
-use Rattle.std.proofs.Common.{◌≡◌, ◌<◌, ◌^◌, ◌==◌, ℕ, All, arith, map, max, not, Bool, true, false, cond, List, [], ◌∷◌, ◌++◌, Option, None, Some, Ok, Err, fold, refl, sym, ◌∙◌, ap, subst, append_assoc, ◌&&◌, ℤ}
-use Rattle.std.specs.Prelude.{is_ok, is_some, ⊤}
-use Rattle.std.specs.List.{concat}
+use Rattle.std.proofs.Common.{◌≡◌, ◌<◌, ◌^◌, ◌==◌, ℕ, arith, not, Bool, true, false, cond, List, [], ◌∷◌, ◌++◌, Option, None, Some, Ok, Err, fold, refl, sym, ◌∙◌, ap, subst, ◌&&◌, ℤ}
+use Rattle.std.specs.Prelude.{is_ok, is_some}
 use Rattle.std.proofs.lemmas.Bool.{eqb-true}
-use Rattle.std.proofs.lemmas.List.{append-nil}
-use Rattle.std.proofs.lemmas.List.Elements.{All-append, All-cons, All-head, All-nil, All-tail}
+use Rattle.std.proofs.lemmas.List.Elements.{All-head, All-tail}
 use Rattle.std.proofs.lemmas.List.Sums.{fold-append}
 use Rattle.kv_model.specs.declared.ids.Ids.{Ids}
 use Rattle.kv_model.specs.Answers.{message_text}
@@ -16,8 +14,8 @@ use Rattle.kv_model.specs.Step.{Made, expire, expire_at, expiry_of, perform, rev
 use Rattle.kv_model.specs.Watches.{Delivery, after_delivery, deliver}
 use Rattle.kv_model.specs.Wire.{WireEvent, WireOutcome, WireTold, client_id, post_call, tell_message, wire_step}
 use Rattle.kv_model.specs.World.{Watch, World, at_moment, opening, revision, watch_at, without_watch}
-use Rattle.recording.specs.Lines.{Written, blank, handed, line_of, lines_of}
-use Rattle.event_book.specs.Asking.{Asking, Asks, IsAskedBy}
+use Rattle.recording.specs.Lines.{Written, blank, handed}
+use Rattle.event_book.specs.Asking.{Asks, IsAskedBy}
 use Rattle.event_book.specs.Events.{Answers, Entry, Event, FollowsFrom, IsAskedFor, after, clocked, left_by}
 use Rattle.event_script.specs.Leading.{AllAsked, AllFit, AreLines, Fits, HasLine, HasRequest, ScriptLeads, run_by}
 use Rattle.event_script.specs.Scripts.{delivery_line, ending_line, expiry_line, handed_with, noted, noted_by, noted_if, noted_trimming, write}

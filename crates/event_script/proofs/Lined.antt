@@ -1,5 +1,5 @@
 -- The script of a history is lines of events, and so is what was written down of it.
-use Rattle.std.proofs.Common.{◌≡◌, ◌<◌, ◌^◌, ◌==◌, ℕ, All, arith, map, max, Bool, true, false, cond, List, [], ◌∷◌, ◌++◌, Option, None, Some, fold, refl, sym, ◌∙◌, ap, subst, append_assoc, ◌&&◌}
+use Rattle.std.proofs.Common.{◌≡◌, ◌<◌, ◌^◌, ◌==◌, ℕ, All, arith, map, Bool, true, false, cond, List, [], ◌∷◌, ◌++◌, Option, None, Some, fold, refl, sym, ◌∙◌, ap, subst, append_assoc, ◌&&◌}
 use Rattle.std.specs.Prelude.{MatchBool, is_ok, ⊤}
 use Rattle.std.specs.List.{concat}
 use Rattle.std.proofs.lemmas.List.{append-nil}
@@ -15,8 +15,8 @@ use Rattle.recording.specs.Lines.{Written, all_of, blank, handed, line_of, lines
 use Rattle.event_book.specs.Asking.{Asks, IsAskedBy}
 use Rattle.event_book.specs.Events.{Entry, Event, FollowsFrom, IsAskedFor, IsHistory, after}
 use Rattle.event_script.specs.Leading.{AllFit, AreLines, Fits, HasLine, ScriptIsLines, WrittenIsLines}
-use Rattle.event_script.specs.Scripts.{IsCut, IsWritten, delivery_line, ending_line, expiry_line, handed_with, noted, noted_by, noted_if, noted_told, noted_trimming}
-use Rattle.event_script.specs.Scripts.{request_in, script_of, write, written_by}
+use Rattle.event_script.specs.Scripts.{IsCut, delivery_line, ending_line, expiry_line, handed_with, noted, noted_by, noted_if, noted_told, noted_trimming}
+use Rattle.event_script.specs.Scripts.{request_in, write, written_by}
 
 -- ---- texts
 

@@ -1,5 +1,5 @@
 -- The script of a list of events: what is written down as each is made and its line finds memory, and what stands under a lock.
-use Rattle.std.specs.Prelude.{◌≡◌, ℕ, List, [], ◌∷◌, ◌++◌, Bool, true, false, MatchBool, Option, None, Some, fold, if◌then◌else◌, ◌&&◌}
+use Rattle.std.specs.Prelude.{◌≡◌, ℕ, List, [], ◌++◌, Bool, true, false, MatchBool, Option, None, Some, fold, if◌then◌else◌, ◌&&◌}
 use mathlib.Core.List.{IsPrefix}
 use Rattle.kv_model.specs.Follows.{Outcome}
 use Rattle.kv_model.specs.Told.{Expiry}
