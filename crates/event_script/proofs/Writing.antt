@@ -30,6 +30,8 @@ use Rattle.event_book.specs.Events.{Entry, Event, entry}
 use Rattle.event_book.proofs.Prefixes.{prefix_trans}
 use Rattle.event_script.specs.Notes.{NotesCommand, NotesEnding, NotesExpiry, NotesMessage, NotesRequest, says_done, step_outcome}
 use Rattle.event_script.specs.Scripts.{IsCut, IsWritten, noted, noted_by, noted_if, noted_trim, script_of, write, written_by}
+use Rattle.event_script.specs.Writing.{CertificateIsWritten, CheckedIsWritten, CommandIsWritten, DeliveryIsWritten, EndingIsWritten, ExpiryIsWritten}
+use Rattle.event_script.specs.Writing.{MomentIsWritten, NothingIsWritten, StaysWritten, TakenIsWritten, TrimmingIsWritten, WrittenBegins, WrittenIsWhole}
 use Rattle.event_script.proofs.Growing.{script_grows}
 
 -- ---- one step
@@ -107,8 +109,7 @@ moment_goes Outcome.memory now h m e = rests h m e
 moment_goes (Outcome.lost x) now h m e = rests h m e
 moment_goes (Outcome.said t) now h m e = rests h m e
 
-pub written_moment : (l m : Written) (log : List Entry) (owner about now : ℕ) (o : WireOutcome) → IsWritten l log → m ≡ handed l now
-    → IsWritten m (log ++ entry owner about (Event.moment now) o ∷ [])
+pub written_moment : MomentIsWritten
 written_moment l m log owner about now o w e =
     more l m log (entry owner about (Event.moment now) o) w (moment_goes o now (handed l now) m e)
 
@@ -122,8 +123,7 @@ command_goes (settled.Reply r) up watch now a h m n = request_goes a.request h m
 command_goes settled.Memory up watch now a h m e = rests h m e
 command_goes (settled.Lost revision) up watch now a h m n = request_goes a.request h m n
 
-pub written_command : (l m : Written) (log : List Entry) (owner about now : ℕ) (a : Asking) (o : command.Outcome) → IsWritten l log
-    → NotesCommand o.settled a.request (handed l now) m → IsWritten m (log ++ entry owner about (Event.command now a) (command_view o) ∷ [])
+pub written_command : CommandIsWritten
 written_command l m log owner about now a o w n = more l m log (entry owner about (Event.command now a) (command_view o)) w
     (command_goes o.settled o.raised o.watch now a (handed l now) m n)
 
@@ -140,8 +140,7 @@ expiry_goes (Ok expiry.Nothing) now h m e = rests h m e
 expiry_goes (Ok (expiry.Expired id revision raised)) now h m n = line h m WireEvent.expire n
 expiry_goes (Err e) now h m same = refused_goes (is_memory e) now h m same
 
-pub written_expiry : (l m : Written) (log : List Entry) (owner about now : ℕ) (r : Result Expiry Refusal) → IsWritten l log
-    → NotesExpiry r (handed l now) m → IsWritten m (log ++ entry owner about (Event.expiry now) (step_outcome r) ∷ [])
+pub written_expiry : ExpiryIsWritten
 written_expiry l m log owner about now r w n =
     more l m log (entry owner about (Event.expiry now) (step_outcome r)) w (expiry_goes r now (handed l now) m n)
 
@@ -152,8 +151,7 @@ message_goes number (Ok message.Nothing) l m e = rests l m e
 message_goes number (Ok (message.Text text)) l m n = line l m (WireEvent.deliver number) n
 message_goes number (Err x) l m e = rests l m e
 
-pub written_delivery : (l m : Written) (log : List Entry) (owner about number : ℕ) (r : Result Message AllocError) → IsWritten l log
-    → NotesMessage number r l m → IsWritten m (log ++ entry owner about (Event.delivery number) (delivery_outcome r) ∷ [])
+pub written_delivery : DeliveryIsWritten
 written_delivery l m log owner about number r w n =
     more l m log (entry owner about (Event.delivery number) (delivery_outcome r)) w (message_goes number r l m n)
 
@@ -162,8 +160,7 @@ ending_goes : (stood : Bool) (number : ℕ) (l m : Written) → NotesEnding numb
 ending_goes true number l m n = line l m (WireEvent.close number) n
 ending_goes false number l m e = rests l m e
 
-pub written_ending : (l m : Written) (log : List Entry) (owner about number : ℕ) (stood : Bool) → IsWritten l log
-    → NotesEnding number stood l m → IsWritten m (log ++ entry owner about (Event.ending number) (Outcome.said (WireTold.closed stood)) ∷ [])
+pub written_ending : EndingIsWritten
 written_ending l m log owner about number stood w n =
     more l m log (entry owner about (Event.ending number) (Outcome.said (WireTold.closed stood))) w (ending_goes stood number l m n)
 
@@ -190,9 +187,7 @@ trimming_goes (told.Trimmed.removed p) c l m n = trim_goes false l m n
 trimming_goes (told.Trimmed.kept p) c l m n = trim_goes false l m n
 trimming_goes (told.Trimmed.done count) c l m n = trim_goes true l m n
 
--- one that is told without its certificate, or with it
-pub written_trimming : (l m : Written) (log : List Entry) (owner about : ℕ) (t : told.Trimmed) (c : Option (List Claim)) → IsWritten l log
-    → IsTrimNoted (is_done t) l m → IsWritten m (log ++ entry owner about Event.trimming (Outcome.said (trim_told t c)) ∷ [])
+pub written_trimming : TrimmingIsWritten
 written_trimming l m log owner about t c w n =
     more l m log (entry owner about Event.trimming (Outcome.said (trim_told t c))) w (trimming_goes t c l m n)
 
@@ -202,8 +197,7 @@ checked_goes (trimmed.Removed p) l m n = trim_goes false l m n
 checked_goes (trimmed.Kept p) l m n = trim_goes false l m n
 checked_goes (trimmed.Done count certificate) l m n = trim_goes true l m n
 
-pub written_checked : (l m : Written) (log : List Entry) (owner about : ℕ) (t : Trimmed) → IsWritten l log → IsTrimNoted (says_done t) l m
-    → IsWritten m (log ++ entry owner about Event.trimming (Outcome.said (trimmed_view t)) ∷ [])
+pub written_checked : CheckedIsWritten
 written_checked l m log owner about t w n =
     more l m log (entry owner about Event.trimming (Outcome.said (trimmed_view t))) w (checked_goes t l m n)
 
@@ -212,8 +206,7 @@ certificate_goes Outcome.memory l m e = rests l m e
 certificate_goes (Outcome.lost x) l m e = rests l m e
 certificate_goes (Outcome.said t) l m e = rests l m e
 
-pub written_certificate : (l m : Written) (log : List Entry) (owner about : ℕ) (o : WireOutcome) → IsWritten l log → m ≡ l
-    → IsWritten m (log ++ entry owner about Event.certificate o ∷ [])
+pub written_certificate : CertificateIsWritten
 written_certificate l m log owner about o w e = more l m log (entry owner about Event.certificate o) w (certificate_goes o l m e)
 
 -- ---- no event
@@ -223,7 +216,7 @@ first_by : (gone : Bool) → IsWritten (blank gone) []
 first_by true = record { front = []; begins = ([], refl); lines = refl }
 first_by false = refl
 
-pub first : (gone : Bool) (l : Written) → l ≡ blank gone → IsWritten l []
+pub first : NothingIsWritten
 first gone l e = subst (λ x. IsWritten x []) (sym e) (first_by gone)
 
 taken_all : (l : Written) → all_of (record l { taken = l.taken ++ l.text ∷ []; text = [] }) ≡ all_of l
@@ -234,8 +227,7 @@ taken_by : (gone : Bool) (l m : Written) (log : List Entry) → all_of m ≡ all
 taken_by true l m log same all w = record { front = w.front; begins = w.begins; lines = same ∙ w.lines }
 taken_by false l m log same all w = all ∙ w
 
--- texts are taken
-pub written_taken : (l m : Written) (log : List Entry) → IsWritten l log → m ≡ record l { taken = l.taken ++ l.text ∷ []; text = [] } → IsWritten m log
+pub written_taken : TakenIsWritten
 written_taken l m log w e = subst (λ x. IsWritten x log) (sym e)
     (taken_by l.is_lost l (record l { taken = l.taken ++ l.text ∷ []; text = [] }) log (taken_all l)
     (ap (λ t. record l { taken = []; text = t }) (taken_all l)) w)
@@ -246,10 +238,24 @@ all_by : (gone : Bool) (l : Written) (log : List Entry) → MatchBool gone (IsCu
 all_by true l log w = subst (λ t. IsPrefix t (script_of log)) (sym w.lines) (script_grows w.front log w.begins)
 all_by false l log w = ([], append-nil (all_of l) ∙ ap (λ (x : Written). x.text) w)
 
--- all that was ever written begins the script
-pub written_begins : (l : Written) (log : List Entry) → IsWritten l log → IsPrefix (all_of l) (script_of log)
+pub written_begins : WrittenBegins
 written_begins l log w = all_by l.is_lost l log w
 
--- and where no line was lost, it is the script
-pub written_whole : (l : Written) (log : List Entry) → IsWritten l log → l.is_lost ≡ false → all_of l ≡ script_of log
+pub written_whole : WrittenIsWhole
 written_whole l log w is = ap (λ (x : Written). x.text) (subst (λ b. MatchBool b (IsCut l log) (whole l ≡ written_by log)) is w)
+
+pub stays_written : StaysWritten
+stays_written = record {
+  nothing = first;
+  moment = written_moment;
+  command = written_command;
+  expiry = written_expiry;
+  delivery = written_delivery;
+  ending = written_ending;
+  trimming = written_trimming;
+  checked = written_checked;
+  certificate = written_certificate;
+  taken = written_taken;
+  begins = written_begins;
+  whole = written_whole;
+}
