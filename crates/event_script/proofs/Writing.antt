@@ -17,7 +17,6 @@ use Rattle.request_core.specs.declared.answer.Expiry.{Expiry}
 use Rattle.request_core.specs.declared.answer.Expiry.TheVariants as expiry
 use Rattle.json_gateway.specs.declared.outcome.Message.{Message}
 use Rattle.json_gateway.specs.declared.outcome.Message.TheVariants as message
-use Rattle.json_gateway.specs.declared.outcome.Outcome as command
 use Rattle.json_gateway.specs.declared.outcome.Settled.{Settled}
 use Rattle.json_gateway.specs.declared.outcome.Settled.TheVariants as settled
 use Rattle.json_gateway.specs.declared.outcome.Trimmed.{Trimmed}
