@@ -1,9 +1,10 @@
 -- What was written down stays what the script says, with each event that is made and noted.
 use Rattle.std.proofs.Common.{◌≡◌, ℕ, Bool, true, false, cond, List, [], ◌∷◌, ◌++◌, Option, None, Some, Result, Ok, Err, refl, sym, ◌∙◌, ap, subst, append_assoc, ◌&&◌}
-use Rattle.std.specs.Prelude.{MatchBool}
+use Rattle.std.specs.Prelude.{MatchBool, is_some}
 use Rattle.std.specs.List.{concat}
 use Rattle.std.specs.declared.alloc.AllocError.{AllocError}
 use Rattle.std.proofs.lemmas.List.{append-nil}
+use Rattle.std.proofs.lemmas.List.Elements.{All-append, All-cons, All-nil}
 use Rattle.std.proofs.lemmas.List.Folds.{concat-append}
 use Rattle.std.proofs.lemmas.List.Sums.{fold-append}
 use mathlib.Core.List.{IsPrefix}
@@ -28,7 +29,7 @@ use Rattle.event_book.specs.Asking.{Asking}
 use Rattle.event_book.specs.Events.{Entry, Event, entry}
 use Rattle.event_book.proofs.Prefixes.{prefix_trans}
 use Rattle.event_script.specs.Notes.{NotesCommand, NotesEnding, NotesExpiry, NotesMessage, NotesRequest, says_done, step_outcome}
-use Rattle.event_script.specs.Scripts.{IsCut, IsWritten, noted, noted_by, noted_if, noted_trim, script_of, write, written_by}
+use Rattle.event_script.specs.Scripts.{AllAsked, HasRequest, IsCut, IsWritten, noted, noted_by, noted_if, noted_trim, script_of, write, written_by}
 use Rattle.event_script.specs.Writing.{CertificateIsWritten, CheckedIsWritten, CommandIsWritten, DeliveryIsWritten, EndingIsWritten, ExpiryIsWritten}
 use Rattle.event_script.specs.Writing.{MomentIsWritten, NothingIsWritten, StaysWritten, TakenIsWritten, TrimmingIsWritten, WrittenBegins, WrittenIsWhole}
 use Rattle.event_script.proofs.Growing.{script_grows}
@@ -46,24 +47,35 @@ GoesBy gone step l m = MatchBool gone (all_of m ≡ all_of l) ((l.is_lost ≡ fa
 abbrev Goes : (Written → Written) → Written → Written → Type 0
 Goes step l m = GoesBy m.is_lost step l m
 
-more_by : (was gone : Bool) (l m : Written) (log : List Entry) (e : Entry) → l.is_lost ≡ was
-    → MatchBool was (IsCut l log) (whole l ≡ written_by log) → GoesBy gone (λ x. write x e) l m
-    → MatchBool gone (IsCut m (log ++ e ∷ [])) (whole m ≡ written_by (log ++ e ∷ []))
-more_by true true l m log e is w g = record {
+-- what stands in IsWritten, by whether a line was lost
+abbrev Stands : Bool → Written → List Entry → Type 0
+Stands gone l log = MatchBool gone (IsCut l log) ((whole l ≡ written_by log) × AllAsked log)
+
+asked_more : (log : List Entry) (e : Entry) → AllAsked log → HasRequest e.event e.outcome → AllAsked (log ++ e ∷ [])
+asked_more log e all one = All-append (λ (x : Entry). HasRequest x.event x.outcome) log (e ∷ []) all
+    (All-cons (λ (x : Entry). HasRequest x.event x.outcome) e [] one (All-nil (λ (x : Entry). HasRequest x.event x.outcome)))
+
+more_by : (was gone : Bool) (l m : Written) (log : List Entry) (e : Entry) → l.is_lost ≡ was → m.is_lost ≡ gone
+    → Stands was l log → (m.is_lost ≡ false → HasRequest e.event e.outcome) → GoesBy gone (λ x. write x e) l m → Stands gone m (log ++ e ∷ [])
+more_by true true l m log e is lost w has g = record {
   front = w.front;
   begins = prefix_trans w.front log (log ++ e ∷ []) w.begins (e ∷ [], refl);
   lines = g ∙ w.lines;
+  asked = w.asked;
 }
-more_by false true l m log e is w g = record {
+more_by false true l m log e is lost w has g = record {
   front = log;
   begins = (e ∷ [], refl);
-  lines = g ∙ ap (λ (x : Written). x.text) w;
+  lines = g ∙ ap (λ (x : Written). x.text) w.0;
+  asked = w.1;
 }
-more_by true false l m log e is w g = let bad : true ≡ false = sym is ∙ g.0 in absurd (cc bad)
-more_by false false l m log e is w g = g.1 ∙ ap (λ x. write x e) w ∙ sym (fold-append write (blank false) log (e ∷ []))
+more_by true false l m log e is lost w has g = let bad : true ≡ false = sym is ∙ g.0 in absurd (cc bad)
+more_by false false l m log e is lost w has g =
+    (g.1 ∙ ap (λ x. write x e) w.0 ∙ sym (fold-append write (blank false) log (e ∷ [])), asked_more log e w.1 (has lost))
 
-more : (l m : Written) (log : List Entry) (e : Entry) → IsWritten l log → Goes (λ x. write x e) l m → IsWritten m (log ++ e ∷ [])
-more l m log e w g = more_by l.is_lost m.is_lost l m log e refl w g
+more : (l m : Written) (log : List Entry) (e : Entry) → IsWritten l log → (m.is_lost ≡ false → HasRequest e.event e.outcome)
+    → Goes (λ x. write x e) l m → IsWritten m (log ++ e ∷ [])
+more l m log e w has g = more_by l.is_lost m.is_lost l m log e refl refl w has g
 
 -- ---- what is noted
 
@@ -110,7 +122,7 @@ moment_goes (Outcome.said t) now h m e = rests h m e
 
 pub written_moment : MomentIsWritten
 written_moment l m log owner about now o w e =
-    more l m log (entry owner about (Event.moment now) o) w (moment_goes o now (handed l now) m e)
+    more l m log (entry owner about (Event.moment now) o) w (λ is. tt) (moment_goes o now (handed l now) m e)
 
 request_goes : (request : Option WireEvent) (h m : Written) → NotesRequest request h m → Goes (λ x. noted_if x request) h m
 request_goes None h m e = subst (Goes (λ x. x) h) (sym e) refl
@@ -122,9 +134,20 @@ command_goes (settled.Reply r) up watch now a h m n = request_goes a.request h m
 command_goes settled.Memory up watch now a h m e = rests h m e
 command_goes (settled.Lost revision) up watch now a h m n = request_goes a.request h m n
 
+request_asked : (request : Option WireEvent) (h m : Written) → NotesRequest request h m → m.is_lost ≡ false → is_some request ≡ true
+request_asked None h m e is = let bad : true ≡ false = sym (ap (λ (x : Written). x.is_lost) e) ∙ is in absurd (cc bad)
+request_asked (Some e) h m n is = refl
+
+-- where no line is lost, a command that was made had its request
+command_asked : (s : Settled) (up watch : Option ℕ) (now : ℕ) (a : Asking) (h m : Written) → NotesCommand s a.request h m → m.is_lost ≡ false
+    → HasRequest (Event.command now a) (ending_view s up watch)
+command_asked (settled.Reply r) up watch now a h m n is = request_asked a.request h m n is
+command_asked settled.Memory up watch now a h m e is = tt
+command_asked (settled.Lost revision) up watch now a h m n is = request_asked a.request h m n is
+
 pub written_command : CommandIsWritten
 written_command l m log owner about now a o w n = more l m log (entry owner about (Event.command now a) (command_view o)) w
-    (command_goes o.settled o.raised o.watch now a (handed l now) m n)
+    (command_asked o.settled o.raised o.watch now a (handed l now) m n) (command_goes o.settled o.raised o.watch now a (handed l now) m n)
 
 -- ---- a step of expiry, a message, the end of a watch
 
@@ -141,7 +164,7 @@ expiry_goes (Err e) now h m same = refused_goes (is_memory e) now h m same
 
 pub written_expiry : ExpiryIsWritten
 written_expiry l m log owner about now r w n =
-    more l m log (entry owner about (Event.expiry now) (step_outcome r)) w (expiry_goes r now (handed l now) m n)
+    more l m log (entry owner about (Event.expiry now) (step_outcome r)) w (λ is. tt) (expiry_goes r now (handed l now) m n)
 
 message_goes : (number : ℕ) (r : Result Message AllocError) (l m : Written) → NotesMessage number r l m
     → Goes (λ x. noted_by x (Event.delivery number) (delivery_outcome r)) l m
@@ -152,7 +175,7 @@ message_goes number (Err x) l m e = rests l m e
 
 pub written_delivery : DeliveryIsWritten
 written_delivery l m log owner about number r w n =
-    more l m log (entry owner about (Event.delivery number) (delivery_outcome r)) w (message_goes number r l m n)
+    more l m log (entry owner about (Event.delivery number) (delivery_outcome r)) w (λ is. tt) (message_goes number r l m n)
 
 ending_goes : (stood : Bool) (number : ℕ) (l m : Written) → NotesEnding number stood l m
     → Goes (λ x. noted_by x (Event.ending number) (Outcome.said (WireTold.closed stood))) l m
@@ -161,7 +184,7 @@ ending_goes false number l m e = rests l m e
 
 pub written_ending : EndingIsWritten
 written_ending l m log owner about number stood w n =
-    more l m log (entry owner about (Event.ending number) (Outcome.said (WireTold.closed stood))) w (ending_goes stood number l m n)
+    more l m log (entry owner about (Event.ending number) (Outcome.said (WireTold.closed stood))) w (λ is. tt) (ending_goes stood number l m n)
 
 -- ---- a trimming step, a certificate
 
@@ -188,7 +211,7 @@ trimming_goes (told.Trimmed.done count) c l m n = trim_goes true l m n
 
 pub written_trimming : TrimmingIsWritten
 written_trimming l m log owner about t c w n =
-    more l m log (entry owner about Event.trimming (Outcome.said (trim_told t c))) w (trimming_goes t c l m n)
+    more l m log (entry owner about Event.trimming (Outcome.said (trim_told t c))) w (λ is. tt) (trimming_goes t c l m n)
 
 checked_goes : (t : Trimmed) (l m : Written) → IsTrimNoted (says_done t) l m
     → Goes (λ x. noted_by x Event.trimming (Outcome.said (trimmed_view t))) l m
@@ -198,7 +221,7 @@ checked_goes (trimmed.Done count certificate) l m n = trim_goes true l m n
 
 pub written_checked : CheckedIsWritten
 written_checked l m log owner about t w n =
-    more l m log (entry owner about Event.trimming (Outcome.said (trimmed_view t))) w (checked_goes t l m n)
+    more l m log (entry owner about Event.trimming (Outcome.said (trimmed_view t))) w (λ is. tt) (checked_goes t l m n)
 
 certificate_goes : (o : WireOutcome) (l m : Written) → m ≡ l → Goes (λ x. noted_by x Event.certificate o) l m
 certificate_goes Outcome.memory l m e = rests l m e
@@ -206,14 +229,14 @@ certificate_goes (Outcome.lost x) l m e = rests l m e
 certificate_goes (Outcome.said t) l m e = rests l m e
 
 pub written_certificate : CertificateIsWritten
-written_certificate l m log owner about o w e = more l m log (entry owner about Event.certificate o) w (certificate_goes o l m e)
+written_certificate l m log owner about o w e = more l m log (entry owner about Event.certificate o) w (λ is. tt) (certificate_goes o l m e)
 
 -- ---- no event
 
 -- nothing was written, whether lines are to be or not
 first_by : (gone : Bool) → IsWritten (blank gone) []
-first_by true = record { front = []; begins = ([], refl); lines = refl }
-first_by false = refl
+first_by true = record { front = []; begins = ([], refl); lines = refl; asked = All-nil (λ (x : Entry). HasRequest x.event x.outcome) }
+first_by false = (refl, All-nil (λ (x : Entry). HasRequest x.event x.outcome))
 
 pub first : NothingIsWritten
 first gone l e = subst (λ x. IsWritten x []) (sym e) (first_by gone)
@@ -222,9 +245,9 @@ taken_all : (l : Written) → all_of (record l { taken = l.taken ++ l.text ∷ [
 taken_all l = append-nil (concat (l.taken ++ l.text ∷ [])) ∙ concat-append l.taken (l.text ∷ []) ∙ ap (λ t. concat l.taken ++ t) (append-nil l.text)
 
 taken_by : (gone : Bool) (l m : Written) (log : List Entry) → all_of m ≡ all_of l → whole m ≡ whole l
-    → MatchBool gone (IsCut l log) (whole l ≡ written_by log) → MatchBool gone (IsCut m log) (whole m ≡ written_by log)
-taken_by true l m log same all w = record { front = w.front; begins = w.begins; lines = same ∙ w.lines }
-taken_by false l m log same all w = all ∙ w
+    → Stands gone l log → Stands gone m log
+taken_by true l m log same all w = record { front = w.front; begins = w.begins; lines = same ∙ w.lines; asked = w.asked }
+taken_by false l m log same all w = (all ∙ w.0, w.1)
 
 pub written_taken : TakenIsWritten
 written_taken l m log w e = subst (λ x. IsWritten x log) (sym e)
@@ -233,15 +256,15 @@ written_taken l m log w e = subst (λ x. IsWritten x log) (sym e)
 
 -- ---- what it says
 
-all_by : (gone : Bool) (l : Written) (log : List Entry) → MatchBool gone (IsCut l log) (whole l ≡ written_by log) → IsPrefix (all_of l) (script_of log)
+all_by : (gone : Bool) (l : Written) (log : List Entry) → Stands gone l log → IsPrefix (all_of l) (script_of log)
 all_by true l log w = subst (λ t. IsPrefix t (script_of log)) (sym w.lines) (script_grows w.front log w.begins)
-all_by false l log w = ([], append-nil (all_of l) ∙ ap (λ (x : Written). x.text) w)
+all_by false l log w = ([], append-nil (all_of l) ∙ ap (λ (x : Written). x.text) w.0)
 
 pub written_begins : WrittenBegins
 written_begins l log w = all_by l.is_lost l log w
 
 pub written_whole : WrittenIsWhole
-written_whole l log w is = ap (λ (x : Written). x.text) (subst (λ b. MatchBool b (IsCut l log) (whole l ≡ written_by log)) is w)
+written_whole l log w is = ap (λ (x : Written). x.text) (subst (λ b. Stands b l log) is w).0
 
 pub stays_written : StaysWritten
 stays_written = record {
