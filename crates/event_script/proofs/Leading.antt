@@ -1,5 +1,5 @@
 -- The script of a history is the lines of events that lead where the list leads.
-use Rattle.std.proofs.Common.{◌≡◌, ◌<◌, ◌^◌, ◌==◌, ℕ, ℤ, All, arith, map, max, not, Bool, true, false, cond, List, [], ◌∷◌, ◌++◌, Option, None, Some}
+use Rattle.std.proofs.Common.{◌≡◌, ◌<◌, ◌^◌, ◌==◌, ℕ, ℤ, All, arith, map, not, Bool, true, false, cond, List, [], ◌∷◌, ◌++◌, Option, None, Some}
 use Rattle.std.proofs.Common.{Ok, Err, fold, refl, sym, ◌∙◌, ap, subst, append_assoc, ◌&&◌}
 use Rattle.std.specs.Prelude.{MatchBool, is_ok, is_some, ⊤}
 use Rattle.std.specs.List.{concat}
@@ -20,8 +20,8 @@ use Rattle.kv_model.specs.World.{Watch, World, at_moment, opening, revision, wat
 use Rattle.recording.specs.Lines.{Written, all_of, blank, handed, line_of, lines_of}
 use Rattle.event_book.specs.Asking.{Asks, IsAskedBy}
 use Rattle.event_book.specs.Events.{Answers, Entry, Event, FollowsFrom, IsAskedFor, IsHistory, after, clocked, left_by}
-use Rattle.event_script.specs.Leading.{AllFit, Fits, HasLine, Leads, LeadsBy, ScriptLeads, WrittenLeads, run_by}
-use Rattle.event_script.specs.Scripts.{AllAsked, HasRequest, IsCut, IsWritten, delivery_line, ending_line, expiry_line, handed_with}
+use Rattle.event_script.specs.Leading.{AllFit, Fits, HasLine, LeadsBy, ScriptLeads, WrittenLeads, run_by}
+use Rattle.event_script.specs.Scripts.{AllAsked, HasRequest, IsCut, delivery_line, ending_line, expiry_line, handed_with}
 use Rattle.event_script.specs.Scripts.{noted, noted_by, noted_if, noted_trimming, write, written_by}
 use Rattle.event_script.proofs.Clocks.{command_clock, delivery_clock, expiry_clock, moments, same_clock, twice}
 

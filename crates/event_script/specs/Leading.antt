@@ -1,5 +1,5 @@
 -- The law of a script: it is the lines of events that lead where the list leads.
-use Rattle.std.specs.Prelude.{◌≡◌, ℕ, ◌<◌, ◌^◌, List, All, IsOk, MatchBool, fold, map, ⊤}
+use Rattle.std.specs.Prelude.{◌≡◌, ◌<◌, ◌^◌, List, All, IsOk, MatchBool, fold, map, ⊤}
 use Rattle.std.specs.List.{concat}
 use mathlib.Core.List.{IsPrefix}
 use Rattle.kv_model.specs.declared.ids.Ids.{Ids}
