@@ -1,5 +1,5 @@
 -- A script only grows.
-use Rattle.std.proofs.Common.{◌≡◌, Bool, true, false, List, [], ◌∷◌, ◌++◌, Option, None, Some, fold, refl, sym, subst, ◌&&◌, cond}
+use Rattle.std.proofs.Common.{Bool, true, false, List, [], ◌∷◌, ◌++◌, Option, None, Some, fold, refl, sym, subst, ◌&&◌, cond}
 use Rattle.std.proofs.lemmas.List.{append-nil}
 use Rattle.std.proofs.lemmas.List.Sums.{fold-append}
 use mathlib.Core.List.{IsPrefix}
@@ -9,7 +9,7 @@ use Rattle.recording.specs.Lines.{Written, blank, lines_of}
 use Rattle.event_book.specs.Events.{Entry, Event}
 use Rattle.event_book.proofs.Prefixes.{prefix_trans}
 use Rattle.event_script.specs.Leading.{ScriptGrows}
-use Rattle.event_script.specs.Scripts.{delivery_line, ending_line, expiry_line, handed_with, noted, noted_by, noted_if, noted_told, noted_trim, noted_trimming}
+use Rattle.event_script.specs.Scripts.{delivery_line, ending_line, expiry_line, handed_with, noted, noted_by, noted_if, noted_told, noted_trimming}
 use Rattle.event_script.specs.Scripts.{request_in, script_of, write, written_by}
 
 -- the second text begins with the first

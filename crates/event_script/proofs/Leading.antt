@@ -1,6 +1,7 @@
 -- The script of a history is the lines of events that lead where the list leads.
-use Rattle.std.proofs.Common.{◌≡◌, ◌<◌, ◌^◌, ◌==◌, ℕ, All, arith, map, max, not, Bool, true, false, cond, List, [], ◌∷◌, ◌++◌, Option, None, Some, Ok, Err, fold, refl, sym, ◌∙◌, ap, subst, append_assoc, ◌&&◌, ℤ}
-use Rattle.std.specs.Prelude.{is_ok, is_some, ⊤}
+use Rattle.std.proofs.Common.{◌≡◌, ◌<◌, ◌^◌, ◌==◌, ℕ, ℤ, All, arith, map, not, Bool, true, false, cond, List, [], ◌∷◌, ◌++◌, Option, None, Some}
+use Rattle.std.proofs.Common.{Ok, Err, fold, refl, sym, ◌∙◌, ap, subst, append_assoc, ◌&&◌}
+use Rattle.std.specs.Prelude.{MatchBool, is_ok, is_some, ⊤}
 use Rattle.std.specs.List.{concat}
 use Rattle.std.proofs.lemmas.Bool.{eqb-true}
 use Rattle.std.proofs.lemmas.List.{append-nil}
@@ -16,13 +17,34 @@ use Rattle.kv_model.specs.Step.{Made, expire, expire_at, expiry_of, perform, rev
 use Rattle.kv_model.specs.Watches.{Delivery, after_delivery, deliver}
 use Rattle.kv_model.specs.Wire.{WireEvent, WireOutcome, WireTold, client_id, post_call, tell_message, wire_step}
 use Rattle.kv_model.specs.World.{Watch, World, at_moment, opening, revision, watch_at, without_watch}
-use Rattle.recording.specs.Lines.{Written, blank, handed, line_of, lines_of}
-use Rattle.event_book.specs.Asking.{Asking, Asks, IsAskedBy}
-use Rattle.event_book.specs.Events.{Answers, Entry, Event, FollowsFrom, IsAskedFor, after, clocked, left_by}
-use Rattle.event_script.specs.Leading.{AllAsked, AllFit, AreLines, Fits, HasLine, HasRequest, ScriptLeads, run_by}
-use Rattle.event_script.specs.Scripts.{delivery_line, ending_line, expiry_line, handed_with, noted, noted_by, noted_if, noted_trimming, write}
-use Rattle.event_script.proofs.Lined.{line_more, no_lines, with_moment}
+use Rattle.recording.specs.Lines.{Written, all_of, blank, handed, line_of, lines_of}
+use Rattle.event_book.specs.Asking.{Asks, IsAskedBy}
+use Rattle.event_book.specs.Events.{Answers, Entry, Event, FollowsFrom, IsAskedFor, IsHistory, after, clocked, left_by}
+use Rattle.event_script.specs.Leading.{AllFit, Fits, HasLine, LeadsBy, ScriptLeads, WrittenLeads, run_by}
+use Rattle.event_script.specs.Scripts.{AllAsked, HasRequest, IsCut, delivery_line, ending_line, expiry_line, handed_with}
+use Rattle.event_script.specs.Scripts.{noted, noted_by, noted_if, noted_trimming, write, written_by}
 use Rattle.event_script.proofs.Clocks.{command_clock, delivery_clock, expiry_clock, moments, same_clock, twice}
+
+-- ---- texts
+
+abbrev script : List WireEvent → List ℕ
+script es = concat (map line_of es)
+
+scripts : (es fs : List WireEvent) → script (es ++ fs) ≡ script es ++ script fs
+scripts [] fs = refl
+scripts (e ∷ es) fs = ap (λ t. line_of e ++ t) (scripts es fs) ∙ sym (append_assoc (line_of e) (script es) (script fs))
+
+-- the events of the lines that are written for one
+abbrev with_moment : Bool → ℕ → WireEvent → List WireEvent
+with_moment b clock e = cond b (e ∷ []) (WireEvent.moment clock ∷ e ∷ [])
+
+lined : (b : Bool) (clock : ℕ) (e : WireEvent) → clock < 2 ^ 64 → HasLine e → All HasLine (with_moment b clock e)
+lined true clock e c h = All-cons HasLine e [] h (All-nil HasLine)
+lined false clock e c h = All-cons HasLine (WireEvent.moment clock) (e ∷ []) c (All-cons HasLine e [] h (All-nil HasLine))
+
+lines_are : (b : Bool) (clock : ℕ) (e : WireEvent) → cond b [] (line_of (WireEvent.moment clock)) ++ line_of e ≡ script (with_moment b clock e)
+lines_are true clock e = sym (append-nil (line_of e))
+lines_are false clock e = ap (λ t. line_of (WireEvent.moment clock) ++ t) (sym (append-nil (line_of e)))
 
 -- ---- worlds
 
@@ -39,10 +61,12 @@ at_clock ids false w told clock e is at = refl
 -- the text is the lines of these events; at the moment that was handed in last they lead to the world, and the last line of
 -- the clock tells their clock
 record Led (l : Written) (w : World) : Type 0 where
-  pub text : AreLines l.text
+  pub events : List WireEvent
+  pub each : All HasLine events
+  pub lines : l.text ≡ script events
   pub clock : l.clock < 2 ^ 64
-  pub leads : (ids : Ids) → at_moment (run_by ids text.events) l.clock ≡ w
-  pub told : (ids : Ids) → at_moment (run_by ids text.events) l.told ≡ run_by ids text.events
+  pub leads : (ids : Ids) → at_moment (run_by ids events) l.clock ≡ w
+  pub told : (ids : Ids) → at_moment (run_by ids events) l.told ≡ run_by ids events
 
 -- ---- one line more
 
@@ -50,13 +74,16 @@ led_line : (l : Written) (w u : World) (e : WireEvent) → Led l w → HasLine e
     → u.clock ≡ w.clock → Led (noted l e) u
 led_line l w u e d line step clock =
     let some : List WireEvent = with_moment (l.told == l.clock) l.clock e in
-    let comes : (ids : Ids) → run_by ids (d.text.events ++ some) ≡ u = λ ids. run_on ids d.text.events some
-    ∙ at_clock ids (l.told == l.clock) (run_by ids d.text.events) l.told l.clock e refl (d.told ids)
+    let comes : (ids : Ids) → run_by ids (d.events ++ some) ≡ u = λ ids. run_on ids d.events some
+    ∙ at_clock ids (l.told == l.clock) (run_by ids d.events) l.told l.clock e refl (d.told ids)
     ∙ ap (λ v. (wire_step ids v e).1) (d.leads ids) ∙ step ids in
     let stays : (ids : Ids) → at_moment u l.clock ≡ u = λ ids. same_clock u w l.clock clock
-    (subst (λ v. at_moment v l.clock ≡ v) (d.leads ids) (twice (run_by ids d.text.events) l.clock)) in
+    (subst (λ v. at_moment v l.clock ≡ v) (d.leads ids) (twice (run_by ids d.events) l.clock)) in
     record {
-      text = line_more l e d.text d.clock line;
+      events = d.events ++ some;
+      each = All-append HasLine d.events some d.each (lined (l.told == l.clock) l.clock e d.clock line);
+      lines = ap (λ t. t ++ lines_of l.told l.clock e) d.lines ∙ ap (λ t. script d.events ++ t) (lines_are (l.told == l.clock) l.clock e)
+          ∙ sym (scripts d.events some);
       clock = d.clock;
       leads = λ ids. ap (λ v. at_moment v l.clock) (comes ids) ∙ stays ids;
       told = λ ids. subst (λ v. at_moment v l.clock ≡ v) (sym (comes ids)) (stays ids);
@@ -64,16 +91,20 @@ led_line l w u e d line step clock =
 
 led_handed : (l : Written) (w : World) (now : ℕ) → Led l w → now < 2 ^ 64 → Led (handed l now) (at_moment w now)
 led_handed l w now d fits = record {
-  text = d.text;
+  events = d.events;
+  each = d.each;
+  lines = d.lines;
   clock = omega (arith, d.clock, fits);
-  leads = λ ids. sym (moments (run_by ids d.text.events) l.clock now) ∙ ap (λ u. at_moment u now) (d.leads ids);
+  leads = λ ids. sym (moments (run_by ids d.events) l.clock now) ∙ ap (λ u. at_moment u now) (d.leads ids);
   told = d.told;
 }
 
 -- the mark of trimming is no part of it
 led_marked : (b : Bool) (l : Written) (w : World) → Led l w → Led (record l { is_trimmed = b }) w
 led_marked b l w d = record {
-  text = d.text;
+  events = d.events;
+  each = d.each;
+  lines = d.lines;
   clock = d.clock;
   leads = d.leads;
   told = d.told;
@@ -177,7 +208,7 @@ trimmed l w WireTold.untold d = d
 -- ---- an event
 
 step : (ids : Ids) (l : Written) (w : World) (e : Event) (o : WireOutcome) → Led l w → Answers ids (clocked w e) e o → IsAskedFor e
-    → HasRequest e → Fits e → Led (noted_by (handed_with l e) e o) (left_by (clocked w e) e o)
+    → HasRequest e o → Fits e → Led (noted_by (handed_with l e) e o) (left_by (clocked w e) e o)
 step ids l w (Event.moment now) Outcome.memory d a asked has fits = absurd (cc a)
 step ids l w (Event.moment now) (Outcome.lost x) d a asked has fits = absurd a
 step ids l w (Event.moment now) (Outcome.said t) d a asked has fits = led_handed l w now d fits
@@ -208,12 +239,14 @@ led_by : (ids : Ids) (l : Written) (w : World) (log : List Entry) → Led l w �
     → Led (fold write l log) (fold after w log)
 led_by ids l w [] d h asked fit = d
 led_by ids l w (e ∷ log) d h asked fit = led_by ids (write l e) (after w e) log
-    (step ids l w e.event e.outcome d h.0 h.1 (All-head (λ (x : Entry). HasRequest x.event) e log asked) (All-head (λ (x : Entry). Fits x.event) e log fit))
-    h.2 (All-tail (λ (x : Entry). HasRequest x.event) e log asked) (All-tail (λ (x : Entry). Fits x.event) e log fit)
+    (step ids l w e.event e.outcome d h.0 h.1 (All-head (λ (x : Entry). HasRequest x.event x.outcome) e log asked) (All-head (λ (x : Entry). Fits x.event) e log fit))
+    h.2 (All-tail (λ (x : Entry). HasRequest x.event x.outcome) e log asked) (All-tail (λ (x : Entry). Fits x.event) e log fit)
 
 start : Led (blank false) opening
 start = record {
-  text = no_lines;
+  events = [];
+  each = All-nil HasLine;
+  lines = refl;
   clock = omega arith;
   leads = λ ids. refl;
   told = λ ids. refl;
@@ -221,8 +254,46 @@ start = record {
 
 pub script_leads : ScriptLeads
 script_leads ids log h asked fit = let d = led_by ids (blank false) opening log start h asked fit in record {
-  events = d.text.events;
-  each = d.text.each;
-  lines = d.text.lines;
+  events = d.events;
+  each = d.each;
+  lines = d.lines;
   leads = d.leads;
 }
+
+-- ---- what was written
+
+front_follows : (ids : Ids) (w : World) (xs ys : List Entry) → FollowsFrom ids w (xs ++ ys) → FollowsFrom ids w xs
+front_follows ids w [] ys h = tt
+front_follows ids w (x ∷ xs) ys h = (h.0, h.1, front_follows ids (after w x) xs ys h.2)
+
+front_fits : (xs ys : List Entry) → AllFit (xs ++ ys) → AllFit xs
+front_fits [] ys fit = All-nil (λ (x : Entry). Fits x.event)
+front_fits (x ∷ xs) ys fit = All-cons (λ (y : Entry). Fits y.event) x xs (All-head (λ (y : Entry). Fits y.event) x (xs ++ ys) fit)
+    (front_fits xs ys (All-tail (λ (y : Entry). Fits y.event) x (xs ++ ys) fit))
+
+leads_by : (gone : Bool) (ids : Ids) (l : Written) (log : List Entry) → l.is_lost ≡ gone
+    → MatchBool gone (IsCut l log) ((record l { taken = []; text = all_of l } ≡ written_by log) × AllAsked log)
+    → IsHistory ids log → AllFit log → LeadsBy l log
+leads_by true ids l log is w h fit = record {
+  front = w.front;
+  begins = w.begins;
+  lines = w.lines;
+  leads = script_leads ids w.front (front_follows ids opening w.front w.begins.0 (subst (IsHistory ids) (sym w.begins.1) h)) w.asked
+      (front_fits w.front w.begins.0 (subst AllFit (sym w.begins.1) fit));
+  whole = subst (λ b. MatchBool b ⊤ ((w.front ≡ log) × (l.clock ≡ (written_by log).clock))) (sym is) tt;
+}
+leads_by false ids l log is w h fit = record {
+  front = log;
+  begins = ([], append-nil log);
+  lines = ap (λ (x : Written). x.text) w.0;
+  leads = script_leads ids log h w.1 fit;
+  whole = subst (λ b. MatchBool b ⊤ ((log ≡ log) × (l.clock ≡ (written_by log).clock))) (sym is) (refl, ap (λ (x : Written). x.clock) w.0);
+}
+
+pub written_leads : WrittenLeads
+written_leads ids l log w h fit = leads_by l.is_lost ids l log refl w h fit
+
+-- an event more, whose numbers have 64 bits
+pub fits_more : (log : List Entry) (e : Entry) → AllFit log → Fits e.event → AllFit (log ++ e ∷ [])
+fits_more log e fit fits = All-append (λ (x : Entry). Fits x.event) log (e ∷ []) fit
+    (All-cons (λ (x : Entry). Fits x.event) e [] fits (All-nil (λ (x : Entry). Fits x.event)))

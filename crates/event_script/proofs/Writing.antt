@@ -1,9 +1,10 @@
 -- What was written down stays what the script says, with each event that is made and noted.
-use Rattle.std.proofs.Common.{◌≡◌, ℕ, Bool, true, false, cond, List, [], ◌∷◌, ◌++◌, Option, None, Some, Result, Ok, Err, fold, refl, sym, ◌∙◌, ap, subst, append_assoc, ◌&&◌}
-use Rattle.std.specs.Prelude.{MatchBool}
+use Rattle.std.proofs.Common.{◌≡◌, ℕ, Bool, true, false, cond, List, [], ◌∷◌, ◌++◌, Option, None, Some, Result, Ok, Err, refl, sym, ◌∙◌, ap, subst, append_assoc, ◌&&◌}
+use Rattle.std.specs.Prelude.{MatchBool, is_some}
 use Rattle.std.specs.List.{concat}
 use Rattle.std.specs.declared.alloc.AllocError.{AllocError}
 use Rattle.std.proofs.lemmas.List.{append-nil}
+use Rattle.std.proofs.lemmas.List.Elements.{All-append, All-cons, All-nil}
 use Rattle.std.proofs.lemmas.List.Folds.{concat-append}
 use Rattle.std.proofs.lemmas.List.Sums.{fold-append}
 use mathlib.Core.List.{IsPrefix}
@@ -17,7 +18,6 @@ use Rattle.request_core.specs.declared.answer.Expiry.{Expiry}
 use Rattle.request_core.specs.declared.answer.Expiry.TheVariants as expiry
 use Rattle.json_gateway.specs.declared.outcome.Message.{Message}
 use Rattle.json_gateway.specs.declared.outcome.Message.TheVariants as message
-use Rattle.json_gateway.specs.declared.outcome.Outcome as command
 use Rattle.json_gateway.specs.declared.outcome.Settled.{Settled}
 use Rattle.json_gateway.specs.declared.outcome.Settled.TheVariants as settled
 use Rattle.json_gateway.specs.declared.outcome.Trimmed.{Trimmed}
@@ -29,7 +29,9 @@ use Rattle.event_book.specs.Asking.{Asking}
 use Rattle.event_book.specs.Events.{Entry, Event, entry}
 use Rattle.event_book.proofs.Prefixes.{prefix_trans}
 use Rattle.event_script.specs.Notes.{NotesCommand, NotesEnding, NotesExpiry, NotesMessage, NotesRequest, says_done, step_outcome}
-use Rattle.event_script.specs.Scripts.{IsCut, IsWritten, noted, noted_by, noted_if, noted_trim, script_of, write, written_by}
+use Rattle.event_script.specs.Scripts.{AllAsked, HasRequest, IsCut, IsWritten, noted, noted_by, noted_if, noted_trim, script_of, write, written_by}
+use Rattle.event_script.specs.Writing.{CertificateIsWritten, CheckedIsWritten, CommandIsWritten, DeliveryIsWritten, EndingIsWritten, ExpiryIsWritten}
+use Rattle.event_script.specs.Writing.{MomentIsWritten, NothingIsWritten, StaysWritten, TakenIsWritten, TrimmingIsWritten, WrittenBegins, WrittenIsWhole}
 use Rattle.event_script.proofs.Growing.{script_grows}
 
 -- ---- one step
@@ -45,24 +47,35 @@ GoesBy gone step l m = MatchBool gone (all_of m ≡ all_of l) ((l.is_lost ≡ fa
 abbrev Goes : (Written → Written) → Written → Written → Type 0
 Goes step l m = GoesBy m.is_lost step l m
 
-more_by : (was gone : Bool) (l m : Written) (log : List Entry) (e : Entry) → l.is_lost ≡ was
-    → MatchBool was (IsCut l log) (whole l ≡ written_by log) → GoesBy gone (λ x. write x e) l m
-    → MatchBool gone (IsCut m (log ++ e ∷ [])) (whole m ≡ written_by (log ++ e ∷ []))
-more_by true true l m log e is w g = record {
+-- what stands in IsWritten, by whether a line was lost
+abbrev Stands : Bool → Written → List Entry → Type 0
+Stands gone l log = MatchBool gone (IsCut l log) ((whole l ≡ written_by log) × AllAsked log)
+
+asked_more : (log : List Entry) (e : Entry) → AllAsked log → HasRequest e.event e.outcome → AllAsked (log ++ e ∷ [])
+asked_more log e all one = All-append (λ (x : Entry). HasRequest x.event x.outcome) log (e ∷ []) all
+    (All-cons (λ (x : Entry). HasRequest x.event x.outcome) e [] one (All-nil (λ (x : Entry). HasRequest x.event x.outcome)))
+
+more_by : (was gone : Bool) (l m : Written) (log : List Entry) (e : Entry) → l.is_lost ≡ was → m.is_lost ≡ gone
+    → Stands was l log → (m.is_lost ≡ false → HasRequest e.event e.outcome) → GoesBy gone (λ x. write x e) l m → Stands gone m (log ++ e ∷ [])
+more_by true true l m log e is lost w has g = record {
   front = w.front;
   begins = prefix_trans w.front log (log ++ e ∷ []) w.begins (e ∷ [], refl);
   lines = g ∙ w.lines;
+  asked = w.asked;
 }
-more_by false true l m log e is w g = record {
+more_by false true l m log e is lost w has g = record {
   front = log;
   begins = (e ∷ [], refl);
-  lines = g ∙ ap (λ (x : Written). x.text) w;
+  lines = g ∙ ap (λ (x : Written). x.text) w.0;
+  asked = w.1;
 }
-more_by true false l m log e is w g = let bad : true ≡ false = sym is ∙ g.0 in absurd (cc bad)
-more_by false false l m log e is w g = g.1 ∙ ap (λ x. write x e) w ∙ sym (fold-append write (blank false) log (e ∷ []))
+more_by true false l m log e is lost w has g = let bad : true ≡ false = sym is ∙ g.0 in absurd (cc bad)
+more_by false false l m log e is lost w has g =
+    (g.1 ∙ ap (λ x. write x e) w.0 ∙ sym (fold-append write (blank false) log (e ∷ [])), asked_more log e w.1 (has lost))
 
-more : (l m : Written) (log : List Entry) (e : Entry) → IsWritten l log → Goes (λ x. write x e) l m → IsWritten m (log ++ e ∷ [])
-more l m log e w g = more_by l.is_lost m.is_lost l m log e refl w g
+more : (l m : Written) (log : List Entry) (e : Entry) → IsWritten l log → (m.is_lost ≡ false → HasRequest e.event e.outcome)
+    → Goes (λ x. write x e) l m → IsWritten m (log ++ e ∷ [])
+more l m log e w has g = more_by l.is_lost m.is_lost l m log e refl refl w has g
 
 -- ---- what is noted
 
@@ -107,10 +120,9 @@ moment_goes Outcome.memory now h m e = rests h m e
 moment_goes (Outcome.lost x) now h m e = rests h m e
 moment_goes (Outcome.said t) now h m e = rests h m e
 
-pub written_moment : (l m : Written) (log : List Entry) (owner about now : ℕ) (o : WireOutcome) → IsWritten l log → m ≡ handed l now
-    → IsWritten m (log ++ entry owner about (Event.moment now) o ∷ [])
+pub written_moment : MomentIsWritten
 written_moment l m log owner about now o w e =
-    more l m log (entry owner about (Event.moment now) o) w (moment_goes o now (handed l now) m e)
+    more l m log (entry owner about (Event.moment now) o) w (λ is. tt) (moment_goes o now (handed l now) m e)
 
 request_goes : (request : Option WireEvent) (h m : Written) → NotesRequest request h m → Goes (λ x. noted_if x request) h m
 request_goes None h m e = subst (Goes (λ x. x) h) (sym e) refl
@@ -122,10 +134,20 @@ command_goes (settled.Reply r) up watch now a h m n = request_goes a.request h m
 command_goes settled.Memory up watch now a h m e = rests h m e
 command_goes (settled.Lost revision) up watch now a h m n = request_goes a.request h m n
 
-pub written_command : (l m : Written) (log : List Entry) (owner about now : ℕ) (a : Asking) (o : command.Outcome) → IsWritten l log
-    → NotesCommand o.settled a.request (handed l now) m → IsWritten m (log ++ entry owner about (Event.command now a) (command_view o) ∷ [])
+request_asked : (request : Option WireEvent) (h m : Written) → NotesRequest request h m → m.is_lost ≡ false → is_some request ≡ true
+request_asked None h m e is = let bad : true ≡ false = sym (ap (λ (x : Written). x.is_lost) e) ∙ is in absurd (cc bad)
+request_asked (Some e) h m n is = refl
+
+-- where no line is lost, a command that was made had its request
+command_asked : (s : Settled) (up watch : Option ℕ) (now : ℕ) (a : Asking) (h m : Written) → NotesCommand s a.request h m → m.is_lost ≡ false
+    → HasRequest (Event.command now a) (ending_view s up watch)
+command_asked (settled.Reply r) up watch now a h m n is = request_asked a.request h m n is
+command_asked settled.Memory up watch now a h m e is = tt
+command_asked (settled.Lost revision) up watch now a h m n is = request_asked a.request h m n is
+
+pub written_command : CommandIsWritten
 written_command l m log owner about now a o w n = more l m log (entry owner about (Event.command now a) (command_view o)) w
-    (command_goes o.settled o.raised o.watch now a (handed l now) m n)
+    (command_asked o.settled o.raised o.watch now a (handed l now) m n) (command_goes o.settled o.raised o.watch now a (handed l now) m n)
 
 -- ---- a step of expiry, a message, the end of a watch
 
@@ -140,10 +162,9 @@ expiry_goes (Ok expiry.Nothing) now h m e = rests h m e
 expiry_goes (Ok (expiry.Expired id revision raised)) now h m n = line h m WireEvent.expire n
 expiry_goes (Err e) now h m same = refused_goes (is_memory e) now h m same
 
-pub written_expiry : (l m : Written) (log : List Entry) (owner about now : ℕ) (r : Result Expiry Refusal) → IsWritten l log
-    → NotesExpiry r (handed l now) m → IsWritten m (log ++ entry owner about (Event.expiry now) (step_outcome r) ∷ [])
+pub written_expiry : ExpiryIsWritten
 written_expiry l m log owner about now r w n =
-    more l m log (entry owner about (Event.expiry now) (step_outcome r)) w (expiry_goes r now (handed l now) m n)
+    more l m log (entry owner about (Event.expiry now) (step_outcome r)) w (λ is. tt) (expiry_goes r now (handed l now) m n)
 
 message_goes : (number : ℕ) (r : Result Message AllocError) (l m : Written) → NotesMessage number r l m
     → Goes (λ x. noted_by x (Event.delivery number) (delivery_outcome r)) l m
@@ -152,20 +173,18 @@ message_goes number (Ok message.Nothing) l m e = rests l m e
 message_goes number (Ok (message.Text text)) l m n = line l m (WireEvent.deliver number) n
 message_goes number (Err x) l m e = rests l m e
 
-pub written_delivery : (l m : Written) (log : List Entry) (owner about number : ℕ) (r : Result Message AllocError) → IsWritten l log
-    → NotesMessage number r l m → IsWritten m (log ++ entry owner about (Event.delivery number) (delivery_outcome r) ∷ [])
+pub written_delivery : DeliveryIsWritten
 written_delivery l m log owner about number r w n =
-    more l m log (entry owner about (Event.delivery number) (delivery_outcome r)) w (message_goes number r l m n)
+    more l m log (entry owner about (Event.delivery number) (delivery_outcome r)) w (λ is. tt) (message_goes number r l m n)
 
 ending_goes : (stood : Bool) (number : ℕ) (l m : Written) → NotesEnding number stood l m
     → Goes (λ x. noted_by x (Event.ending number) (Outcome.said (WireTold.closed stood))) l m
 ending_goes true number l m n = line l m (WireEvent.close number) n
 ending_goes false number l m e = rests l m e
 
-pub written_ending : (l m : Written) (log : List Entry) (owner about number : ℕ) (stood : Bool) → IsWritten l log
-    → NotesEnding number stood l m → IsWritten m (log ++ entry owner about (Event.ending number) (Outcome.said (WireTold.closed stood)) ∷ [])
+pub written_ending : EndingIsWritten
 written_ending l m log owner about number stood w n =
-    more l m log (entry owner about (Event.ending number) (Outcome.said (WireTold.closed stood))) w (ending_goes stood number l m n)
+    more l m log (entry owner about (Event.ending number) (Outcome.said (WireTold.closed stood))) w (λ is. tt) (ending_goes stood number l m n)
 
 -- ---- a trimming step, a certificate
 
@@ -190,11 +209,9 @@ trimming_goes (told.Trimmed.removed p) c l m n = trim_goes false l m n
 trimming_goes (told.Trimmed.kept p) c l m n = trim_goes false l m n
 trimming_goes (told.Trimmed.done count) c l m n = trim_goes true l m n
 
--- one that is told without its certificate, or with it
-pub written_trimming : (l m : Written) (log : List Entry) (owner about : ℕ) (t : told.Trimmed) (c : Option (List Claim)) → IsWritten l log
-    → IsTrimNoted (is_done t) l m → IsWritten m (log ++ entry owner about Event.trimming (Outcome.said (trim_told t c)) ∷ [])
+pub written_trimming : TrimmingIsWritten
 written_trimming l m log owner about t c w n =
-    more l m log (entry owner about Event.trimming (Outcome.said (trim_told t c))) w (trimming_goes t c l m n)
+    more l m log (entry owner about Event.trimming (Outcome.said (trim_told t c))) w (λ is. tt) (trimming_goes t c l m n)
 
 checked_goes : (t : Trimmed) (l m : Written) → IsTrimNoted (says_done t) l m
     → Goes (λ x. noted_by x Event.trimming (Outcome.said (trimmed_view t))) l m
@@ -202,54 +219,65 @@ checked_goes (trimmed.Removed p) l m n = trim_goes false l m n
 checked_goes (trimmed.Kept p) l m n = trim_goes false l m n
 checked_goes (trimmed.Done count certificate) l m n = trim_goes true l m n
 
-pub written_checked : (l m : Written) (log : List Entry) (owner about : ℕ) (t : Trimmed) → IsWritten l log → IsTrimNoted (says_done t) l m
-    → IsWritten m (log ++ entry owner about Event.trimming (Outcome.said (trimmed_view t)) ∷ [])
+pub written_checked : CheckedIsWritten
 written_checked l m log owner about t w n =
-    more l m log (entry owner about Event.trimming (Outcome.said (trimmed_view t))) w (checked_goes t l m n)
+    more l m log (entry owner about Event.trimming (Outcome.said (trimmed_view t))) w (λ is. tt) (checked_goes t l m n)
 
 certificate_goes : (o : WireOutcome) (l m : Written) → m ≡ l → Goes (λ x. noted_by x Event.certificate o) l m
 certificate_goes Outcome.memory l m e = rests l m e
 certificate_goes (Outcome.lost x) l m e = rests l m e
 certificate_goes (Outcome.said t) l m e = rests l m e
 
-pub written_certificate : (l m : Written) (log : List Entry) (owner about : ℕ) (o : WireOutcome) → IsWritten l log → m ≡ l
-    → IsWritten m (log ++ entry owner about Event.certificate o ∷ [])
-written_certificate l m log owner about o w e = more l m log (entry owner about Event.certificate o) w (certificate_goes o l m e)
+pub written_certificate : CertificateIsWritten
+written_certificate l m log owner about o w e = more l m log (entry owner about Event.certificate o) w (λ is. tt) (certificate_goes o l m e)
 
 -- ---- no event
 
 -- nothing was written, whether lines are to be or not
 first_by : (gone : Bool) → IsWritten (blank gone) []
-first_by true = record { front = []; begins = ([], refl); lines = refl }
-first_by false = refl
+first_by true = record { front = []; begins = ([], refl); lines = refl; asked = All-nil (λ (x : Entry). HasRequest x.event x.outcome) }
+first_by false = (refl, All-nil (λ (x : Entry). HasRequest x.event x.outcome))
 
-pub first : (gone : Bool) (l : Written) → l ≡ blank gone → IsWritten l []
+pub first : NothingIsWritten
 first gone l e = subst (λ x. IsWritten x []) (sym e) (first_by gone)
 
 taken_all : (l : Written) → all_of (record l { taken = l.taken ++ l.text ∷ []; text = [] }) ≡ all_of l
 taken_all l = append-nil (concat (l.taken ++ l.text ∷ [])) ∙ concat-append l.taken (l.text ∷ []) ∙ ap (λ t. concat l.taken ++ t) (append-nil l.text)
 
 taken_by : (gone : Bool) (l m : Written) (log : List Entry) → all_of m ≡ all_of l → whole m ≡ whole l
-    → MatchBool gone (IsCut l log) (whole l ≡ written_by log) → MatchBool gone (IsCut m log) (whole m ≡ written_by log)
-taken_by true l m log same all w = record { front = w.front; begins = w.begins; lines = same ∙ w.lines }
-taken_by false l m log same all w = all ∙ w
+    → Stands gone l log → Stands gone m log
+taken_by true l m log same all w = record { front = w.front; begins = w.begins; lines = same ∙ w.lines; asked = w.asked }
+taken_by false l m log same all w = (all ∙ w.0, w.1)
 
--- texts are taken
-pub written_taken : (l m : Written) (log : List Entry) → IsWritten l log → m ≡ record l { taken = l.taken ++ l.text ∷ []; text = [] } → IsWritten m log
+pub written_taken : TakenIsWritten
 written_taken l m log w e = subst (λ x. IsWritten x log) (sym e)
     (taken_by l.is_lost l (record l { taken = l.taken ++ l.text ∷ []; text = [] }) log (taken_all l)
     (ap (λ t. record l { taken = []; text = t }) (taken_all l)) w)
 
 -- ---- what it says
 
-all_by : (gone : Bool) (l : Written) (log : List Entry) → MatchBool gone (IsCut l log) (whole l ≡ written_by log) → IsPrefix (all_of l) (script_of log)
+all_by : (gone : Bool) (l : Written) (log : List Entry) → Stands gone l log → IsPrefix (all_of l) (script_of log)
 all_by true l log w = subst (λ t. IsPrefix t (script_of log)) (sym w.lines) (script_grows w.front log w.begins)
-all_by false l log w = ([], append-nil (all_of l) ∙ ap (λ (x : Written). x.text) w)
+all_by false l log w = ([], append-nil (all_of l) ∙ ap (λ (x : Written). x.text) w.0)
 
--- all that was ever written begins the script
-pub written_begins : (l : Written) (log : List Entry) → IsWritten l log → IsPrefix (all_of l) (script_of log)
+pub written_begins : WrittenBegins
 written_begins l log w = all_by l.is_lost l log w
 
--- and where no line was lost, it is the script
-pub written_whole : (l : Written) (log : List Entry) → IsWritten l log → l.is_lost ≡ false → all_of l ≡ script_of log
-written_whole l log w is = ap (λ (x : Written). x.text) (subst (λ b. MatchBool b (IsCut l log) (whole l ≡ written_by log)) is w)
+pub written_whole : WrittenIsWhole
+written_whole l log w is = ap (λ (x : Written). x.text) (subst (λ b. Stands b l log) is w).0
+
+pub stays_written : StaysWritten
+stays_written = record {
+  nothing = first;
+  moment = written_moment;
+  command = written_command;
+  expiry = written_expiry;
+  delivery = written_delivery;
+  ending = written_ending;
+  trimming = written_trimming;
+  checked = written_checked;
+  certificate = written_certificate;
+  taken = written_taken;
+  begins = written_begins;
+  whole = written_whole;
+}

@@ -1,5 +1,5 @@
 -- The law of a script: it is the lines of events that lead where the list leads.
-use Rattle.std.specs.Prelude.{◌≡◌, ℕ, ◌<◌, ◌^◌, Bool, true, List, All, Option, IsOk, fold, is_some, map, ⊤}
+use Rattle.std.specs.Prelude.{◌≡◌, ◌<◌, ◌^◌, List, All, IsOk, MatchBool, fold, map, ⊤}
 use Rattle.std.specs.List.{concat}
 use mathlib.Core.List.{IsPrefix}
 use Rattle.kv_model.specs.declared.ids.Ids.{Ids}
@@ -8,7 +8,7 @@ use Rattle.kv_model.specs.Wire.{WireEvent, wire_step}
 use Rattle.kv_model.specs.World.{World, at_moment, opening}
 use Rattle.recording.specs.Lines.{Written, all_of, line_of}
 use Rattle.event_book.specs.Events.{Entry, Event, IsHistory, led_to}
-use Rattle.event_script.specs.Scripts.{IsWritten, script_of, written_by}
+use Rattle.event_script.specs.Scripts.{AllAsked, IsWritten, script_of, written_by}
 
 -- an event that is written down: a request is one for a command, and numbers have 64 bits
 abbrev pub HasLine : WireEvent → Type 0
@@ -22,11 +22,6 @@ HasLine _ = ⊤
 abbrev pub run_by : Ids → List WireEvent → World
 run_by ids events = fold (λ w e. (wire_step ids w e).1) opening events
 
--- of a command there is a request
-abbrev pub HasRequest : Event → Type 0
-HasRequest (Event.command now asking) = is_some asking.request ≡ true
-HasRequest _ = ⊤
-
 -- its moment and its number have 64 bits
 abbrev pub Fits : Event → Type 0
 Fits (Event.moment now) = now < 2 ^ 64
@@ -36,17 +31,8 @@ Fits (Event.delivery number) = number < 2 ^ 64
 Fits (Event.ending number) = number < 2 ^ 64
 Fits _ = ⊤
 
-abbrev pub AllAsked : List Entry → Type 0
-AllAsked log = All (λ e. HasRequest e.event) log
-
 abbrev pub AllFit : List Entry → Type 0
 AllFit log = All (λ e. Fits e.event) log
-
--- the text is the lines of these events
-pub record AreLines (text : List ℕ) : Type 0 where
-  pub events : List WireEvent
-  pub each : All HasLine events
-  pub lines : text ≡ concat (map line_of events)
 
 -- the script is the lines of these events, which lead to the world of the list at the moment that was handed in last
 pub record Leads (log : List Entry) : Type 0 where
@@ -62,10 +48,14 @@ ScriptLeads = (ids : Ids) (log : List Entry) → IsHistory ids log → AllAsked 
 abbrev pub ScriptGrows : Type 0
 ScriptGrows = (front log : List Entry) → IsPrefix front log → IsPrefix (script_of front) (script_of log)
 
--- the script of a history is lines of events
-abbrev pub ScriptIsLines : Type 0
-ScriptIsLines = (ids : Ids) (log : List Entry) → IsHistory ids log → AllFit log → AreLines (script_of log)
+-- what was written down is the script of this beginning of the list, and leads where it leads; where no line was lost, this is
+-- the whole list
+pub record LeadsBy (l : Written) (log : List Entry) : Type 0 where
+  pub front : List Entry
+  pub begins : IsPrefix front log
+  pub lines : all_of l ≡ script_of front
+  pub leads : Leads front
+  pub whole : MatchBool l.is_lost ⊤ ((front ≡ log) × (l.clock ≡ (written_by log).clock))
 
--- and so is all that was written down of one, where lines were lost too
-abbrev pub WrittenIsLines : Type 0
-WrittenIsLines = (ids : Ids) (l : Written) (log : List Entry) → IsWritten l log → IsHistory ids log → AllFit log → AreLines (all_of l)
+abbrev pub WrittenLeads : Type 0
+WrittenLeads = (ids : Ids) (l : Written) (log : List Entry) → IsWritten l log → IsHistory ids log → AllFit log → LeadsBy l log

@@ -1,5 +1,5 @@
 -- The script of a list of events: what is written down as each is made and its line finds memory, and what stands under a lock.
-use Rattle.std.specs.Prelude.{◌≡◌, ℕ, List, [], ◌∷◌, ◌++◌, Bool, true, false, MatchBool, Option, None, Some, fold, if◌then◌else◌, ◌&&◌}
+use Rattle.std.specs.Prelude.{◌≡◌, ℕ, List, All, [], ◌++◌, Bool, true, false, MatchBool, Option, None, Some, fold, if◌then◌else◌, ◌&&◌, is_some, ⊤}
 use mathlib.Core.List.{IsPrefix}
 use Rattle.kv_model.specs.Follows.{Outcome}
 use Rattle.kv_model.specs.Told.{Expiry}
@@ -86,13 +86,24 @@ written_by log = fold write (blank false) log
 abbrev pub script_of : List Entry → List ℕ
 script_of log = (written_by log).text
 
+-- a command that was made has a request
+abbrev pub HasRequest : Event → WireOutcome → Type 0
+HasRequest (Event.command now asking) Outcome.memory = ⊤
+HasRequest (Event.command now asking) (Outcome.lost loss) = is_some asking.request ≡ true
+HasRequest (Event.command now asking) (Outcome.said t) = is_some asking.request ≡ true
+HasRequest _ o = ⊤
+
+abbrev pub AllAsked : List Entry → Type 0
+AllAsked log = All (λ e. HasRequest e.event e.outcome) log
+
 -- what was written is the script of a beginning of the list: a line was lost behind it, or none is to be written
 pub record IsCut (l : Written) (log : List Entry) : Type 0 where
   pub front : List Entry
   pub begins : IsPrefix front log
   pub lines : all_of l ≡ script_of front
+  pub asked : AllAsked front
 
 -- what stands under a lock: where no line was lost, all that was ever written is the script, and the clock, the moment that
--- was told last and the mark of trimming are those of it
+-- was told last and the mark of trimming are those of it; and each command had its request
 abbrev pub IsWritten : Written → List Entry → Type 0
-IsWritten l log = MatchBool l.is_lost (IsCut l log) (record l { taken = []; text = all_of l } ≡ written_by log)
+IsWritten l log = MatchBool l.is_lost (IsCut l log) ((record l { taken = []; text = all_of l } ≡ written_by log) × AllAsked log)

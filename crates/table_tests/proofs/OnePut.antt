@@ -1,9 +1,9 @@
 -- A put of a new store is a feed.
-use Rattle.std.proofs.Common.{◌≡◌, ℕ, ℤ, pos, codes, List, [], ◌∷◌, refl, arith}
+use Rattle.std.proofs.Common.{pos, codes, [], ◌∷◌, refl, arith}
 use Rattle.kv_model.specs.Feed.{Published}
 use Rattle.kv_model.specs.History.{Action, Mutation, dress}
 use Rattle.kv_model.specs.Lists.{nothing, keep}
-use Rattle.kv_model.specs.World.{World, opening, changed}
+use Rattle.kv_model.specs.World.{opening, changed}
 use Rattle.feed_book.specs.Feeds.{IsFeed}
 use Rattle.table_tests.specs.Puts.{first_put}
 

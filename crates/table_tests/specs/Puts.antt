@@ -1,5 +1,5 @@
 -- What the test of a feed publishes.
-use Rattle.std.specs.Prelude.{ℤ, pos, codes}
+use Rattle.std.specs.Prelude.{pos, codes}
 use Rattle.kv_model.specs.declared.version.Version.{Version}
 use Rattle.kv_model.specs.declared.version.Body.TheVariants.{Put}
 

@@ -1,10 +1,9 @@
 -- Behind those of earlier main revisions none is left.
-use Rattle.std.proofs.Common.{◌≡◌, ◌∙◌, List, [], None, sym, ap, subst}
-use Rattle.std.specs.Prelude.{unwrap_or, Option, Some}
+use Rattle.std.proofs.Common.{◌∙◌, List, [], sym, ap, subst}
+use Rattle.std.specs.Prelude.{unwrap_or, Option}
 use Rattle.std.specs.List.{slice_get}
 use Rattle.kv_model.specs.declared.version.Rev.{Rev}
-use Rattle.key_index.specs.Index.{revisions}
-use Rattle.key_index.specs.KeyRevisions.{IsBehind, count_before}
+use Rattle.key_index.specs.KeyRevisions.{IsBehind}
 use Rattle.key_index.proofs.KeyRevisions.{behind-counted}
 use Rattle.table_tests.proofs.index.is_below.Goals as goal
 

@@ -1,5 +1,5 @@
 -- No version in the table stands from the revision on.
-use Rattle.std.proofs.Common.{◌≡◌, None, Some, not}
+use Rattle.std.proofs.Common.{not}
 use Rattle.std.specs.List.{find}
 use Rattle.kv_model.specs.History.{rev_lt}
 use Rattle.version_table.proofs.Rising.{behind-none_from}
