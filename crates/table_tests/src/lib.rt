@@ -17,6 +17,8 @@ mod leases;
 #[cfg(test)]
 mod pages;
 #[cfg(test)]
+mod sorted_map;
+#[cfg(test)]
 mod spans;
 #[cfg(test)]
 mod table;
