@@ -4,9 +4,11 @@ use Rattle.std.specs.Map.{set_value, remove_entry}
 use Rattle.std.proofs.lemmas.Map.Steps.{set_value_same}
 use Rattle.kv_model.specs.declared.version.Rev.{Rev}
 use Rattle.kv_model.specs.Lists.{is_empty}
-use Rattle.key_pages.specs.Pairs.{cut_by, cut_in, put_by, put_in}
+use Rattle.key_pages.specs.Pairs.{cut_by, cut_in, put_by, put_in, told_by}
 use Rattle.key_index.specs.Index.{Index, IsIndex, found, revisions, added, with_revision, with_revisions, without_revision}
 use Rattle.key_index.specs.KeyRevisions.{is_followed, without}
+use Rattle.key_index.specs.declared.taken.Trimming.{Trimming}
+use Rattle.key_index.specs.Taken.{trimmed}
 use Rattle.key_index.proofs.Entries.{has, absent-changed}
 
 pub put-added : (k : List ℕ) (p : Rev) (i : Index) → put_in (λ qs. qs ++ p ∷ []) k (p ∷ []) i ≡ with_revision k p i
@@ -31,18 +33,23 @@ cut-changed f n k i = by (found k i) refl
 
 found-some : (k : List ℕ) (i : Index) (w : List Rev) → IsIndex i → found k i ≡ Some w → w ≢ []
 found-some k [] w h e = cc
-found-some k (f ∷ es) w h e = by (has k f.0) e
+found-some k (f ∷ es) w h e = by (has k f.0) e (found-some k es w h.2)
   where
-    by : (b : Bool) → cond b (Some f.1) (found k es) ≡ Some w → w ≢ []
-    by true g = let same : f.1 ≡ w = cc in subst (λ l. l ≢ []) same h.0
-    by false g = found-some k es w h.2 g
+    by : (b : Bool) → cond b (Some f.1) (found k es) ≡ Some w → (found k es ≡ Some w → w ≢ []) → w ≢ []
+    by true g rest = let same : f.1 ≡ w = cc in subst (λ l. l ≢ []) same h.0
+    by false g rest = rest g
+
+-- what is told of it
+pub told-goes : (t : Trimming) (o : Option (List Rev)) → (told_by (trimmed t) t o).goes ≡ (is_followed t.rev t.main (unwrap_or o []) || t.goes)
+told-goes t None = refl
+told-goes t (Some w) = refl
 
 -- a revision that is trimmed, or is not
 pub trimmed-changed : (p : Rev) (b : Bool) (g : List Rev → Bool) (k : List ℕ) (i : Index)
-    → cut_in (λ qs. cond (b || g qs) (without p qs) qs) (λ qs. is_empty (cond (b || g qs) (without p qs) qs)) k i
-    ≡ cond (b || g (revisions k i)) (without_revision k p i) (with_revisions k (revisions k i) i)
+    → cut_in (λ qs. cond (g qs || b) (without p qs) qs) (λ qs. is_empty (cond (g qs || b) (without p qs) qs)) k i
+    ≡ cond (g (revisions k i) || b) (without_revision k p i) (with_revisions k (revisions k i) i)
 trimmed-changed p b g k i =
-    cut-changed (λ qs. cond (b || g qs) (without p qs) qs) (same (b || g [])) k i ∙ by (b || g (revisions k i))
+    cut-changed (λ qs. cond (g qs || b) (without p qs) qs) (same (g [] || b)) k i ∙ by (g (revisions k i) || b)
   where
     same : (c : Bool) → cond c (without p []) [] ≡ []
     same true = refl

@@ -1,5 +1,5 @@
 -- The keys of a range are those that a walk from its first key gives, up to its end.
-use Rattle.std.proofs.Common.{◌≡◌, ℕ, List, [], ◌∷◌, Bool, true, false, ◌&&◌, cond, filter, refl, sym, ◌∙◌, ap, subst}
+use Rattle.std.proofs.Common.{◌≡◌, ℕ, List, [], ◌∷◌, Bool, true, false, ◌&&◌, cond, filter, Result, Ok, Err, IfOk, refl, sym, ◌∙◌, ap, subst}
 use Rattle.std.specs.List.{AllByRecursion}
 use Rattle.std.specs.declared.cmp.Ordering.{Ordering}
 use Rattle.std.specs.declared.cmp.Ordering.TheVariants.{Less, Equal, Greater}
@@ -79,3 +79,8 @@ one-same a (e ∷ es) h = by (key_cmp a e.0) refl (one-same a es h.2)
 pub interval-one : (r : KeyRange) (a : List ℕ) (i : Index) → IsIndex i → ((k : List ℕ) → same_key k a ≡ in_range r k)
     → first_same a (from_key a i) ≡ in_interval r i
 interval-one r a i h f = one-same a i h ∙ filter-same (λ k. is_eq (key_cmp a k)) (in_range r) (λ k. eq-same a k ∙ f k) i
+
+-- what is listed, said otherwise
+pub listed : {T E : Type 0} (f : T → Index) (i j : Index) → i ≡ j → (r : Result T E) → IfOk r (λ v. f v ≡ i) → IfOk r (λ v. f v ≡ j)
+listed f i j e (Ok v) h = h ∙ e
+listed f i j e (Err x) h = h

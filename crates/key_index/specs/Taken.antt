@@ -13,7 +13,7 @@ left_by (Of main) qs = undone main qs
 
 -- it goes where it is followed, too
 abbrev pub trimmed : Trimming → List Rev → Trimming
-trimmed t qs = record t { goes = t.goes || is_followed t.rev t.main qs }
+trimmed t qs = record t { goes = is_followed t.rev t.main qs || t.goes }
 
 abbrev pub left_trimmed : Trimming → List Rev → List Rev
 left_trimmed t qs = if t.goes then without t.rev qs else qs

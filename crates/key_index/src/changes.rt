@@ -80,7 +80,7 @@ pub(crate) fn trim(
     main: u64,
     anyway: bool,
 ) -> bool
-    ensures told { result ≡ (anyway || is_followed rev main (revisions key.now keys.old)) }
+    ensures told { result ≡ (is_followed rev main (revisions key.now keys.old) || anyway) }
     ensures value { keys.new ≡ if result then without_revision key.now rev keys.old
         else with_revisions key.now (revisions key.now keys.old) keys.old }
 {

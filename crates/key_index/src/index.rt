@@ -138,7 +138,7 @@ impl KeyIndex {
     /// The time is logarithmic in the number of keys where it is the oldest revision of the key,
     /// and else linear in that of the key's revisions too.
     pub fn trim(&mut self, key: &Bytes, rev: Rev, main: u64, anyway: bool) -> bool
-        ensures told { result ≡ (anyway || is_followed rev main (revisions key.now self.old)) }
+        ensures told { result ≡ (is_followed rev main (revisions key.now self.old) || anyway) }
         ensures value { self.new
             ≡ if result then without_revision key.now rev self.old else self.old }
     {
@@ -201,7 +201,7 @@ impl KeyIndex {
 
 /// Whether no key has a revision of a later main revision. Walks over the keys, until one has.
 fn is_up_to(walk: Walk<'_, Revisions>, main: u64) -> bool
-    ensures { result ≡ is_up_to main walk }
+    ensures { result ≡ is_up_to main walk.entry }
 {
     let mut walk = walk;
     'walking: while let Some((_, revisions)) = walk.next() {

@@ -15,7 +15,7 @@ pub(crate) fn all<'a>(
     alloc: Global,
     walk: Walk<'a, Revisions>,
 ) -> Result<Vec<Indexed<'a>>, AllocError>
-    ensures { IfOk result (λ v. map entry_of v.items ≡ walk) }
+    ensures { IfOk result (λ v. map entry_of v.items ≡ walk.entry) }
 {
     let mut keys = Vec::new(alloc);
     let mut walk = walk;
@@ -31,7 +31,7 @@ pub(crate) fn all_below<'a>(
     walk: Walk<'a, Revisions>,
     end: &Bytes,
 ) -> Result<Vec<Indexed<'a>>, AllocError>
-    ensures { IfOk result (λ v. map entry_of v.items ≡ below_key end.now walk) }
+    ensures { IfOk result (λ v. map entry_of v.items ≡ below_key end.now walk.entry) }
 {
     let mut keys = Vec::new(alloc);
     let mut walk = walk;
@@ -47,7 +47,7 @@ pub(crate) fn first<'a>(
     walk: Walk<'a, Revisions>,
     one: &Bytes,
 ) -> Result<Vec<Indexed<'a>>, AllocError>
-    ensures { IfOk result (λ v. map entry_of v.items ≡ first_same one.now walk) }
+    ensures { IfOk result (λ v. map entry_of v.items ≡ first_same one.now walk.entry) }
 {
     let mut keys = Vec::new(alloc);
     let mut walk = walk;

@@ -98,7 +98,7 @@ impl Cut<Revisions> for Trimming {
 
     fn cut(&mut self, value: &mut Revisions) -> bool {
         let followed = value.is_followed(self.rev, self.main);
-        self.goes = self.goes || followed;
+        self.goes = followed || self.goes;
         self.take_from(value);
         value.is_empty()
     }
