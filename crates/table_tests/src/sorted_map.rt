@@ -1,7 +1,9 @@
 //! A sorted map in pages of at most 64 keys: each call over more keys than a page takes. A test is a
 //! table of what is done with a map: no function that owns one asserts.
+ghost use Rattle.std.specs.Prelude.{◌≡◌, ⊤, true};
+
 use bytes::Bytes;
-use key_pages::{KeyPages, Walk, order};
+use key_pages::{Cut, Growth, KeyPages, Walk, order};
 use std::alloc::{AllocError, Global};
 use std::cmp::Ordering;
 
@@ -16,17 +18,56 @@ fn key(alloc: Global, number: u32) -> Result<Bytes, AllocError> {
     Bytes::from_vec(text)
 }
 
-/// Puts the key of a number in with a value. Tells whether it was put in.
-fn insert(map: &mut KeyPages<u32>, alloc: Global, number: u32, value: u32) -> bool {
+/// A value that a key gets in place of what it has.
+#[derive(Drop)]
+struct Given {
+    value: u32,
+}
+
+impl Growth<u32> for Given {
+    ghost may_grow = { λ g v. ⊤ };
+
+    ghost grown = { λ g v. g.value };
+
+    ghost fresh = { λ g. g.value };
+
+    fn first(&self) -> u32 {
+        self.value
+    }
+
+    fn grow(&self, value: &mut u32) -> Result<(), AllocError> {
+        *value = self.value;
+        Ok(())
+    }
+}
+
+/// A value that goes, with its key.
+#[derive(Drop)]
+struct Gone {
+    value: u32,
+}
+
+impl Cut<u32> for Gone {
+    ghost left = { λ g v. v };
+
+    ghost is_spent = { λ g v. true };
+
+    ghost told = { λ g v. record g { value = v } };
+
+    fn cut(&mut self, value: &mut u32) -> bool {
+        self.value = *value;
+        true
+    }
+}
+
+/// Puts the key of a number in with a value. Tells whether there was memory.
+fn put(map: &mut KeyPages<u32>, alloc: Global, number: u32, value: u32) -> bool {
     let Ok(key) = key(alloc, number) else {
         return false;
     };
-    let inserted = match map.insert(&key, value) {
-        Ok(None) => true,
-        _ => false,
-    };
+    let done = map.put(&key, &Given { value }).is_ok();
     drop(key);
-    inserted
+    done
 }
 
 /// The value of the key of a number.
@@ -39,22 +80,14 @@ fn get(map: &KeyPages<u32>, alloc: Global, number: u32) -> Option<u32> {
     value
 }
 
-/// Exchanges the value of the key of a number for another, and gives it.
-fn swap(map: &mut KeyPages<u32>, alloc: Global, number: u32, value: u32) -> Option<u32> {
-    let Ok(key) = key(alloc, number) else {
-        return None;
-    };
-    let mut other = value;
-    let there = map.swap(&key, &mut other);
-    drop(key);
-    if there { Some(other) } else { None }
-}
-
-fn remove(map: &mut KeyPages<u32>, alloc: Global, number: u32) {
+/// Takes the key of a number out, and gives its value, or 7 where it is not there.
+fn take(map: &mut KeyPages<u32>, alloc: Global, number: u32) -> u32 {
+    let mut gone = Gone { value: 7 };
     if let Ok(key) = key(alloc, number) {
-        map.remove(&key);
+        map.cut(&key, &mut gone);
         drop(key);
     }
+    gone.value
 }
 
 /// How many of the numbers from one on, a step apart, a walk gives in order, and then no other.
@@ -121,7 +154,7 @@ fn filled(alloc: Global, step: u32) -> KeyPages<u32> {
     let mut map = KeyPages::new(alloc);
     let mut number = 0u32;
     for _ in 0..KEYS {
-        let _ = insert(&mut map, alloc, number, number);
+        let _ = put(&mut map, alloc, number, number);
         number = number.saturating_add(step) % KEYS;
     }
     map
@@ -129,9 +162,7 @@ fn filled(alloc: Global, step: u32) -> KeyPages<u32> {
 
 fn walks_in_order(alloc: Global, step: u32) -> bool {
     let mut map = filled(alloc, step);
-    let again = insert(&mut map, alloc, 500, 7);
-    let right = !again
-        && all_in_order(&map, 0, 1) == Some(1_000)
+    let right = all_in_order(&map, 0, 1) == Some(1_000)
         && from_in_order(&map, alloc, 500) == Some(500)
         && between(&map, alloc, 64, 192) == Some(128)
         && between(&map, alloc, 192, 64) == Some(0);
@@ -154,40 +185,46 @@ fn keeps_keys_among_others_in_order(rt: HostRuntime) {
     assert!(rt; walks_in_order(rt.alloc(), 389));
 }
 
-fn exchanges(alloc: Global) -> bool {
-    let mut map = filled(alloc, 389);
-    let right = get(&map, alloc, 999) == Some(999)
-        && get(&map, alloc, 1_000).is_none()
-        && swap(&mut map, alloc, 63, 5) == Some(63)
-        && get(&map, alloc, 63) == Some(5)
-        && swap(&mut map, alloc, 1_000, 5).is_none();
+/// Each key of full pages gets another value: none of them is split, and none goes.
+fn changes_values(alloc: Global) -> bool {
+    let mut map = filled(alloc, 1);
+    let mut done = true;
+    for number in 0..KEYS {
+        done = put(&mut map, alloc, number, number.saturating_add(1)) && done;
+    }
+    let right = done
+        && all_in_order(&map, 1, 1) == Some(1_000)
+        && get(&map, alloc, 63) == Some(64)
+        && get(&map, alloc, 1_000).is_none();
     drop(map);
     right
 }
 
 #[test]
-fn exchanges_a_value(rt: HostRuntime) {
-    assert!(rt; exchanges(rt.alloc()));
+fn changes_each_value(rt: HostRuntime) {
+    assert!(rt; changes_values(rt.alloc()));
 }
 
 fn takes_out(alloc: Global) -> bool {
     let mut map = filled(alloc, 389);
+    let mut right = true;
     let mut number = 0u32;
     for _ in 0..500 {
-        remove(&mut map, alloc, number);
+        right = take(&mut map, alloc, number) == number && right;
         number = number.saturating_add(2);
     }
-    remove(&mut map, alloc, 1_000);
-    let odd = all_in_order(&map, 1, 2) == Some(500) && get(&map, alloc, 2).is_none();
+    let odd = take(&mut map, alloc, 1_000) == 7
+        && all_in_order(&map, 1, 2) == Some(500)
+        && get(&map, alloc, 2).is_none();
     number = 1;
     for _ in 0..500 {
-        remove(&mut map, alloc, number);
+        right = take(&mut map, alloc, number) == number && right;
         number = number.saturating_add(2);
     }
     let none = all_in_order(&map, 0, 1) == Some(0);
-    let again = insert(&mut map, alloc, 3, 3) && get(&map, alloc, 3) == Some(3);
+    let again = put(&mut map, alloc, 3, 3) && get(&map, alloc, 3) == Some(3);
     drop(map);
-    odd && none && again
+    right && odd && none && again
 }
 
 #[test]
