@@ -15,7 +15,10 @@ fn key(alloc: Global, number: u32) -> Result<Bytes, AllocError> {
     let mut text = Vec::new(alloc);
     text.extend_from_slice(b"number ")?;
     text.extend_from_slice(number.to_be_bytes().as_slice())?;
-    Bytes::from_vec(text)
+    match Bytes::from_vec(text) {
+        Ok(key) => Ok(key),
+        Err(_) => Err(AllocError),
+    }
 }
 
 /// A value that a key gets in place of what it has.
