@@ -112,26 +112,6 @@ module _ {X : Type 0} (k : List ℕ) where
   some-pair i [] h = absurd (no-pair h)
   some-pair i (e ∷ es) h = e
 
-  equal : (o : Ordering) → is_eq o ≡ true → o ≡ Equal
-  equal Less e = cc
-  equal Equal e = refl
-  equal Greater e = cc
-
-  below-there : (j : List ℕ) (i : ℕ) (es : List (List ℕ × X)) → AllByRecursion (λ (f : List ℕ × X). key_cmp j f.0 ≡ Less) es
-      → is_there k i es ≡ true → key_cmp k j ≡ Greater
-  below-there j i [] a h = cc
-  below-there j zero (f ∷ fs) a h =
-      turn-less j k (subst (λ l. key_cmp j l ≡ Less) (sym (exact_bytes k f.0 (equal (key_cmp k f.0) h))) a.0)
-  below-there j (suc i) (f ∷ fs) a h = below-there j i fs a.1 h
-
-  -- where the key stands is its place
-  pub there-place : (i : ℕ) (es : List (List ℕ × X)) → IsAscending es → is_there k i es ≡ true → i ≡ count_below k es
-  there-place i [] r h = cc
-  there-place zero (e ∷ es) r h = sym (ap (λ o. cond (is_gt o) (suc (count_below k es)) zero) (equal (key_cmp k e.0) h))
-  there-place (suc i) (e ∷ es) r h =
-      ap suc (there-place i es r.1 h)
-      ∙ sym (ap (λ o. cond (is_gt o) (suc (count_below k es)) zero) (below-there e.0 i es r.0 h))
-
   none-of : (o : Option X) → is_some o ≡ false → o ≡ None
   none-of None h = refl
   none-of (Some v) h = cc

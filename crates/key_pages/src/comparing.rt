@@ -64,21 +64,3 @@ fn order_bytes<'x>(left: &'x [u8], right: &'x [u8]) -> Ordering
 {
     Ord::cmp(&left, &right)
 }
-
-/// A factor that spreads what differs over all bits.
-const SPREAD: u64 = 0x9e37_79b9_7f4a_7c15;
-
-/// A byte that tells most keys apart, by all bytes of the key.
-pub(crate) fn mark(key: &[u8]) -> u8 {
-    let mut rest = key;
-    let mut sum = 0u64;
-    'words: while rest.len() >= WORD {
-        sum = (sum ^ word(rest)).wrapping_mul(SPREAD);
-        rest = behind_word(rest);
-    }
-    for byte in rest {
-        sum = (sum ^ u64::from(*byte)).wrapping_mul(SPREAD);
-    }
-    let [first, ..] = sum.to_be_bytes();
-    first
-}

@@ -1,7 +1,7 @@
 //! A page: keys in order, each with its value, side by side.
 ghost use Rattle.std.specs.Prelude.{◌≡◌, ◌<◌, ◌≤◌, [], ◌∷◌, length, take, drop, option_copied};
 ghost use Rattle.std.specs.Prelude.{ℕ, List, Some, false, get_or, slice_set};
-ghost use Rattle.std.specs.Prelude.{IfOk, IfSome, OnOk, OnErr, IsTrue};
+ghost use Rattle.std.specs.Prelude.{IfOk, OnOk, OnErr, IsTrue};
 ghost use Rattle.std.specs.List.{insert, remove, slice_get};
 ghost use Rattle.kv_model.specs.Lists.{is_empty};
 ghost use Rattle.store_laws.specs.Rising.{newest};
@@ -10,9 +10,8 @@ ghost use Rattle.key_pages.specs.Paged.{count_below, cut_at, ends_below, is_belo
 ghost use Rattle.key_pages.specs.Paged.{starts_up_to, value_if};
 
 use crate::change::{Cut, Growth};
-use crate::comparing::{mark, order};
+use crate::comparing::order;
 use bytes::Bytes;
-use memchr::memchr;
 use std::alloc::{AllocError, Global};
 use std::marker::Model;
 
@@ -26,8 +25,6 @@ const HALF: usize = 32;
 #[derive(Drop)]
 pub(crate) struct Page<V> {
     pairs: Vec<(Bytes, V)>,
-    /// A byte of each key, in their order: where to look first. No answer rests on it.
-    marks: Vec<u8>,
 }
 
 impl<V> Model for Page<V> {
@@ -47,9 +44,7 @@ impl<V> Page<V> {
     {
         let mut pairs = Vec::new(alloc);
         pairs.push((key.clone()?, value))?;
-        let mut marks = Vec::new(alloc);
-        marks.push(mark(key.as_slice()))?;
-        Ok(Page { pairs, marks })
+        Ok(Page { pairs })
     }
 
     /// The keys with their values, lent.
@@ -103,46 +98,8 @@ impl<V> Page<V> {
         self.pairs.last()
     }
 
-    /// How many keys are below a key. Where the key is there its mark leads to it, as a rule; else it
-    /// halves.
-    pub(crate) fn count_below(&self, key: &Bytes) -> usize
-        requires { IsAscending self.now }
-        ensures value { result ≡ count_below key.now self.now }
-        ensures bound { result ≤ length self.now }
-    {
-        match self.guess(key) {
-            Some(index) => index,
-            None => self.halved(key),
-        }
-    }
-
-    /// The index of a key, where the first mark like its own leads to it.
-    fn guess(&self, key: &Bytes) -> Option<usize>
-        requires { IsAscending self.now }
-        ensures place { IfSome result (λ i. i ≡ count_below key.now self.now) }
-        ensures bound { IfSome result (λ i. i ≤ length self.now) }
-    {
-        match memchr(mark(key.as_slice()), self.marks.as_slice()) {
-            Some(index) => self.if_there(index, key),
-            None => None,
-        }
-    }
-
-    /// The index, where a key stands there.
-    fn if_there(&self, index: usize, key: &Bytes) -> Option<usize>
-        requires { IsAscending self.now }
-        ensures place { IfSome result (λ i. i ≡ count_below key.now self.now) }
-        ensures bound { IfSome result (λ i. i ≤ length self.now) }
-    {
-        if self.is_there(index, key) {
-            Some(index)
-        } else {
-            None
-        }
-    }
-
     /// How many keys are below a key. It halves.
-    fn halved(&self, key: &Bytes) -> usize
+    pub(crate) fn count_below(&self, key: &Bytes) -> usize
         requires { IsAscending self.now }
         ensures value { result ≡ count_below key.now self.now }
         ensures bound { result ≤ length self.now }
@@ -264,9 +221,6 @@ impl<V> Page<V> {
         ensures err { OnErr result (self.new ≡ self.old) }
     {
         self.pairs.insert(index, (key.clone()?, value))?;
-        if index <= self.marks.len() {
-            let _ = self.marks.insert(index, mark(key.as_slice()));
-        }
         Ok(())
     }
 
@@ -319,9 +273,6 @@ impl<V> Page<V> {
         ensures { self.new ≡ remove self.old index }
     {
         let _ = self.pairs.remove(index);
-        if index < self.marks.len() {
-            let _ = self.marks.remove(index);
-        }
         self.lighten();
     }
 
@@ -342,9 +293,8 @@ impl<V> Page<V> {
         ensures upper { IfOk result (λ p. p ≡ drop 32 self.old) }
         ensures err { OnErr result (self.new ≡ self.old) }
     {
-        let marks = self.marks.split_off(HALF.min(self.marks.len()))?;
         let pairs = self.pairs.split_off(HALF)?;
-        Ok(Page { pairs, marks })
+        Ok(Page { pairs })
     }
 }
 

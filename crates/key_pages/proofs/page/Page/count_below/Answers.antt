@@ -5,7 +5,7 @@ use Rattle.store_laws.proofs.Rising.{count_while-point}
 use Rattle.key_pages.specs.Pairs.{IsAscending}
 use Rattle.key_pages.specs.Paged.{count_below, is_below}
 use Rattle.key_pages.proofs.Places.{below-partitioned}
-use Rattle.key_pages.proofs.page.Page.halved.Goals as goal
+use Rattle.key_pages.proofs.page.Page.count_below.Goals as goal
 
 pub returns-clause-value : goal.returns-clause-value
 returns-clause-value g c =
