@@ -1,5 +1,5 @@
 -- What a server does that lines control.
-use Rattle.std.specs.Prelude.{◌≡◌, ◌⊎◌, ⊥}
+use Rattle.std.specs.Prelude.{◌≡◌, ◌⊎◌}
 use Rattle.kv_model.specs.declared.ids.Ids.{Ids}
 use Rattle.kv_model.specs.Follows as follows
 use Rattle.kv_model.specs.Wire.{WireEvent, WireOutcome}

@@ -6,8 +6,8 @@ use Rattle.kv_model.specs.declared.ids.Ids.{Ids}
 use Rattle.kv_model.specs.Wire.{WireEvent}
 use Rattle.recording.specs.Lines.{Written, all_of, within_line, line_of}
 use Rattle.event_book.specs.Events.{Entry, IsHistory}
-use Rattle.event_script.specs.Leading.{AllAsked, AllFit, Leads}
-use Rattle.event_script.specs.Scripts.{IsWritten}
+use Rattle.event_script.specs.Leading.{AllFit, Leads}
+use Rattle.event_script.specs.Scripts.{AllAsked, IsWritten}
 use Rattle.commands.specs.Playing.{AreAllEvents}
 use Rattle.commands.specs.Script.{longest_line, is, event_of, line_events}
 
