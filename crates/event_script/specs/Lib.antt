@@ -1,4 +1,0 @@
-pub mod Scripts
-pub mod Notes
-pub mod Leading
-pub mod Writing
