@@ -3,8 +3,7 @@ use Rattle.std.specs.Prelude.{◌≡◌, ⊤, ℕ, ◌-◌, ◌^◌, List, [], �
 use Rattle.std.specs.Prelude.{Option}
 use Rattle.kv_model.specs.declared.ids.Ids.{Ids}
 use Rattle.kv_model.specs.Wire.{WireEvent}
-use Rattle.engine_lock.specs.Fits.{IsStanding}
-use Rattle.http_front.specs.Ends.{IsOfServer}
+use Rattle.http_front.specs.Ends.{IsClosed, IsOfServer}
 use Rattle.command_line.specs.From.{StopsBeginning}
 use Rattle.commands.specs.declared.fault.Fault.{Fault}
 use Rattle.commands.specs.declared.fault.Fault.TheVariants as fault
@@ -25,9 +24,10 @@ connections_of s = if s.connections == 0 then 2 ^ 63 - 1 else s.connections
 abbrev pub closing_line : ℕ → List ℕ
 closing_line revision = codes "closed at revision " ++ decimal revision ++ 10 ∷ []
 
--- it is the revision of a core that stands for some world
-abbrev pub IsOfCore : ℕ → Type 0
-IsOfCore revision = (core : _) × IsStanding core × (revision ≡ core.store.revision)
+-- it is the revision of a core which stands for the world that the list of all events leads to, as an engine that answers by
+-- these ids was closed with all its clients
+abbrev pub IsOfCore : Ids → ℕ → Type 0
+IsOfCore ids revision = (core : _) × IsClosed ids core × (revision ≡ core.store.revision)
 
 -- by which ids it answers
 abbrev pub ids_in : Serve → Ids

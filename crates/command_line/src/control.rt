@@ -1,12 +1,10 @@
 //! `serve --control`: the store over HTTP, whose time, expiry and trimming somebody else decides.
-ghost use Rattle.std.specs.Prelude.{◌≡◌, false, true, is_ok, Err, IfOk, OnOk, ◌⊎◌};
+ghost use Rattle.std.specs.Prelude.{◌≡◌, false, Ok, Err, IfOk, OnOk};
 ghost use Rattle.std.specs.Io.KnownBytes.{Appends};
-ghost use Rattle.kv_model.specs.Follows as follows;
 ghost use Rattle.kv_model.specs.Wire as wire;
 ghost use Rattle.json_gateway.specs.Runs.{outcome_view};
 ghost use Rattle.commands.specs.Controlling.{made_view};
-ghost use Rattle.engine_lock.specs.Orders.{Makes};
-ghost use Rattle.engine_lock.specs.Fits.{IsStanding};
+ghost use Rattle.http_front.specs.Ends.{IsClosed};
 ghost use Rattle.command_line.specs.Controls.{IsMade};
 ghost use Rattle.command_line.specs.From.{IsBegun};
 ghost use Rattle.command_line.specs.Serving.{IsOfCore, asks_to_serve, closing_line, ids_in, ids_of};
@@ -39,12 +37,10 @@ impl<'e, L: EngineName, G: Gate, R: Wait> Controlling<Client<L>> for Orders<'e, 
 
     fn make(&self, state: &mut Client<L>, order: Order) -> Result<WireOutcome, AllocError> {
         match order {
-            Order::Moment(now) => Ok(WireOutcome::Clock(self.events.moment(now))),
+            Order::Moment(now) => Ok(WireOutcome::Clock(self.events.moment(state, now))),
             Order::Expire => Ok(expired(&self.events, state)),
-            Order::Trim => trimmed(&self.events),
-            Order::Certify => Ok(WireOutcome::Certified(
-                self.events.engine.certificate(self.events.rt),
-            )),
+            Order::Trim => trimmed(&self.events, state),
+            Order::Certify => Ok(WireOutcome::Certified(self.events.certificate(state))),
         }
     }
 }
@@ -54,7 +50,8 @@ fn expired<L: EngineName, G: Gate, R: Wait>(
     events: &Recorded<'_, L, G, R>,
     client: &mut Client<L>,
 ) -> WireOutcome
-    ensures { Makes events.now.engine.now wire.WireEvent.expire (outcome_view result) }
+    ensures { IsMade events.now.engine.now client.old wire.WireEvent.expire (outcome_view result)
+        client.new }
 {
     match events.expire(client, 0) {
         Ok(expiry) => WireOutcome::Expiry(Ok(expiry)),
@@ -66,11 +63,12 @@ fn expired<L: EngineName, G: Gate, R: Wait>(
 /// memory, and then it was not made.
 fn trimmed<L: EngineName, G: Gate, R: Wait>(
     events: &Recorded<'_, L, G, R>,
+    client: &mut Client<L>,
 ) -> Result<WireOutcome, AllocError>
-    ensures { Makes events.now.engine.now wire.WireEvent.trim (made_view result)
-        ⊎ (made_view result ≡ follows.Outcome.memory) }
+    ensures { IsMade events.now.engine.now client.old wire.WireEvent.trim (made_view result)
+        client.new }
 {
-    match events.trim_checked() {
+    match events.trim_checked(client) {
         Ok(trimmed) => Ok(WireOutcome::Trimmed(trimmed)),
         Err(_) => Err(AllocError),
     }
@@ -130,7 +128,7 @@ pub fn serve_controlled<T: Starts, G: Gate + Sync, R, In: BufRead, W: Write>(
 ) -> Result<(), Fault>
 where
     R: Wait + Threads + time::Clock + Net + Sync,
-    ensures ok { OnOk result ((between : W) × ((core : _) × IsStanding core × Appends
+    ensures ok { OnOk result ((between : W) × ((core : _) × IsClosed (ids_of args.now) core × Appends
         (W.contents between) (W.contents w.new) (closing_line core.store.revision))) }
     ensures begins { OnOk result (IsBegun (ids_of args.now) (line_events start.entry.script.items)) }
     ensures unasked { asks_to_serve args.now ≡ false → (result ≡ Err Fault.Arguments) × (w.new ≡ w.old) }
@@ -154,11 +152,10 @@ where
     }
 }
 
-/// Writes the last line of a server that has ended at a revision of a core.
+/// Writes the last line of a server that has ended at a revision.
 fn close<W: Write>(w: &mut W, revision: u64) -> Result<(), Fault>
-    requires { IsOfCore revision }
-    ensures { OnOk result ((core : _) × IsStanding core
-        × Appends (W.contents w.old) (W.contents w.new) (closing_line core.store.revision)) }
+    ensures { OnOk result
+        (Appends (W.contents w.old) (W.contents w.new) (closing_line revision)) }
 {
     match write_closing(w, revision) {
         Ok(()) => Ok(()),
@@ -176,7 +173,7 @@ fn run_controlled<T: Starts, G: Gate + Sync, R, In: BufRead, W: Write>(
 ) -> Result<u64, Fault>
 where
     R: Wait + Threads + time::Clock + Net + Sync,
-    ensures revision { IfOk result IsOfCore }
+    ensures revision { IfOk result (IsOfCore (ids_in serve.now)) }
     ensures begins { OnOk result (IsBegun (ids_in serve.now) (line_events start.entry.script.items)) }
 {
     match Opening::for_clients(alloc, rt, clients_of(serve)) {
@@ -189,9 +186,7 @@ where
 
 /// The revision that a server ended at, where its lines ended in order, too.
 fn both(ended: Result<u64, Fault>, told: Result<(), Fault>) -> Result<u64, Fault>
-    requires { IfOk ended IsOfCore }
-    ensures revision { IfOk result IsOfCore }
-    ensures ended { OnOk result (is_ok ended ≡ true) }
+    ensures { IfOk result (λ revision. ended ≡ Ok revision) }
 {
     match (ended, told) {
         (Ok(revision), Ok(())) => Ok(revision),
@@ -219,8 +214,10 @@ where
     R: Wait + Threads + time::Clock + Net + Sync,
     requires name { opening.name ≡ L.Ledger.name }
     requires parts { opening.parts ≡ L.Ledger.parts }
-    requires book { opening.book ≡ L.book }
-    ensures revision { IfOk result IsOfCore }
+    requires book { opening.book ≡ L.ListName.book }
+    requires feed { opening.feed ≡ L.feed }
+    requires ids { ids_in serve.now ≡ L.ListName.ids }
+    ensures revision { IfOk result (IsOfCore (ids_in serve.now)) }
     ensures begins { OnOk result (IsBegun (ids_in serve.now) (line_events start.entry.script.items)) }
 {
     let gate = lines.gate;

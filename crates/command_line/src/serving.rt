@@ -9,7 +9,7 @@ ghost use Rattle.command_line.specs.Serving.{IsOfCore, IsOfRun, IsOfServerAlone,
 ghost use Rattle.command_line.specs.Serving.{closing_line, connections_of, ids_in, ids_of};
 ghost use Rattle.commands.specs.Script.{line_events};
 ghost use Rattle.commands.specs.Writes.{AppendsFront, Writes};
-ghost use Rattle.engine_lock.specs.Fits.{IsStanding};
+ghost use Rattle.http_front.specs.Ends.{IsClosed};
 
 use crate::from::{Start, Starts, Unheard, begin};
 use command_words::{Args, Serve};
@@ -60,6 +60,8 @@ fn millis_between(start: Instant, now: Instant) -> u64
 
 /// Serves the connections that come in at a listener, as the arguments ask, and writes the line
 /// `closed at revision` and the revision of the store when it has ended. It begins with an empty store.
+/// That revision is of the world which the history of all that was done leads to, and 1 plus all changes
+/// that the server's clients made in it (`IsClosed` of `http_front`).
 ///
 /// The moments by which leases end are milliseconds since its start. Nothing is written before it
 /// has ended.
@@ -75,10 +77,10 @@ pub fn serve_on<R: Wait + Threads + time::Clock + Net + Sync, W: Write>(
     args: &Args<'_>,
     w: &mut W,
 ) -> Result<(), Fault>
-    ensures ok { OnOk result ((core : _) × IsStanding core
+    ensures ok { OnOk result ((core : _) × IsClosed (ids_of args.now) core
         × Appends (W.contents w.old) (W.contents w.new) (closing_line core.store.revision)) }
     ensures unwritten { IfErr result (λ fault. is_write fault ≡ false → w.new ≡ w.old) }
-    ensures cut { IfErr result (λ fault. is_write fault ≡ true → (core : _) × IsStanding core
+    ensures cut { IfErr result (λ fault. is_write fault ≡ true → (core : _) × IsClosed (ids_of args.now) core
         × AppendsFront (W.contents w.old) (W.contents w.new) (closing_line core.store.revision)) }
     ensures fault { IfErr result (λ fault. asks_to_serve args.now ≡ true
         → is_write fault ≡ false → IsOfRun fault) }
@@ -111,10 +113,10 @@ pub fn serve_by<T: Starts, G, R, W: Write>(
 where
     G: Gate + Sync,
     R: Wait + Threads + time::Clock + Net + Sync,
-    ensures ok { OnOk result ((core : _) × IsStanding core
+    ensures ok { OnOk result ((core : _) × IsClosed (ids_of args.now) core
         × Appends (W.contents w.old) (W.contents w.new) (closing_line core.store.revision)) }
     ensures unwritten { IfErr result (λ fault. is_write fault ≡ false → w.new ≡ w.old) }
-    ensures cut { IfErr result (λ fault. is_write fault ≡ true → (core : _) × IsStanding core
+    ensures cut { IfErr result (λ fault. is_write fault ≡ true → (core : _) × IsClosed (ids_of args.now) core
         × AppendsFront (W.contents w.old) (W.contents w.new) (closing_line core.store.revision)) }
     ensures begins { OnOk result (IsBegun (ids_of args.now) (line_events start.entry.script.items)) }
     ensures fault { IfErr result (λ fault. asks_to_serve args.now ≡ true → is_write fault ≡ false
@@ -171,7 +173,7 @@ fn run_server<T: Starts, G: Gate + Sync, R: Wait + Threads + time::Clock + Net +
     serve: &Serve<'_>,
     gate: &G,
 ) -> Result<u64, Fault>
-    ensures revision { IfOk result IsOfCore }
+    ensures revision { IfOk result (IsOfCore (ids_in serve.now)) }
     ensures begins { OnOk result (IsBegun (ids_in serve.now) (line_events start.entry.script.items)) }
     ensures fault { IfErr result (λ fault. is_write fault ≡ false) }
     ensures kind { IfErr result (StopsServing (ids_in serve.now) (line_events start.entry.script.items)) }
@@ -183,11 +185,11 @@ fn run_server<T: Starts, G: Gate + Sync, R: Wait + Threads + time::Clock + Net +
 }
 
 /// How many clients a server has: one for each worker, one for the leases that end or for the lines
-/// that control it, and one for the streams of watches.
+/// that control it, one for the streams of watches, and one for trimming.
 pub(crate) fn clients_of(serve: &Serve<'_>) -> u64
-    ensures { result ≡ min (serve.now.workers + 2) (2 ^ 64 - 1) }
+    ensures { result ≡ min (serve.now.workers + 3) (2 ^ 64 - 1) }
 {
-    serve.workers.saturating_add(2)
+    serve.workers.saturating_add(3)
 }
 
 fn closed_revision<L: EngineName + Send + Sync, T: Starts, G: Gate + Sync, R>(
@@ -202,8 +204,10 @@ where
     R: Wait + Threads + time::Clock + Net + Sync,
     requires name { opening.name ≡ L.Ledger.name }
     requires parts { opening.parts ≡ L.Ledger.parts }
-    requires book { opening.book ≡ L.book }
-    ensures revision { IfOk result IsOfCore }
+    requires book { opening.book ≡ L.ListName.book }
+    requires feed { opening.feed ≡ L.feed }
+    requires ids { ids_in serve.now ≡ L.ListName.ids }
+    ensures revision { IfOk result (IsOfCore (ids_in serve.now)) }
     ensures begins { OnOk result (IsBegun (ids_in serve.now) (line_events start.entry.script.items)) }
     ensures fault { IfErr result (λ fault. is_write fault ≡ false) }
     ensures kind { IfErr result (StopsServing (ids_in serve.now) (line_events start.entry.script.items)) }
@@ -233,7 +237,9 @@ pub(crate) fn engine_of<L: EngineName>(
 ) -> Engine<L>
     requires name { opening.name ≡ L.Ledger.name }
     requires parts { opening.parts ≡ L.Ledger.parts }
-    requires book { opening.book ≡ L.book }
+    requires book { opening.book ≡ L.ListName.book }
+    requires feed { opening.feed ≡ L.feed }
+    requires ids { ids_in serve.now ≡ L.ListName.ids }
     ensures ids { result ≡ ids_in serve.now }
 {
     let ids = ids_of(serve);
@@ -287,14 +293,17 @@ fn run_pool<L: EngineName + Send + Sync, G: Gate + Sync, R>(
 where
     R: Wait + Threads + time::Clock + Net + Sync,
     requires { begun.engine ≡ ids_in serve.now }
-    ensures revision { IfOk result IsOfCore }
+    ensures revision { IfOk result (IsOfCore (ids_in serve.now)) }
     ensures fault { IfErr result IsOfServerAlone }
 {
+    let Begun { engine, client } = begun;
+    let mut client = client;
     let clock = SinceStart {
         rt,
-        from: begun.engine.moment(rt, 0),
+        from: engine.moment(rt, &mut client, 0),
         start: Instant::now(rt).ok(),
     };
+    let begun = Begun { engine, client };
     let limits = limits_of(serve);
     ended(pool_begun(rt, alloc, begun, gate, &clock, listener, limits))
 }

@@ -50,9 +50,10 @@ pub mod asked;
 mod client;
 mod closing;
 pub mod engine;
+mod kept;
+mod making;
 mod noting;
 pub mod opening;
-pub mod past;
 mod state;
 mod steps;
 
@@ -61,7 +62,6 @@ pub use client::Client;
 pub use closing::CloseFault;
 pub use engine::{Engine, Submitted, locked};
 pub use opening::{EngineName, Opening};
-pub use past::Given;
 
 /// How many clients one engine makes in its life.
 pub const MOST_CLIENTS: u64 = 64;

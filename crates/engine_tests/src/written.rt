@@ -66,16 +66,16 @@ fn request_all<L: EngineName, R: Wait>(
 }
 
 fn make_events<L: EngineName, R: Wait>(rt: &R, engine: &Engine<L>, client: &mut Client<L>) {
-    drop(engine.deliver_for(rt, client, 1));
-    drop(engine.deliver(rt, 1));
+    drop(engine.deliver(rt, client, 1));
+    drop(engine.deliver(rt, client, 1));
     drop(engine.expire_once(rt, client, 1500));
     drop(engine.expire_once(rt, client, 2000));
     drop(engine.expire_once(rt, client, 2000));
-    drop(engine.trim_checked(rt));
-    drop(engine.trim_once(rt));
-    let _ended = engine.drop_watch_for(rt, client, 1);
-    let _ended_again = engine.drop_watch(rt, 1);
-    let _clock = engine.moment(rt, 3000);
+    drop(engine.trim_checked(rt, client));
+    drop(engine.trim_once(rt, client));
+    let _ended = engine.drop_watch(rt, client, 1);
+    let _ended_again = engine.drop_watch(rt, client, 1);
+    let _clock = engine.moment(rt, client, 3000);
 }
 
 /// A command for which there is no request.
@@ -99,9 +99,11 @@ fn lines<L: EngineName, R: Wait>(
 ) -> Option<(Taken, Taken, Taken)>
     requires name { opening.name ≡ L.Ledger.name }
     requires parts { opening.parts ≡ L.Ledger.parts }
-    requires book { opening.book ≡ L.book }
+    requires book { opening.book ≡ L.ListName.book }
+    requires feed { opening.feed ≡ L.feed }
+    requires ids { L.ListName.ids ≡ record { cluster = 1; member = 1 } }
 {
-    let engine = Engine::<L>::recorded(alloc, opening, ONES);
+    let mut engine = Engine::<L>::recorded(alloc, opening, ONES);
     let mut client = engine.client(rt).ok()?;
     let (mut asked, mut done, mut last) = (Vec::new(alloc), Vec::new(alloc), Vec::new(alloc));
     request_all(rt, alloc, &engine, &mut client);
@@ -135,9 +137,11 @@ fn the_lines_of_an_engine_are_a_script(rt: HostRuntime) {
 fn unrecorded<L: EngineName, R: Wait>(rt: &R, alloc: Global, opening: Opening) -> Option<Taken>
     requires name { opening.name ≡ L.Ledger.name }
     requires parts { opening.parts ≡ L.Ledger.parts }
-    requires book { opening.book ≡ L.book }
+    requires book { opening.book ≡ L.ListName.book }
+    requires feed { opening.feed ≡ L.feed }
+    requires ids { L.ListName.ids ≡ record { cluster = 1; member = 1 } }
 {
-    let engine = Engine::<L>::new(alloc, opening, ONES);
+    let mut engine = Engine::<L>::new(alloc, opening, ONES);
     let mut client = engine.client(rt).ok()?;
     let mut text = Vec::new(alloc);
     request_all(rt, alloc, &engine, &mut client);

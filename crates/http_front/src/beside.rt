@@ -1,5 +1,5 @@
 //! Ranges, which a client reads beside the engine.
-ghost use Rattle.std.specs.Prelude.{◌≡◌, None, Ok, Result, IfSome, IfNone, MatchBool};
+ghost use Rattle.std.specs.Prelude.{◌≡◌, true, None, Ok, Result, IfSome, IfNone, MatchBool};
 ghost use Rattle.range_view.specs.Replies.{reply_view};
 ghost use Rattle.kv_model.specs.declared.refusal.Refusal.{Refusal as RefusalOf};
 ghost use Rattle.kv_model.specs.declared.call.Command.TheVariants as commands;
@@ -36,7 +36,8 @@ pub(crate) fn looked<L: EngineName, G: Gate, R: Wait>(
 ) -> Option<Outcome>
     ensures looks { IfSome result
         (λ o. Looks events.now.engine.now client.old command.now o client.new) }
-    ensures none { IfNone result (Starts command.now client.old client.new) }
+    ensures none { IfNone result
+        (Starts events.now.engine.now command.now client.old client.new) }
 {
     match range_of(command) {
         Some(query) => looked_up(events, alloc, client, now, query),
@@ -64,7 +65,7 @@ fn looked_up<L: EngineName, G: Gate, R: Wait>(
 ) -> Option<Outcome>
     ensures looks { IfSome result
         (λ o. LooksUp events.now.engine.now client.old query.now o client.new) }
-    ensures none { IfNone result (Stays client.old client.new) }
+    ensures none { IfNone result (Stays events.now.engine.now client.old client.new) }
 {
     if !may_begin(events, client, now, query) {
         return None;
@@ -80,20 +81,22 @@ fn may_begin<L: EngineName, G: Gate, R: Wait>(
     now: u64,
     query: &RangeQuery,
 ) -> bool
-    ensures { MatchBool result (Begins query.now.serializable client.old client.new)
-        (client.new ≡ left client.old) }
+    ensures { MatchBool result
+        (Begins events.now.engine.now query.now.serializable client.old client.new)
+        (Stays events.now.engine.now client.old client.new) }
 {
     query.serializable || is_caught_up(events, client, now)
 }
 
-/// Whether the client was told of all that the engine has done. It is not where events are written
-/// down: the Range is to be one of them.
+/// Whether the client was told of all that the engine has done, by an event at the moment `now`. It is
+/// not where events are written down: the Range is to be one of them.
 fn is_caught_up<L: EngineName, G: Gate, R: Wait>(
     events: &Recorded<'_, L, G, R>,
     client: &mut Client<L>,
     now: u64,
 ) -> bool
-    ensures { MatchBool result (CatchesUp client.old client.new) (client.new ≡ left client.old) }
+    ensures { MatchBool result (CatchesUp events.now.engine.now true client.old client.new)
+        (Stays events.now.engine.now client.old client.new) }
 {
     if events.is_recorded() {
         client.leave();

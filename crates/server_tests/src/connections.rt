@@ -20,9 +20,11 @@ fn worked<L: EngineName, R: Wait + time::Clock>(
 ) -> Option<(Result<u64, Front>, u64, u64)>
     requires name { opening.name ≡ L.Ledger.name }
     requires parts { opening.parts ≡ L.Ledger.parts }
-    requires book { opening.book ≡ L.book }
+    requires book { opening.book ≡ L.ListName.book }
+    requires feed { opening.feed ≡ L.feed }
+    requires ids { L.ListName.ids ≡ record { cluster = 1; member = 1 } }
 {
-    let engine = Engine::<L>::new(alloc, opening, ONES);
+    let mut engine = Engine::<L>::new(alloc, opening, ONES);
     let client = engine.client(rt).ok()?;
     Some(answered(rt, alloc, &engine, client, comes, goes))
 }

@@ -57,7 +57,9 @@ fn served<L: EngineName + Send + Sync, R: Wait + Threads + time::Clock + Net + S
 ) -> Option<(bool, u64)>
     requires name { opening.name ≡ L.Ledger.name }
     requires parts { opening.parts ≡ L.Ledger.parts }
-    requires book { opening.book ≡ L.book }
+    requires book { opening.book ≡ L.ListName.book }
+    requires feed { opening.feed ≡ L.feed }
+    requires ids { L.ListName.ids ≡ record { cluster = 1; member = 1 } }
 {
     let engine = Engine::<L>::new(alloc, opening, ONES);
     let gate = SecondFirst {

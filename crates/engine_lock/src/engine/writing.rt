@@ -1,18 +1,15 @@
 //! An engine whose events are written down, under its lock, as the lines of a script.
 ghost use Rattle.std.specs.Prelude.{◌≡◌};
-ghost use Rattle.engine_lock.specs.Locked.{Submits, left, rise, with_done};
+ghost use Rattle.engine_lock.specs.Entering.{Submits};
 ghost use Rattle.engine_lock.specs.Takings.{Takes};
-ghost use Rattle.engine_lock.specs.declared.past.Given.TheVariants as given;
 
-use super::watching::News;
 use super::{Engine, Submitted, locked};
 use crate::asked::Asked;
 use crate::client::Client;
 use crate::opening::{EngineName, Opening};
-use crate::state::State;
 use json_gateway::Ids;
 use std::alloc::Global;
-use std::sync::{Mutex, Wait};
+use std::sync::Wait;
 
 impl<L: EngineName> Engine<L> {
     /// As [`Engine::new`], an engine whose events are written down, in the order in which they are
@@ -26,15 +23,12 @@ impl<L: EngineName> Engine<L> {
     pub fn recorded(alloc: Global, opening: Opening, ids: Ids) -> Self
         requires name { opening.name ≡ L.Ledger.name }
         requires parts { opening.parts ≡ L.Ledger.parts }
-        requires book { opening.book ≡ L.book }
+        requires book { opening.book ≡ L.ListName.book }
+        requires feed { opening.feed ≡ L.feed }
+        requires ids { ids ≡ L.ListName.ids }
         ensures { result ≡ ids }
     {
-        Engine {
-            alloc,
-            ids,
-            state: Mutex::new(State::new(alloc, opening, true)),
-            news: News::none(),
-        }
+        Engine::opened(alloc, opening, ids, true)
     }
 
     /// As [`Engine::submit`], of a command and the request for it, which is its line where events are
@@ -46,10 +40,7 @@ impl<L: EngineName> Engine<L> {
         now: u64,
         asked: &Asked<'_>,
     ) -> Submitted
-        ensures submits { Submits self.now (left client.old) now asked.now result client.new }
-        ensures client { client.new ≡ record (with_done client.old
-            (given.Done asked.now.command now result.outcome) (rise result.outcome.raised))
-            { reader = client.new.reader } }
+        ensures { Submits self.now client.old now asked.now result client.new }
     {
         client.leave();
         let mut state = locked(rt, &self.state);
@@ -62,10 +53,10 @@ impl<L: EngineName> Engine<L> {
     /// where they are not, an event was made that has no line, or the events are not written down, and
     /// none will come.
     ///
-    /// They are the last of all that was written so far: the lines of events that lead from the opening
-    /// world to the one that the core stood for (`Takes`). Constant time under the lock.
+    /// They are the last of all that was written so far, which is the script of the list of events, or
+    /// the beginning of it where a line was lost (`Takes`). Constant time under the lock.
     pub fn take_lines<R: Wait>(&self, rt: &R, text: &mut Vec<u8>) -> bool
-        ensures { Takes text.new.items result }
+        ensures { Takes self.now text.new.items result }
     {
         locked(rt, &self.state).take_lines(text)
     }

@@ -9,7 +9,7 @@ impl<L: EngineName> State<L> {
     /// Puts the lines that were not taken yet in place of what a list had: all of them, which are
     /// taken then. Says whether they are all.
     pub(crate) fn take_lines(&mut self, text: &mut Vec<u8>) -> bool
-        ensures takes { Takes text.new.items result }
+        ensures takes { Takes L.ListName.ids text.new.items result }
         ensures text { text.new.items ≡ self.old.lines.text }
         ensures taken { self.new.lines ≡ record self.old.lines {
           taken = self.old.lines.taken ++ self.old.lines.text ∷ [];
@@ -17,6 +17,7 @@ impl<L: EngineName> State<L> {
         } }
         ensures same { self.new ≡ record self.old { lines = self.new.lines } }
     {
+        self.listing.audit();
         self.lines.take(text)
     }
 }

@@ -6,5 +6,5 @@ returns-in-Some-clause-looks g c = looks_as c.args.events.now.engine.now c.args.
     c.looked_up.result c.in-Some.ensures c.looked_up.ensures.looks
 
 pub returns-in-Some-clause-none : goal.returns-in-Some-clause-none
-returns-in-Some-clause-none g c = starts_as c.args.command.now c.in-Some.query.now c.args.client.now c.looked_up.new.client c.looked_up.result
+returns-in-Some-clause-none g c = starts_as c.args.events.now.engine.now c.args.command.now c.in-Some.query.now c.args.client.now c.looked_up.new.client c.looked_up.result
     c.in-Some.ensures c.looked_up.ensures.none

@@ -10,6 +10,6 @@ returns-in-Some g c = inr (subst (λ (x : Command). Looks c.args.events.now.engi
 pub returns : goal.returns
 returns g c = inl (record {
   from = c.looked.new.client;
-  starts = subst (λ (x : Command). Starts x c.args.client.now c.looked.new.client) c.command.ensures.command c.in_default.ensures.none;
+  starts = subst (λ (x : Command). Starts c.args.events.now.engine.now x c.args.client.now c.looked.new.client) c.command.ensures.command c.in_default.ensures.none;
   does = c.performed.ensures;
 })

@@ -5,7 +5,6 @@ returns g c = record {
   now = c.args.now;
   submitted = c.submit-submitted.result;
   told = c.submit-submitted.new.client;
-  submits = c.submit-submitted.ensures.submits;
-  given_is = c.submit-submitted.ensures.client;
+  submits = c.submit-submitted.ensures;
   awaits = c.awaited.ensures;
 }

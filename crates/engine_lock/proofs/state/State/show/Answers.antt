@@ -1,0 +1,6 @@
+use Rattle.snapshot_feed.specs.States.{appended}
+use Rattle.engine_lock.proofs.Fitting.{fits_feed}
+use Rattle.engine_lock.proofs.state.State.show.Goals as goal
+
+pub published-requires : goal.published-requires
+published-requires g c = fits_feed c.self.inside.core c.self.inside.listing (appended c.self.inside.feed) c.self.invariant.0.fits

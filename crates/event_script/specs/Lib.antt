@@ -1,0 +1,4 @@
+pub mod Scripts
+pub mod Notes
+pub mod Leading
+pub mod Writing
