@@ -107,11 +107,11 @@ lines_read text events each is =
 -- ---- what was written
 
 pub recording_read_back : IsRecordingReadBack
-recording_read_back ids l log w h fit =
-    let led = written_leads ids l log w h fit in
+recording_read_back ids l t log w h =
+    let led = written_leads ids l t log w h in
     (led, lines_read (all_of l) led.leads.events led.leads.each (led.lines ∙ led.leads.lines))
 
 pub recording_is_script : IsRecordingScript
-recording_is_script ids l log w h fit =
-    let read = recording_read_back ids l log w h fit in
+recording_is_script ids l t log w h =
+    let read = recording_read_back ids l t log w h in
     (map as_read read.0.leads.events, read.1 ∙ sym (map-map Some as_read read.0.leads.events))

@@ -5,8 +5,8 @@ use Rattle.kv_model.specs.declared.ids.Ids.{Ids}
 use Rattle.kv_model.specs.Wire.{WireEvent}
 use Rattle.recording.specs.Lines.{Written, all_of, within_line, line_of}
 use Rattle.event_book.specs.Events.{Entry, IsHistory}
-use Rattle.event_script.specs.Leading.{AllFit, LeadsBy}
-use Rattle.event_script.specs.Scripts.{IsWritten}
+use Rattle.event_script.specs.Leading.{LeadsBy}
+use Rattle.event_script.specs.Scripts.{IsWritten, Taken}
 use Rattle.commands.specs.Playing.{AreAllEvents}
 use Rattle.commands.specs.Script.{longest_line, is, event_of, line_events}
 
@@ -40,10 +40,10 @@ AreReadBack = (events : List WireEvent) (rest : List ℕ) → All IsRecordable e
 -- What an engine has written down of the list of its events is read as events that lead where a beginning of the list leads:
 -- the whole list, where no line was lost.
 abbrev pub IsRecordingReadBack : Type 0
-IsRecordingReadBack = (ids : Ids) (l : Written) (log : List Entry) → IsWritten l log → IsHistory ids log → AllFit log
+IsRecordingReadBack = (ids : Ids) (l : Written) (t : Taken) (log : List Entry) → IsWritten l t log → IsHistory ids log
     → (led : LeadsBy l log) × (line_events (all_of l) ≡ map (λ e. Some (as_read e)) led.leads.events)
 
 -- Each line of it asks for an event: a server goes on from it.
 abbrev pub IsRecordingScript : Type 0
-IsRecordingScript = (ids : Ids) (l : Written) (log : List Entry) → IsWritten l log → IsHistory ids log → AllFit log
+IsRecordingScript = (ids : Ids) (l : Written) (t : Taken) (log : List Entry) → IsWritten l t log → IsHistory ids log
     → AreAllEvents (line_events (all_of l))

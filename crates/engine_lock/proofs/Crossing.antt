@@ -27,6 +27,7 @@ use Rattle.event_book.specs.declared.naming.ListName as lists
 use Rattle.event_book.proofs.holder.Holder.TheSendSync as holder
 use Rattle.event_book.proofs.listing.Listing.TheSendSync as listing
 use Rattle.event_book.proofs.roster.Roster.TheSendSync as roster
+use Rattle.engine_lock.proofs.taken.Taken.TheSendSync as taken
 use Rattle.engine_lock.specs.declared.opening.EngineName as names
 use Rattle.engine_lock.specs.contracts.client.Client as Client
 use Rattle.engine_lock.specs.contracts.engine.Engine as Engine
@@ -47,10 +48,10 @@ core_send = view_send inside.the_row _ _ _ _ (recorded_send (inside.the_field).r
 module _ (T : RattleType) (n : names.Ghosts T.Denot) (b : lists.Ghosts T.Denot) (g : ledger.Ghosts T.Denot) where
   state_send : IsSend (State.the_row T n b g)
   state_send = view_send (under.the_row T n b g) _ _ _ _ (recorded_send (under.the_field T n b g).row _ _ (under.the_type T n b g).to_one
-      (struct_send (shape (under.the_type T n b g)) (core_send, (listing.the_send T b g, (plain_send _ _ _ _ _, (feed.the_send, (lines_send, tt)))))))
+      (struct_send (shape (under.the_type T n b g)) (core_send, (listing.the_send T b g, (plain_send _ _ _ _ _, (feed.the_send, (lines_send, (taken.the_send T n b g, tt))))))))
 
   pub engine_sync : IsSync (Engine.the_row T n b g)
-  engine_sync = search (sendable, crosses, state_send, roster.the_send) depth 60
+  engine_sync = search (sendable, crosses, state_send, roster.the_send, taken.the_send) depth 60
 
 -- ---- what a thread is started with
 fields_send : (Ts : List RattleType) → AllSend Ts → FieldsHave IsSend (parts Ts)

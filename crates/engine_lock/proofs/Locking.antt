@@ -7,16 +7,16 @@ use Rattle.store_laws.specs.Stands.{StandsFor}
 use Rattle.request_core.specs.State.{CoreState, tables_of}
 use Rattle.recording.specs.Lines.{Written}
 use Rattle.event_book.specs.Events.{Entry, clocked}
-use Rattle.event_script.specs.Scripts.{IsWritten}
+use Rattle.event_script.specs.Scripts.{IsWritten, Taken}
 use Rattle.engine_lock.specs.Fits.{IsLocked, MakesOn}
 use Rattle.engine_lock.proofs.Fitting.{fits_entered}
 
-pub locked_more : (ids : Ids) (old mid new : CoreState) (log later : List Entry) (fed more : List Published) (lines noted : Written) (x : Entry)
-    → IsLocked old log fed lines → ((w : World) → StandsFor old.store w → StandsFor mid.store (clocked w x.event))
+pub locked_more : (ids : Ids) (old mid new : CoreState) (log later : List Entry) (fed more : List Published) (lines noted : Written) (t : Taken) (x : Entry)
+    → IsLocked old log fed lines t → ((w : World) → StandsFor old.store w → StandsFor mid.store (clocked w x.event))
     → tables_of mid ≡ tables_of old → MakesOn ids x.event x.outcome mid new fed more → later ≡ log ++ x ∷ []
-    → (IsWritten lines log → IsWritten noted (log ++ x ∷ [])) → IsLocked new later more noted
-locked_more ids old mid new log later fed more lines noted x locked moved kept made grew written =
-    subst (λ l. IsLocked new l more noted) (sym grew) (record {
+    → (IsWritten lines t log → IsWritten noted t (log ++ x ∷ [])) → IsLocked new later more noted t
+locked_more ids old mid new log later fed more lines noted t x locked moved kept made grew written =
+    subst (λ l. IsLocked new l more noted t) (sym grew) (record {
       fits = fits_entered ids old mid new log fed more x locked.fits moved kept made;
       written = written locked.written;
     })

@@ -11,7 +11,7 @@ use Rattle.json_gateway.specs.Steps.{Steps}
 use Rattle.recording.specs.Lines.{Written}
 use Rattle.event_book.specs.Events.{Answers, Entry, Event, led_to, left_by}
 use Rattle.event_book.specs.Publishing.{change_by, published_by}
-use Rattle.event_script.specs.Scripts.{IsWritten}
+use Rattle.event_script.specs.Scripts.{IsWritten, Taken}
 
 -- the core stands for the world that the events lead to; readers are told of just what these publish, which makes of the
 -- empty tables what the core keeps
@@ -21,9 +21,9 @@ pub record Fits (core : CoreState) (log : List Entry) (fed : List Published) : T
   pub stored : store_of fed ≡ tables_of core
 
 -- whenever the lock is free: besides, what was written down is the script of the events
-pub record IsLocked (core : CoreState) (log : List Entry) (fed : List Published) (lines : Written) : Type 0 where
+pub record IsLocked (core : CoreState) (log : List Entry) (fed : List Published) (lines : Written) (taken : Taken) : Type 0 where
   pub fits : Fits core log fed
-  pub written : IsWritten lines log
+  pub written : IsWritten lines taken log
 
 -- An event was made on a core and told to the feed beside it: in each world that the core stood for, at the moment of the
 -- event, its outcome is the model's, the core then stands for the model's world after it, and readers are told of just the

@@ -7,6 +7,7 @@ use Rattle.request_core.specs.State.{CoreState}
 use Rattle.recording.specs.Lines.{Written}
 use Rattle.event_book.specs.Callers as list
 use Rattle.event_book.specs.Events.{Entry}
+use Rattle.event_script.specs.Scripts.{Taken}
 
 -- of what an engine is opened with: which ledger it is, into how many parts its shares are cut, which list of events it
 -- enters, and which list of publications readers are told of
@@ -24,12 +25,13 @@ pub record Caller : Type 0 where
   pub reader : Reads
 
 -- of what stands under the lock: the core, the list of all events, all that readers are told of, with what they see from
--- the next publication on, and what was written down
+-- the next publication on, what was written down, and up to which event that was taken
 pub record LockState : Type 0 where
   pub core : CoreState
   pub log : List Entry
   pub fed : List Published
   pub lines : Written
+  pub taken : Taken
 
 -- a client that nobody has used
 abbrev pub IsNew : Caller → Type 0

@@ -19,6 +19,7 @@ use crate::engine::watching::News;
 use crate::kept::Kept;
 use crate::opening::{EngineName, Opening};
 use crate::state::State;
+use crate::taken::Taken;
 use json_gateway::{Expiry, Ids, Message, Outcome, Refusal, Trim};
 use kv_model::call::Command;
 use request_core::store::Core;
@@ -45,6 +46,8 @@ pub struct Engine<L: EngineName> {
     ids: Ids,
     roster: Kept<L>,
     state: Mutex<State<L>>,
+    /// Up to which event lines were taken.
+    taken: Mutex<Taken<L>>,
     /// Whether a watch fell behind since somebody asked.
     news: News,
 }
@@ -99,11 +102,13 @@ impl<L: EngineName> Engine<L> {
         ensures { result ≡ ids }
     {
         let (state, roster) = State::new(alloc, opening, is_recorded);
+        let taken = state.taken();
         Engine {
             alloc,
             ids,
             roster: Kept::new(roster),
             state: Mutex::new(state),
+            taken: Mutex::new(taken),
             news: News::none(),
         }
     }
@@ -265,6 +270,7 @@ impl<L: EngineName> Engine<L> {
             ids,
             roster,
             state,
+            taken,
             news,
         } = self;
         let roster = roster.into_roster();
@@ -274,6 +280,7 @@ impl<L: EngineName> Engine<L> {
                 ids,
                 roster: Kept::new(roster),
                 state,
+                taken,
                 news,
             };
             return Err(CloseFault { engine, clients });

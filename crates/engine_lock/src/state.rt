@@ -15,6 +15,7 @@ ghost use Rattle.recording.specs.Lines.{blank};
 ghost use Rattle.event_book.specs.Events.{Event, led_to};
 ghost use Rattle.event_book.specs.Publishing.{published_by};
 ghost use Rattle.event_script.specs.Notes.{step_outcome};
+ghost use Rattle.event_script.specs.Taking.{untaken};
 ghost use Rattle.engine_lock.specs.Entering.{CatchesUp, EntersAlone, IsTold};
 ghost use Rattle.engine_lock.specs.Entering.{ExpiresUntold, StaysOut, Submits, SubmitsExpiry};
 
@@ -31,6 +32,7 @@ use crate::making::Made;
 use crate::noting::{first_lines, note_done, note_dropped, note_expired, note_told};
 use crate::opening::{EngineName, Opening};
 use crate::steps::{dropped, expired, has_raised, is_raised, moved, performed, told};
+use crate::taken::Taken;
 use event_book::{Listing, Roster};
 use json_gateway::{Expiry, Ids, Message, Outcome, Refusal};
 use recording::Lines;
@@ -50,6 +52,8 @@ pub(crate) struct State<L: EngineName> {
     steps: u64,
     feed: Feed,
     lines: Lines,
+    /// Up to which event the lines were taken.
+    taken: Taken<L>,
 }
 
 impl<L: EngineName> Model for State<L> {
@@ -69,9 +73,10 @@ impl<L: EngineName> Model for State<L> {
       log = s.listing;
       fed = appended s.feed;
       lines = s.lines;
+      taken = s.taken;
     } };
 
-    ghost invariant = { λ s. IsLocked s.core s.listing (appended s.feed) s.lines
+    ghost invariant = { λ s. IsLocked s.core s.listing (appended s.feed) s.lines s.taken
         × (s.feed.book ≡ L.feed) };
 }
 
@@ -85,16 +90,19 @@ impl<L: EngineName> State<L> {
         requires feed { opening.feed ≡ L.feed }
         ensures log { result.0.log ≡ [] }
         ensures lines { result.0.lines ≡ blank (not is_recorded) }
+        ensures taken { result.0.taken ≡ untaken }
         ensures clients { result.1 ≡ 0 }
     {
         let Opening { list, feed } = opening;
         let (listing, roster) = Listing::new(list);
+        let taken = Taken::nothing(listing.front());
         let state = State {
             core: first_core(alloc),
             listing,
             steps: 0,
             feed,
             lines: first_lines(alloc, is_recorded),
+            taken,
         };
         (state, roster)
     }

@@ -20,8 +20,8 @@ use Rattle.kv_model.specs.World.{Watch, World, at_moment, opening, revision, wat
 use Rattle.recording.specs.Lines.{Written, all_of, blank, handed, line_of, lines_of}
 use Rattle.event_book.specs.Asking.{Asks, IsAskedBy}
 use Rattle.event_book.specs.Events.{Answers, Entry, Event, FollowsFrom, IsAskedFor, IsHistory, after, clocked, left_by}
-use Rattle.event_script.specs.Leading.{AllFit, Fits, HasLine, LeadsBy, ScriptLeads, WrittenLeads, run_by}
-use Rattle.event_script.specs.Scripts.{AllAsked, HasRequest, IsCut, delivery_line, ending_line, expiry_line, handed_with}
+use Rattle.event_script.specs.Leading.{HasLine, LeadsBy, ScriptLeads, WrittenLeads, run_by}
+use Rattle.event_script.specs.Scripts.{AllAsked, AllFit, Fits, HasRequest, IsCut, delivery_line, ending_line, expiry_line, handed_with}
 use Rattle.event_script.specs.Scripts.{noted, noted_by, noted_if, noted_trimming, write, written_by}
 use Rattle.event_script.proofs.Clocks.{command_clock, delivery_clock, expiry_clock, moments, same_clock, twice}
 
@@ -291,9 +291,4 @@ leads_by false ids l log is w h fit = record {
 }
 
 pub written_leads : WrittenLeads
-written_leads ids l log w h fit = leads_by l.is_lost ids l log refl w h fit
-
--- an event more, whose numbers have 64 bits
-pub fits_more : (log : List Entry) (e : Entry) → AllFit log → Fits e.event → AllFit (log ++ e ∷ [])
-fits_more log e fit fits = All-append (λ (x : Entry). Fits x.event) log (e ∷ []) fit
-    (All-cons (λ (x : Entry). Fits x.event) e [] fits (All-nil (λ (x : Entry). Fits x.event)))
+written_leads ids l t log w h = leads_by l.is_lost ids l log refl w.script h w.fit

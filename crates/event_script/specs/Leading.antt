@@ -7,8 +7,8 @@ use Rattle.kv_model.specs.Requests.{request_of}
 use Rattle.kv_model.specs.Wire.{WireEvent, wire_step}
 use Rattle.kv_model.specs.World.{World, at_moment, opening}
 use Rattle.recording.specs.Lines.{Written, all_of, line_of}
-use Rattle.event_book.specs.Events.{Entry, Event, IsHistory, led_to}
-use Rattle.event_script.specs.Scripts.{AllAsked, IsWritten, script_of, written_by}
+use Rattle.event_book.specs.Events.{Entry, IsHistory, led_to}
+use Rattle.event_script.specs.Scripts.{AllAsked, AllFit, IsWritten, Taken, script_of, written_by}
 
 -- an event that is written down: a request is one for a command, and numbers have 64 bits
 abbrev pub HasLine : WireEvent → Type 0
@@ -21,18 +21,6 @@ HasLine _ = ⊤
 -- the world that a run of these events comes to, from a store that nobody has used on, by these ids
 abbrev pub run_by : Ids → List WireEvent → World
 run_by ids events = fold (λ w e. (wire_step ids w e).1) opening events
-
--- its moment and its number have 64 bits
-abbrev pub Fits : Event → Type 0
-Fits (Event.moment now) = now < 2 ^ 64
-Fits (Event.command now asking) = now < 2 ^ 64
-Fits (Event.expiry now) = now < 2 ^ 64
-Fits (Event.delivery number) = number < 2 ^ 64
-Fits (Event.ending number) = number < 2 ^ 64
-Fits _ = ⊤
-
-abbrev pub AllFit : List Entry → Type 0
-AllFit log = All (λ e. Fits e.event) log
 
 -- the script is the lines of these events, which lead to the world of the list at the moment that was handed in last
 pub record Leads (log : List Entry) : Type 0 where
@@ -58,4 +46,4 @@ pub record LeadsBy (l : Written) (log : List Entry) : Type 0 where
   pub whole : MatchBool l.is_lost ⊤ ((front ≡ log) × (l.clock ≡ (written_by log).clock))
 
 abbrev pub WrittenLeads : Type 0
-WrittenLeads = (ids : Ids) (l : Written) (log : List Entry) → IsWritten l log → IsHistory ids log → AllFit log → LeadsBy l log
+WrittenLeads = (ids : Ids) (l : Written) (t : Taken) (log : List Entry) → IsWritten l t log → IsHistory ids log → LeadsBy l log

@@ -1,5 +1,6 @@
 -- The script of a list of events: what is written down as each is made and its line finds memory, and what stands under a lock.
-use Rattle.std.specs.Prelude.{◌≡◌, ℕ, List, All, [], ◌++◌, Bool, true, false, MatchBool, Option, None, Some, fold, if◌then◌else◌, ◌&&◌, is_some, ⊤}
+use Rattle.std.specs.Prelude.{◌≡◌, ◌<◌, ◌^◌, ℕ, List, All, [], ◌++◌, Bool, true, false, MatchBool, Option, None, Some, fold, if◌then◌else◌, ◌&&◌, is_some, ⊤}
+use Rattle.std.specs.List.{concat}
 use mathlib.Core.List.{IsPrefix}
 use Rattle.kv_model.specs.Follows.{Outcome}
 use Rattle.kv_model.specs.Told.{Expiry}
@@ -103,7 +104,35 @@ pub record IsCut (l : Written) (log : List Entry) : Type 0 where
   pub lines : all_of l ≡ script_of front
   pub asked : AllAsked front
 
--- what stands under a lock: where no line was lost, all that was ever written is the script, and the clock, the moment that
--- was told last and the mark of trimming are those of it; and each command had its request
-abbrev pub IsWritten : Written → List Entry → Type 0
-IsWritten l log = MatchBool l.is_lost (IsCut l log) ((record l { taken = []; text = all_of l } ≡ written_by log) × AllAsked log)
+-- its moment and its number have 64 bits
+abbrev pub Fits : Event → Type 0
+Fits (Event.moment now) = now < 2 ^ 64
+Fits (Event.command now asking) = now < 2 ^ 64
+Fits (Event.expiry now) = now < 2 ^ 64
+Fits (Event.delivery number) = number < 2 ^ 64
+Fits (Event.ending number) = number < 2 ^ 64
+Fits _ = ⊤
+
+abbrev pub AllFit : List Entry → Type 0
+AllFit log = All (λ e. Fits e.event) log
+
+-- up to which event of the list what was written was taken, and whether it was told then that lines are missing
+pub record Taken : Type 0 where
+  pub front : List Entry
+  pub is_over : Bool
+
+-- what was taken is the script up to there; or lines are missing, and all that there were are taken
+abbrev pub IsTaken : Written → Taken → Type 0
+IsTaken l t = MatchBool t.is_over ((l.is_lost ≡ true) × (l.text ≡ [])) (concat l.taken ≡ script_of t.front)
+
+-- where no line was lost, all that was ever written is the script, and the clock, the moment that was told last and the mark
+-- of trimming are those of it; and each command had its request
+abbrev pub IsScript : Written → List Entry → Type 0
+IsScript l log = MatchBool l.is_lost (IsCut l log) ((record l { taken = []; text = all_of l } ≡ written_by log) × AllAsked log)
+
+-- what stands under a lock
+pub record IsWritten (l : Written) (t : Taken) (log : List Entry) : Type 0 where
+  pub script : IsScript l log
+  pub taken : IsTaken l t
+  pub seen : IsPrefix t.front log
+  pub fit : AllFit log

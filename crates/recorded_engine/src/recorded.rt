@@ -8,7 +8,7 @@ ghost use Rattle.json_gateway.specs.Runs.{certified_outcome, delivery_outcome, t
 ghost use Rattle.event_book.specs.Events.{Event};
 ghost use Rattle.engine_lock.specs.Entering.{EntersAlone, Makes, MayTrim, ShowsTo, Submits, SubmitsExpiry};
 
-use engine_lock::{Asked, Client, Engine, EngineName, Submitted};
+use engine_lock::{Asked, Client, Engine, EngineName, Submitted, locked};
 use http_peer::{Gate, Takes};
 use json_gateway::{Certified, Expiry, Message, Refusal, Trim, Trimmed};
 use std::alloc::AllocError;
@@ -28,8 +28,14 @@ pub struct Recorded<'e, L: EngineName, G, R> {
 }
 
 impl<'e, L: EngineName, G, R: Wait> Takes for Recorded<'e, L, G, R> {
+    ghost use Rattle.event_script.specs.Scripts.{Taken};
+    ghost use Rattle.engine_lock.specs.Takings.{TakesLines};
+
+    ghost Gives = { λ r text all. (old : Taken) × (new : Taken) × TakesLines r.engine.now old new text all };
+
     fn take(&self, text: &mut Vec<u8>) -> bool {
-        self.engine.take_lines(self.rt, text)
+        let mut taken = locked(self.rt, self.engine.taken());
+        self.engine.take_lines(self.rt, &mut *taken, text)
     }
 }
 

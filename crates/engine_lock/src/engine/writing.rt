@@ -1,15 +1,16 @@
 //! An engine whose events are written down, under its lock, as the lines of a script.
 ghost use Rattle.std.specs.Prelude.{◌≡◌};
 ghost use Rattle.engine_lock.specs.Entering.{Submits};
-ghost use Rattle.engine_lock.specs.Takings.{Takes};
+ghost use Rattle.engine_lock.specs.Takings.{TakesLines};
 
 use super::{Engine, Submitted, locked};
 use crate::asked::Asked;
 use crate::client::Client;
 use crate::opening::{EngineName, Opening};
+use crate::taken::Taken;
 use json_gateway::Ids;
 use std::alloc::Global;
-use std::sync::Wait;
+use std::sync::{Mutex, Wait};
 
 impl<L: EngineName> Engine<L> {
     /// As [`Engine::new`], an engine whose events are written down, in the order in which they are
@@ -49,15 +50,22 @@ impl<L: EngineName> Engine<L> {
         submitted
     }
 
-    /// Puts the lines that were not taken yet in place of what a list had. Says whether they are all:
-    /// where they are not, an event was made that has no line, or the events are not written down, and
-    /// none will come.
+    /// Up to which event lines were taken: whoever takes them has it locked meanwhile, before the
+    /// engine is. Waits for nobody.
+    pub fn taken(&self) -> &Mutex<Taken<L>> {
+        &self.taken
+    }
+
+    /// Puts the lines that were not taken yet in place of what a list had. Says whether none is
+    /// missing: where some are, an event was made that has no line, or the events are not written
+    /// down, and none will come.
     ///
-    /// They are the last of all that was written so far, which is the script of the list of events, or
-    /// the beginning of it where a line was lost (`Takes`). Constant time under the lock.
-    pub fn take_lines<R: Wait>(&self, rt: &R, text: &mut Vec<u8>) -> bool
-        ensures { Takes self.now text.new.items result }
+    /// The text goes on where the one before ended: with all that was taken before, it is the script
+    /// of the list of all events up to the one that `taken` tells from then on, or, where lines are
+    /// missing, of a beginning of it (`TakesLines`). Constant time under the lock.
+    pub fn take_lines<R: Wait>(&self, rt: &R, taken: &mut Taken<L>, text: &mut Vec<u8>) -> bool
+        ensures { TakesLines self.now taken.old taken.new text.new.items result }
     {
-        locked(rt, &self.state).take_lines(text)
+        locked(rt, &self.state).take_lines(rt, taken, text)
     }
 }

@@ -22,9 +22,9 @@ note-requires-clause-rises g c = rise_certificate (led_to c.self.inside.listing)
 pub invariant_of-self : goal.invariant_of-self
 invariant_of-self g c = (
   locked_more g.L.ListName.ids c.self.inside.core c.self.inside.core c.self.inside.core c.self.inside.listing c.note.new.listing (appended c.self.inside.feed)
-      (appended c.self.inside.feed) c.self.inside.lines c.self.inside.lines (entry c.args.client.now.holder.number c.args.client.now.about (Event.certificate) (certified_outcome c.certified-shown.result)) c.self.invariant.0 (λ w h. h)
+      (appended c.self.inside.feed) c.self.inside.lines c.self.inside.lines c.self.inside.taken (entry c.args.client.now.holder.number c.args.client.now.about (Event.certificate) (certified_outcome c.certified-shown.result)) c.self.invariant.0 (λ w h. h)
       refl (c.certified-shown.ensures.makes g.L.ListName.ids) c.note.ensures.log
-      (λ w. written_certificate c.self.inside.lines c.self.inside.lines c.self.inside.listing c.args.client.now.holder.number c.args.client.now.about (certified_outcome c.certified-shown.result) w refl),
+      (λ w. written_certificate c.self.inside.lines c.self.inside.lines c.self.inside.taken c.self.inside.listing c.args.client.now.holder.number c.args.client.now.about (certified_outcome c.certified-shown.result) w refl),
   c.self.invariant.1,
 )
 

@@ -24,9 +24,9 @@ note-requires-clause-rises g c = rise_delivery (led_to c.self.inside.listing) c.
 pub invariant_of-self : goal.invariant_of-self
 invariant_of-self g c = (
   locked_more g.L.ListName.ids c.self.inside.core c.self.inside.core c.told-message.new.core c.self.inside.listing c.note.new.listing (appended c.self.inside.feed)
-      (appended c.self.inside.feed) c.self.inside.lines c.note_told.new.lines (entry c.args.client.now.holder.number c.args.client.now.about (Event.delivery c.args.number) (delivery_outcome c.told-message.result)) c.self.invariant.0 (λ w h. h)
+      (appended c.self.inside.feed) c.self.inside.lines c.note_told.new.lines c.self.inside.taken (entry c.args.client.now.holder.number c.args.client.now.about (Event.delivery c.args.number) (delivery_outcome c.told-message.result)) c.self.invariant.0 (λ w h. h)
       refl (subst (λ (i : Ids). MakesOn i (Event.delivery c.args.number) (delivery_outcome c.told-message.result) c.self.inside.core c.told-message.new.core (appended c.self.inside.feed) (appended c.self.inside.feed)) c.requires.ids c.told-message.ensures) c.note.ensures.log
-      (λ w. written_delivery c.self.inside.lines c.note_told.new.lines c.self.inside.listing c.args.client.now.holder.number c.args.client.now.about c.args.number c.told-message.result w c.note_told.ensures),
+      (λ w. written_delivery c.self.inside.lines c.note_told.new.lines c.self.inside.taken c.self.inside.listing c.args.client.now.holder.number c.args.client.now.about c.args.number c.told-message.result w (search rules) c.note_told.ensures),
   c.self.invariant.1,
 )
 

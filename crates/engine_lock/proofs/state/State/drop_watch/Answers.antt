@@ -24,9 +24,9 @@ note-requires-clause-rises g c = rise_ending (led_to c.self.inside.listing) c.ar
 pub invariant_of-self : goal.invariant_of-self
 invariant_of-self g c = (
   locked_more g.L.ListName.ids c.self.inside.core c.self.inside.core c.dropped-ended.new.core c.self.inside.listing c.note.new.listing (appended c.self.inside.feed)
-      (appended c.self.inside.feed) c.self.inside.lines c.note_dropped.new.lines (entry c.args.client.now.holder.number c.args.client.now.about (Event.ending c.args.number) (said (WireTold.closed (c.is_ok-stood.result)))) c.self.invariant.0 (λ w h. h)
+      (appended c.self.inside.feed) c.self.inside.lines c.note_dropped.new.lines c.self.inside.taken (entry c.args.client.now.holder.number c.args.client.now.about (Event.ending c.args.number) (said (WireTold.closed (c.is_ok-stood.result)))) c.self.invariant.0 (λ w h. h)
       refl (subst (λ (b : Bool). MakesOn g.L.ListName.ids (Event.ending c.args.number) (said (WireTold.closed b)) c.self.inside.core c.dropped-ended.new.core (appended c.self.inside.feed) (appended c.self.inside.feed)) (sym c.is_ok-stood.ensures.value) (c.dropped-ended.ensures.makes g.L.ListName.ids)) c.note.ensures.log
-      (λ w. written_ending c.self.inside.lines c.note_dropped.new.lines c.self.inside.listing c.args.client.now.holder.number c.args.client.now.about c.args.number c.is_ok-stood.result w c.note_dropped.ensures),
+      (λ w. written_ending c.self.inside.lines c.note_dropped.new.lines c.self.inside.taken c.self.inside.listing c.args.client.now.holder.number c.args.client.now.about c.args.number c.is_ok-stood.result w (search rules) c.note_dropped.ensures),
   c.self.invariant.1,
 )
 

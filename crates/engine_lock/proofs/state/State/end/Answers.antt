@@ -28,10 +28,10 @@ note-requires-clause-rises g c =
 pub invariant_of-self : goal.invariant_of-self
 invariant_of-self g c = (
   locked_more g.L.ListName.ids c.self.inside.core c.moved.new.core c.expired-step.new.core c.self.inside.listing c.note.new.listing (appended c.self.inside.feed)
-      (appended c.expired-step.new.feed) c.self.inside.lines c.note_expired.new.lines (entry c.args.client.now.holder.number c.args.client.now.about (Event.expiry c.args.now) (step_outcome c.expired-step.result)) c.self.invariant.0 c.moved.ensures.stands
+      (appended c.expired-step.new.feed) c.self.inside.lines c.note_expired.new.lines c.self.inside.taken (entry c.args.client.now.holder.number c.args.client.now.about (Event.expiry c.args.now) (step_outcome c.expired-step.result)) c.self.invariant.0 c.moved.ensures.stands
       c.moved.ensures.tables (c.expired-step.ensures.on g.L.ListName.ids c.args.now) c.note.ensures.log
-      (λ w. written_expiry c.self.inside.lines c.note_expired.new.lines c.self.inside.listing c.args.client.now.holder.number c.args.client.now.about c.args.now
-      c.expired-step.result w (subst (λ (l : Written). NotesExpiry c.expired-step.result l c.note_expired.new.lines) c.hand_in.ensures c.note_expired.ensures)),
+      (λ w. written_expiry c.self.inside.lines c.note_expired.new.lines c.self.inside.taken c.self.inside.listing c.args.client.now.holder.number c.args.client.now.about c.args.now
+      c.expired-step.result w (search rules) (subst (λ (l : Written). NotesExpiry c.expired-step.result l c.note_expired.new.lines) c.hand_in.ensures c.note_expired.ensures)),
   c.expired-step.ensures.book (at_moment (led_to c.self.inside.listing) c.args.now) (c.moved.ensures.stands (led_to c.self.inside.listing) c.self.invariant.0.fits.stands) ∙ c.self.invariant.1,
 )
 

@@ -34,11 +34,11 @@ note-requires-clause-rises g c =
 pub invariant_of-self : goal.invariant_of-self
 invariant_of-self g c = (
   locked_more g.L.ListName.ids c.self.inside.core c.moved.new.core c.performed-outcome.new.core c.self.inside.listing c.note.new.listing (appended c.self.inside.feed)
-      (appended c.performed-outcome.new.feed) c.self.inside.lines c.note_done.new.lines (entry c.args.client.now.holder.number c.args.client.now.about (Event.command c.args.now c.args.asked.now) (command_view c.performed-outcome.result)) c.self.invariant.0 c.moved.ensures.stands
+      (appended c.performed-outcome.new.feed) c.self.inside.lines c.note_done.new.lines c.self.inside.taken (entry c.args.client.now.holder.number c.args.client.now.about (Event.command c.args.now c.args.asked.now) (command_view c.performed-outcome.result)) c.self.invariant.0 c.moved.ensures.stands
       c.moved.ensures.tables (subst (λ (i : Ids). MakesOn i (Event.command c.args.now c.args.asked.now) (command_view c.performed-outcome.result) c.moved.new.core c.performed-outcome.new.core (appended c.self.inside.feed) (appended c.performed-outcome.new.feed))
       c.requires.ids (c.performed-outcome.ensures.makes c.args.now)) c.note.ensures.log
-      (λ w. written_command c.self.inside.lines c.note_done.new.lines c.self.inside.listing c.args.client.now.holder.number c.args.client.now.about c.args.now
-      c.args.asked.now c.performed-outcome.result w
+      (λ w. written_command c.self.inside.lines c.note_done.new.lines c.self.inside.taken c.self.inside.listing c.args.client.now.holder.number c.args.client.now.about c.args.now
+      c.args.asked.now c.performed-outcome.result w (search rules)
       (subst (λ (l : Written). NotesCommand c.performed-outcome.result.settled c.args.asked.now.request l c.note_done.new.lines) c.hand_in.ensures c.note_done.ensures)),
   c.performed-outcome.ensures.book (at_moment (led_to c.self.inside.listing) c.args.now) (c.moved.ensures.stands (led_to c.self.inside.listing) c.self.invariant.0.fits.stands) ∙ c.self.invariant.1,
 )

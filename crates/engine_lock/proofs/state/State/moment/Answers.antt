@@ -22,9 +22,9 @@ note-requires-clause-rises g c = rise_moment (led_to c.self.inside.listing) c.ar
 pub invariant_of-self : goal.invariant_of-self
 invariant_of-self g c = (
   locked_more g.L.ListName.ids c.self.inside.core c.self.inside.core c.moved-clock.new.core c.self.inside.listing c.note.new.listing (appended c.self.inside.feed)
-      (appended c.self.inside.feed) c.self.inside.lines c.hand_in.new.self (entry c.args.client.now.holder.number c.args.client.now.about (Event.moment c.args.now) (said (WireTold.clock c.moved-clock.result))) c.self.invariant.0 (λ w h. h)
+      (appended c.self.inside.feed) c.self.inside.lines c.hand_in.new.self c.self.inside.taken (entry c.args.client.now.holder.number c.args.client.now.about (Event.moment c.args.now) (said (WireTold.clock c.moved-clock.result))) c.self.invariant.0 (λ w h. h)
       refl (c.moved-clock.ensures.makes g.L.ListName.ids) c.note.ensures.log
-      (λ w. written_moment c.self.inside.lines c.hand_in.new.self c.self.inside.listing c.args.client.now.holder.number c.args.client.now.about c.args.now (said (WireTold.clock c.moved-clock.result)) w c.hand_in.ensures),
+      (λ w. written_moment c.self.inside.lines c.hand_in.new.self c.self.inside.taken c.self.inside.listing c.args.client.now.holder.number c.args.client.now.about c.args.now (said (WireTold.clock c.moved-clock.result)) w (search rules) c.hand_in.ensures),
   c.self.invariant.1,
 )
 

@@ -12,9 +12,9 @@ use Rattle.engine_lock.proofs.state.State.trim.Goals as goal
 pub invariant_of-self-2 : goal.invariant_of-self-2
 invariant_of-self-2 g c = (
   locked_more g.L.ListName.ids c.self.inside.core c.self.inside.core c.trimmed.new.core c.self.inside.listing c.note.new.listing (appended c.self.inside.feed)
-      (appended c.trimmed.new.feed) c.self.inside.lines c.note_trimmed.new.lines (entry c.args.client.now.holder.number c.args.client.now.about Event.trimming (said (trim_told (told_of c.in-Ok.step) None)))
+      (appended c.trimmed.new.feed) c.self.inside.lines c.note_trimmed.new.lines c.self.inside.taken (entry c.args.client.now.holder.number c.args.client.now.about Event.trimming (said (trim_told (told_of c.in-Ok.step) None)))
       c.self.invariant.0 (λ w h. h) refl (c.in-Ok.ensures.makes g.L.ListName.ids) c.note.ensures.log
-      (λ w. written_trimming c.self.inside.lines c.note_trimmed.new.lines c.self.inside.listing c.args.client.now.holder.number c.args.client.now.about
+      (λ w. written_trimming c.self.inside.lines c.note_trimmed.new.lines c.self.inside.taken c.self.inside.listing c.args.client.now.holder.number c.args.client.now.about
       (told_of c.in-Ok.step) None w c.note_trimmed.ensures),
   search rules,
 )
