@@ -76,6 +76,15 @@ impl<L: ListName> Listing<L> {
         let _ = &self.front;
     }
 
+    /// The front that has all of the list. Takes no memory, and copies a number.
+    pub fn front(&self) -> Front
+        ensures list { result.list ≡ self.now }
+        ensures book { result.book ≡ L.book }
+        ensures history { IsHistory L.ids result.list }
+    {
+        self.front.again()
+    }
+
     /// Enters an event that this holder made, with its outcome: it is the last of the list, and the
     /// holder has seen the list up to it. The outcome has to be the model's in the world that the
     /// list leads to. Takes no memory, constant time.
