@@ -6,36 +6,43 @@ use Rattle.kv_model.specs.Feed.{Published}
 use Rattle.kv_model.specs.History as history
 use Rattle.kv_model.specs.Questions.{IsGood}
 use Rattle.kv_model.specs.World.{World, opening}
-use Rattle.store_laws.specs.Snapshots.{Stored, absorb, blank, store_of, untrimmed_of}
+use Rattle.store_laws.specs.Snapshots.{Stored, absorb, blank, store_of}
 use Rattle.store_laws.specs.Stands.{StandsFor}
 use Rattle.request_core.specs.State.{CoreState, tables_of}
-use Rattle.feed_book.specs.Feeds.{IsFeed}
-use Rattle.snapshot_feed.specs.States.{FeedState, appended}
+use Rattle.logbook.specs.Pages.{Book}
+use Rattle.snapshot_feed.specs.Showing.{IsShown}
+use Rattle.snapshot_feed.specs.States.{FeedState, appended, unused}
 use Rattle.event_book.specs.Events.{Answers, Entry, after, clocked, led_to}
 use Rattle.event_book.specs.Publishing.{change_by, published_by}
-use Rattle.event_book.proofs.Publishing.{published_more, published_says}
+use Rattle.event_book.proofs.Publishing.{published_more}
 use Rattle.engine_lock.specs.Fits.{Fits, MakesOn}
 
 -- a new core, and a feed to which nothing was appended
-pub fits_first : (s : CoreState) (log : List Entry) (f : FeedState) → StandsFor s.store opening → tables_of s ≡ blank → log ≡ []
-    → f.published ≡ [] → f.pending ≡ [] → Fits s log (appended f)
-fits_first s log f h e none published pending = record {
+pub fits_first : (s : CoreState) (log : List Entry) (f : FeedState) (b : Book) → StandsFor s.store opening → tables_of s ≡ blank → log ≡ []
+    → f ≡ unused b → Fits s log (appended f)
+fits_first s log f b h e none new = record {
   stands = subst (λ (l : List Entry). StandsFor s.store (led_to l)) (sym none) h;
   told = nothing ∙ sym (ap published_by none);
   stored = ap store_of nothing ∙ sym e;
 }
   where
     nothing : appended f ≡ []
-    nothing = ap (λ l. l ++ f.pending) published ∙ pending
+    nothing = ap appended new
 
--- the whole premise of a publication
-pub fits_feed : (s : CoreState) (log : List Entry) (fed : List Published) → Fits s log fed → IsFeed fed
-fits_feed s log fed f = record {
-  world = led_to log;
+-- readers may be shown the list
+pub fits_shown : (s : CoreState) (log : List Entry) (fed : List Published) → Fits s log fed → IsShown log
+fits_shown s log fed f = record {
   sound = f.stands.sound;
-  said = ap untrimmed_of f.told ∙ published_says log;
-  good = subst (λ (t : Stored). IsGood t.versions (led_to log).mutations (led_to log).compacted) (sym f.stored) f.stands.good;
+  good = subst (λ (t : Stored). IsGood t.versions (led_to log).mutations (led_to log).compacted)
+      (sym (ap store_of (sym f.told) ∙ f.stored)) f.stands.good;
 }
+
+-- and so a front that has all of it
+pub front_shown : (s : CoreState) (log front : List Entry) (fed : List Published) → Fits s log fed → front ≡ log → IsShown front
+front_shown s log front fed f is = subst IsShown (sym is) (fits_shown s log fed f)
+
+pub front_tells : (s : CoreState) (log front : List Entry) (fed : List Published) → Fits s log fed → front ≡ log → published_by front ≡ fed
+front_tells s log front fed f is = ap published_by is ∙ sym f.told
 
 -- the world behind one event more
 led_more : (log : List Entry) (x : Entry) → led_to (log ++ x ∷ []) ≡ after (led_to log) x

@@ -1,5 +1,5 @@
 -- What the calls of an engine say: each enters one event in the list of all events, for the client that makes it.
-use Rattle.std.specs.Prelude.{◌≡◌, ◌+◌, ℕ, List, ◌++◌, Bool, true, false, None, Result, Ok, Err, MatchBool, map, sum, length}
+use Rattle.std.specs.Prelude.{◌≡◌, ◌+◌, ℕ, List, All, ◌++◌, Bool, true, false, None, Result, Ok, Err, MatchBool, map, sum, length}
 use mathlib.Core.List.{IsPrefix}
 use Rattle.kv_model.specs.declared.ids.Ids.{Ids}
 use Rattle.kv_model.specs.declared.refusal.Refusal.{Refusal}
@@ -47,12 +47,13 @@ before ids c e o later x = clocked (led_to (c.holder.front ++ x.adds.between)) e
 -- where this says so, the client was told for its reads of all that the events publish which it has seen, and else of nothing
 abbrev pub IsTold : Bool → Caller → Caller → Type 0
 IsTold published c later = MatchBool published
-    ((later.reader.known ≡ published_by later.holder.front) × IsPrefix c.reader.known later.reader.known)
+    ((published_by later.reader.known ≡ published_by later.holder.front) × IsPrefix c.reader.known later.reader.known)
     (later.reader.known ≡ c.reader.known)
 
--- where this says so, of all of these operations, which begin with all that it knew of; else of nothing
+-- where this says so, of events that publish all of these operations, and begin with all that it knew of; else of nothing
 abbrev pub Learns : Bool → List Published → Caller → Caller → Type 0
-Learns all fed c later = MatchBool all ((later.reader.known ≡ fed) × IsPrefix c.reader.known fed) (later.reader.known ≡ c.reader.known)
+Learns all fed c later = MatchBool all ((published_by later.reader.known ≡ fed) × IsPrefix c.reader.known later.reader.known)
+    (later.reader.known ≡ c.reader.known)
 
 -- one that is in no reading is in none afterwards, and its reader is of the same list
 abbrev pub StaysOut : Caller → Caller → Type 0
@@ -141,11 +142,13 @@ pub record Makes (ids : Ids) (c : Caller) (e : Event) (event : WireEvent) (o : W
 -- ---- the end
 
 -- The list of all events is a history; the core stands for the world that it leads to; each event is of one of the clients,
--- each of which has seen all of its own, as many as they made; and the revision is 1 plus all changes that they made.
+-- each of which has seen all of its own, as many as they made; all that a client knows of for its reads begins the list; and
+-- the revision is 1 plus all changes that they made.
 pub record Closes (ids : Ids) (core : CoreState) (clients : List Caller) : Type 0 where
   pub log : List Entry
   pub history : IsHistory ids log
   pub stands : StandsFor core.store (led_to log)
   pub all : AreAll log (map (λ c. c.holder) clients)
   pub made : length log ≡ made_by_all (map (λ c. c.holder) clients)
+  pub known : All (λ (c : Caller). IsPrefix c.reader.known log) clients
   pub raised : core.store.revision ≡ 1 + sum (map made_by clients)

@@ -1,21 +1,12 @@
--- What clauses see of an engine: what it is opened with, its clients, and what stands under its lock.
+-- What clauses see of an engine: its clients, and what stands under its lock.
 use Rattle.std.specs.Prelude.{◌≡◌, ℕ, List, [], false}
-use Rattle.logbook.specs.Pages.{Book}
-use Rattle.kv_model.specs.Feed.{Published}
 use Rattle.snapshot_feed.specs.Seats.{Reads}
+use Rattle.snapshot_feed.specs.States.{FeedState}
 use Rattle.request_core.specs.State.{CoreState}
 use Rattle.recording.specs.Lines.{Written}
 use Rattle.event_book.specs.Callers as list
 use Rattle.event_book.specs.Events.{Entry}
 use Rattle.event_script.specs.Scripts.{Taken}
-
--- of what an engine is opened with: which ledger it is, into how many parts its shares are cut, which list of events it
--- enters, and which list of publications readers are told of
-pub record Opened : Type 0 where
-  pub name : ℕ
-  pub parts : ℕ
-  pub book : Book
-  pub feed : Book
 
 -- of a client: its number in the list of events, with what it has seen of that; what its next events are about; and its
 -- reader beside the writers
@@ -24,12 +15,13 @@ pub record Caller : Type 0 where
   pub about : ℕ
   pub reader : Reads
 
--- of what stands under the lock: the core, the list of all events, all that readers are told of, with what they see from
--- the next publication on, what was written down, and up to which event that was taken
+-- of what stands under the lock: the core, the list of all events, the feed of what readers are told of, and how many trimming
+-- steps were made since they were last told of some; what was written down, and up to which event that was taken
 pub record LockState : Type 0 where
   pub core : CoreState
   pub log : List Entry
-  pub fed : List Published
+  pub feed : FeedState
+  pub steps : ℕ
   pub lines : Written
   pub taken : Taken
 
@@ -45,6 +37,6 @@ left c = record c { reader = record c.reader { inside = false } }
 abbrev pub naming : Caller → ℕ → Caller
 naming c about = record c { about = about }
 
--- one that has seen so much of the list, has left its reading, and knows of so much that was published
-abbrev pub knowing : Caller → list.Caller → List Published → Caller
+-- one that has seen so much of the list, has left its reading, and knows of this front for its reads
+abbrev pub knowing : Caller → list.Caller → List Entry → Caller
 knowing c holder known = record c { holder = holder; reader = record c.reader { known = known; inside = false } }

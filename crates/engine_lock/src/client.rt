@@ -2,12 +2,13 @@
 ghost use Rattle.std.specs.Prelude.{◌≡◌, ◌++◌, ◌∷◌, [], cond, true, MatchBool, OnOk, OnErr, IfOk, IfErr};
 ghost use mathlib.Core.List.{IsPrefix};
 ghost use Rattle.kv_model.specs.declared.refusal.Refusal.TheVariants.{NoPlace};
-ghost use Rattle.store_laws.specs.Snapshots.{untrimmed_of};
-ghost use Rattle.feed_book.specs.Feeds.{IsFeed};
+ghost use Rattle.store_laws.specs.Changes.{untrimmed};
 ghost use Rattle.snapshot_feed.specs.Answers.{AnswersOf};
-ghost use Rattle.snapshot_feed.specs.States.{appended};
+ghost use Rattle.snapshot_feed.specs.Showing.{IsShown};
+ghost use Rattle.snapshot_feed.specs.States.{appended, tried};
 ghost use Rattle.event_book.specs.Callers.{Adds, Shows};
 ghost use Rattle.event_book.specs.Events.{Answers, IsAskedFor, clocked, entry, led_to};
+ghost use Rattle.event_book.specs.Publishing.{published_by};
 ghost use Rattle.event_book.specs.Raising.{rise_of};
 ghost use Rattle.engine_lock.specs.Entering.{Learns, StaysOut, made_by};
 ghost use Rattle.engine_lock.specs.Locked.{IsNew, left, naming};
@@ -15,7 +16,7 @@ ghost use Rattle.engine_lock.specs.Makings.{event_made, outcome_made};
 
 use crate::making::{Made, Making, Makings};
 use crate::opening::EngineName;
-use event_book::{Holder, Listing};
+use event_book::{Front, Holder, Listing};
 use json_gateway::Refusal;
 use kv_model::call::RangeQuery;
 use range_view::RangeReply;
@@ -53,7 +54,7 @@ impl<L: EngineName> Model for Client<L> {
 
     ghost view = { λ c. record { holder = c.holder; about = c.about; reader = c.reader.reads } };
 
-    ghost invariant = { λ c. (c.made ≡ raises c.holder) × (c.reader.reads.book ≡ L.feed) };
+    ghost invariant = { λ c. (c.made ≡ raises c.holder) × (c.reader.reads.book ≡ L.ListName.book) };
 }
 
 impl<L: EngineName> Client<L> {
@@ -64,7 +65,7 @@ impl<L: EngineName> Client<L> {
     /// A client that has seen nothing, and reads by this reader.
     pub(crate) fn of(holder: Holder<L>, reader: SnapReader) -> Self
         requires front { holder.front ≡ [] }
-        requires feed { reader.reads.book ≡ L.feed }
+        requires book { reader.reads.book ≡ L.ListName.book }
         ensures { result ≡ record { holder = holder; about = 0; reader = reader.reads } }
     {
         Client {
@@ -142,8 +143,8 @@ impl<L: EngineName> Client<L> {
         ensures ok { OnOk result (self.new.reader.inside ≡ true) }
         ensures begins { IsPrefix self.old.reader.known self.new.reader.known }
         ensures book { self.new.reader.book ≡ self.old.reader.book }
-        ensures engine { self.new.reader.book ≡ L.feed }
-        ensures feed { OnOk result (IsFeed self.new.reader.known) }
+        ensures engine { self.new.reader.book ≡ L.ListName.book }
+        ensures shown { OnOk result (IsShown self.new.reader.known) }
         ensures others { self.new ≡ record self.old { reader = self.new.reader } }
         ensures err { OnErr result (self.new ≡ left self.old) }
         ensures refusal { IfErr result (λ e. e ≡ NoPlace) }
@@ -158,29 +159,29 @@ impl<L: EngineName> Client<L> {
         self.reader.leave();
     }
 
-    /// The answer to a Range, lent from what the reading shows: that of the whole history which
-    /// the operations say that the client knows of, of which nothing is trimmed, with its
-    /// compaction and its revision.
+    /// The answer to a Range, lent from what the reading shows: the model's in the world that the
+    /// front leads to at which the client reads, of which nothing is trimmed, with its compaction and
+    /// its revision.
     ///
     /// The refusals are those of the model, and `Memory` where the list of what is found, or a
     /// sort, found none. The cost is that of `range_view`'s `View::range`. Waits for nobody.
     pub fn range(&self, alloc: Global, query: &RangeQuery) -> Result<RangeReply<'_>, Refusal>
         requires { self.now.reader.inside ≡ true }
-        ensures { AnswersOf (untrimmed_of self.now.reader.known) query.now result }
+        ensures { AnswersOf (untrimmed (led_to self.now.reader.known)) query.now result }
     {
         self.reader.range(alloc, query)
     }
 
     /// [`Client::enter`], and lends the client to be read by [`Client::range`]. Once what was lent is
     /// gone, the client is in the reading that was read, and knows of the front of this engine's
-    /// publications that was shown there. The refusal is that of [`Client::enter`].
+    /// events that was shown there. The refusal is that of [`Client::enter`].
     pub fn read(&mut self) -> Result<&Client<L>, Refusal>
-        ensures* after { sem 𝓛 (LendsReading L.row (record { feed = L.feed })
+        ensures* after { sem 𝓛 (LendsReading L.row (record { recorded = L.recorded })
             (record { book = L.ListName.book; ids = L.ListName.ids })
             (record { name = L.Ledger.name; parts = L.Ledger.parts }) self.entry result) }
         ensures enters { IfOk result (λ c. Enters self.old c.now) }
-        ensures engine { IfOk result (λ c. c.now.reader.book ≡ L.feed) }
-        ensures feed { IfOk result (λ c. IsFeed c.now.reader.known) }
+        ensures engine { IfOk result (λ c. c.now.reader.book ≡ L.ListName.book) }
+        ensures shown { IfOk result (λ c. IsShown c.now.reader.known) }
         ensures refusal { IfErr result (λ e. e ≡ NoPlace) }
     {
         match self.enter() {
@@ -189,16 +190,17 @@ impl<L: EngineName> Client<L> {
         }
     }
 
-    /// [`Client::read`] and [`Client::range`]: the answer of what the client knows of once it has
-    /// entered, which begins with all that it has read and was told of. The client is borrowed while
-    /// the reply lives, and the reading lasts until it is left; what the client knows of afterwards
-    /// is known where the two are called apart. The refusals are those of the two.
+    /// [`Client::read`] and [`Client::range`]: the model's answer in the world that the front leads to
+    /// which the client has entered; it begins with all that the client has read and was told of. The
+    /// client is borrowed while the reply lives, and the reading lasts until it is left; what the
+    /// client knows of afterwards is known where the two are called apart. The refusals are those of
+    /// the two.
     pub fn range_serializable(
         &mut self,
         alloc: Global,
         query: &RangeQuery,
     ) -> Result<RangeReply<'_>, Refusal>
-        ensures { ReadsOrNot L.feed self.old query.now result }
+        ensures { ReadsOrNot L.ListName.book self.old query.now result }
     {
         match self.read() {
             Ok(client) => client.range(alloc, query),
@@ -206,17 +208,21 @@ impl<L: EngineName> Client<L> {
         }
     }
 
-    /// Makes all that was appended visible to readers, and takes note of it; says whether it did.
-    /// The client has to have left its reading, since the publication waits for readings.
-    pub(crate) fn publish<R: Wait>(&mut self, rt: &R, feed: &mut Feed) -> bool
-        requires is_feed { IsFeed (appended feed.old) }
-        requires book { feed.old.book ≡ L.feed }
+    /// Makes all that was appended visible to readers, at this front of the list, and takes note of it;
+    /// says whether it did. The client has to have left its reading, since the publication waits for
+    /// readings.
+    pub(crate) fn publish<R: Wait>(&mut self, rt: &R, feed: &mut Feed, front: &Front) -> bool
+        requires shown { IsShown front.now.list }
+        requires all { published_by front.now.list ≡ appended feed.old }
+        requires front { front.now.book ≡ feed.old.book }
+        requires book { feed.old.book ≡ L.ListName.book }
         ensures told { Learns result (appended feed.old) self.old self.new }
         ensures others { self.new ≡ record self.old { reader = self.new.reader } }
         ensures out { StaysOut self.old self.new }
         ensures feed { (appended feed.new ≡ appended feed.old) × (feed.new.book ≡ feed.old.book) }
+        ensures tried { feed.new.attempts ≡ (tried feed.old).attempts }
     {
-        if !published(rt, feed) {
+        if !published(rt, feed, front) {
             return false;
         }
         self.learn(feed)
@@ -224,7 +230,7 @@ impl<L: EngineName> Client<L> {
 
     /// Takes note of all that was appended, where readers see all of it; says whether it did.
     pub(crate) fn learn(&mut self, feed: &Feed) -> bool
-        requires { feed.now.book ≡ L.feed }
+        requires { feed.now.book ≡ L.ListName.book }
         ensures told { Learns result (appended feed.now) self.old self.new }
         ensures others { self.new ≡ record self.old { reader = self.new.reader } }
         ensures out { StaysOut self.old self.new }
@@ -236,12 +242,14 @@ impl<L: EngineName> Client<L> {
     }
 }
 
-/// Makes all that was appended visible to readers; says whether it did.
-pub(crate) fn published<R: Wait>(rt: &R, feed: &mut Feed) -> bool
-    requires { IsFeed (appended feed.old) }
+/// Makes all that was appended visible to readers, at this front of the list; says whether it did.
+pub(crate) fn published<R: Wait>(rt: &R, feed: &mut Feed, front: &Front) -> bool
+    requires shown { IsShown front.now.list }
+    requires all { published_by front.now.list ≡ appended feed.old }
+    requires book { front.now.book ≡ feed.old.book }
     ensures same { (appended feed.new ≡ appended feed.old) × (feed.new.book ≡ feed.old.book) }
+    ensures tried { feed.new.attempts ≡ (tried feed.old).attempts }
 {
-    feed.commit();
-    let done = feed.publish(rt);
+    let done = feed.publish(rt, front);
     done.is_ok()
 }

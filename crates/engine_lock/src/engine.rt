@@ -79,13 +79,12 @@ impl<L: EngineName> Engine<L> {
     /// all the memory that it takes. Its events are not written down ([`Engine::recorded`]).
     ///
     /// `L` is the name that the opening has, with the ids: where the function that is generic in it is
-    /// called with `Brand`, the pick of its ghost members is the opening's `name`, `parts`, `book` and
-    /// `feed`, and the ids.
+    /// called with `Brand`, the pick of its ghost members is the opening's `name`, `parts` and `book`, the
+    /// ids, and that its events are not written down.
     pub fn new(alloc: Global, opening: Opening, ids: Ids) -> Self
         requires name { opening.name ≡ L.Ledger.name }
         requires parts { opening.parts ≡ L.Ledger.parts }
         requires book { opening.book ≡ L.ListName.book }
-        requires feed { opening.feed ≡ L.feed }
         requires ids { ids ≡ L.ListName.ids }
         ensures { result ≡ ids }
     {
@@ -97,7 +96,6 @@ impl<L: EngineName> Engine<L> {
         requires name { opening.name ≡ L.Ledger.name }
         requires parts { opening.parts ≡ L.Ledger.parts }
         requires book { opening.book ≡ L.ListName.book }
-        requires feed { opening.feed ≡ L.feed }
         requires ids { ids ≡ L.ListName.ids }
         ensures { result ≡ ids }
     {

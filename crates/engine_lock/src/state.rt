@@ -9,7 +9,7 @@ ghost use Rattle.kv_model.specs.declared.refusal.Refusal.TheVariants.{Memory, No
 ghost use Rattle.store_laws.specs.Snapshots.{blank as first_tables};
 ghost use Rattle.store_laws.specs.Stands.{StandsFor};
 ghost use Rattle.request_core.specs.State.{tables_of};
-ghost use Rattle.snapshot_feed.specs.States.{appended};
+ghost use Rattle.snapshot_feed.specs.States.{appended, tried};
 ghost use Rattle.json_gateway.specs.Runs.{command_view, delivery_outcome};
 ghost use Rattle.recording.specs.Lines.{blank};
 ghost use Rattle.event_book.specs.Events.{Event, led_to};
@@ -71,13 +71,14 @@ impl<L: EngineName> Model for State<L> {
     ghost view = { λ s. record {
       core = s.core;
       log = s.listing;
-      fed = appended s.feed;
+      feed = s.feed;
+      steps = s.steps;
       lines = s.lines;
       taken = s.taken;
     } };
 
     ghost invariant = { λ s. IsLocked s.core s.listing (appended s.feed) s.lines s.taken
-        × (s.feed.book ≡ L.feed) };
+        × (s.feed.book ≡ L.ListName.book) };
 }
 
 impl<L: EngineName> State<L> {
@@ -87,7 +88,6 @@ impl<L: EngineName> State<L> {
         requires name { opening.name ≡ L.Ledger.name }
         requires parts { opening.parts ≡ L.Ledger.parts }
         requires book { opening.book ≡ L.ListName.book }
-        requires feed { opening.feed ≡ L.feed }
         ensures log { result.0.log ≡ [] }
         ensures lines { result.0.lines ≡ blank (not is_recorded) }
         ensures taken { result.0.taken ≡ untaken }
@@ -109,7 +109,7 @@ impl<L: EngineName> State<L> {
 
     /// A reader beside the lock. `NoPlace` comes where the feed has no place for one.
     pub(crate) fn reader(&mut self) -> Result<SnapReader, Refusal>
-        ensures book { IfOk result (λ r. r.reads.book ≡ L.feed) }
+        ensures book { IfOk result (λ r. r.reads.book ≡ L.ListName.book) }
         ensures full { IfErr result (λ e. e ≡ NoPlace) }
         ensures same { self.new ≡ self.old }
     {
@@ -186,10 +186,14 @@ impl<L: EngineName> State<L> {
         ensures told { IsTold result client.old client.new }
         ensures others { client.new ≡ record client.old { reader = client.new.reader } }
         ensures out { StaysOut client.old client.new }
-        ensures same { self.new ≡ self.old }
+        ensures tries { MatchBool has_appended
+            (self.new.feed.attempts ≡ (tried self.old.feed).attempts)
+            (self.new.feed ≡ self.old.feed) }
+        ensures appended { appended self.new.feed ≡ appended self.old.feed }
+        ensures same { self.new ≡ record self.old { feed = self.new.feed } }
     {
         if has_appended {
-            client.publish(rt, &mut self.feed)
+            client.publish(rt, &mut self.feed, &self.listing.front())
         } else {
             client.learn(&self.feed)
         }

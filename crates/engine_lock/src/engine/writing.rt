@@ -25,7 +25,6 @@ impl<L: EngineName> Engine<L> {
         requires name { opening.name ≡ L.Ledger.name }
         requires parts { opening.parts ≡ L.Ledger.parts }
         requires book { opening.book ≡ L.ListName.book }
-        requires feed { opening.feed ≡ L.feed }
         requires ids { ids ≡ L.ListName.ids }
         ensures { result ≡ ids }
     {

@@ -1,6 +1,7 @@
 //! Trimming steps, of which readers are told.
-ghost use Rattle.std.specs.Prelude.{◌≡◌, false, IfErr};
+ghost use Rattle.std.specs.Prelude.{◌≡◌, ◌+◌, ◌||◌, not, nat_lt, false, IfErr, MatchBool};
 ghost use Rattle.kv_model.specs.declared.refusal.Refusal.TheVariants.{Memory};
+ghost use Rattle.snapshot_feed.specs.States.{appended, tried};
 ghost use Rattle.engine_lock.specs.Entering.{MayTrim};
 
 use super::State;
@@ -39,13 +40,20 @@ impl<L: EngineName> State<L> {
     /// Tells readers of the trimming steps, where trimming is done or many were made. Where that
     /// finds no memory the next publication tells of them.
     pub(super) fn show<R: Wait>(&mut self, rt: &R, is_done: bool)
-        ensures { self.new ≡ self.old }
+        ensures tries { MatchBool (is_done || not (nat_lt self.old.steps 100))
+            (self.new.feed.attempts ≡ (tried self.old.feed).attempts)
+            (self.new.steps ≡ self.old.steps + 1) }
+        ensures appended { appended self.new.feed ≡ appended self.old.feed }
+        ensures same { self.new ≡ record self.old {
+          feed = self.new.feed;
+          steps = self.new.steps;
+        } }
     {
         if !is_done && self.steps < MOST_STEPS {
             self.steps += 1;
             return;
         }
         self.steps = 0;
-        published(rt, &mut self.feed);
+        published(rt, &mut self.feed, &self.listing.front());
     }
 }

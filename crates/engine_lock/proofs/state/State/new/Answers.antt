@@ -7,8 +7,8 @@ use Rattle.engine_lock.proofs.state.State.new.Goals as goal
 pub invariant_of-state : goal.invariant_of-state
 invariant_of-state g c = (
   record {
-    fits = fits_first c.first_core.result c.new-listing.result.0 c.opening.inside.feed c.first_core.ensures.core c.first_core.ensures.tables
-        c.new-listing.ensures.log c.opening.invariant.1 c.opening.invariant.2;
+    fits = fits_first c.first_core.result c.new-listing.result.0 c.opening.inside.feed c.opening.inside.list.book c.first_core.ensures.core c.first_core.ensures.tables
+        c.new-listing.ensures.log c.opening.invariant.1;
     written = subst (IsWritten c.first_lines.result c.nothing-taken.result) (sym c.new-listing.ensures.log)
         (first (not c.args.is_recorded) c.first_lines.result c.nothing-taken.result c.first_lines.ensures c.nothing-taken.ensures);
   },
