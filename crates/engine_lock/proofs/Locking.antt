@@ -1,5 +1,5 @@
 -- The lock goes on keeping what it keeps as an event is entered.
-use Rattle.std.proofs.Common.{◌≡◌, List, [], ◌∷◌, ◌++◌, sym, subst}
+use Rattle.std.proofs.Common.{◌≡◌, Bool, true, cond, not, List, [], ◌∷◌, ◌++◌, ap, sym, subst, ◌∙◌}
 use Rattle.kv_model.specs.declared.ids.Ids.{Ids}
 use Rattle.kv_model.specs.Feed.{Published}
 use Rattle.kv_model.specs.World.{World}
@@ -8,6 +8,7 @@ use Rattle.request_core.specs.State.{CoreState, tables_of}
 use Rattle.recording.specs.Lines.{Written}
 use Rattle.event_book.specs.Events.{Entry, clocked}
 use Rattle.event_script.specs.Scripts.{IsWritten, Taken}
+use Rattle.event_script.specs.Taking.{taken_next}
 use Rattle.engine_lock.specs.Fits.{IsLocked, MakesOn}
 use Rattle.engine_lock.proofs.Fitting.{fits_entered}
 
@@ -20,3 +21,8 @@ locked_more ids old mid new log later fed more lines noted t x locked moved kept
       fits = fits_entered ids old mid new log fed more x locked.fits moved kept made;
       written = written locked.written;
     })
+
+-- where no line comes any more, none does behind a taking
+pub over_next : (t u : Taken) (all : Bool) (log : List Entry) → u ≡ taken_next t all log → t.is_over ≡ true → u.is_over ≡ true
+over_next t u all log is over =
+    ap (λ (x : Taken). x.is_over) is ∙ ap (λ b. (cond b t (record { front = log; is_over = not all })).is_over) over ∙ over

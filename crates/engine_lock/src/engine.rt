@@ -1,5 +1,5 @@
 //! The engine: one event of the core for each holding of its lock.
-ghost use Rattle.std.specs.Prelude.{◌≡◌, ◌<◌, is_ok, length, None, IfOk, IfErr};
+ghost use Rattle.std.specs.Prelude.{◌≡◌, ◌<◌, is_ok, false, length, None, IfOk, IfErr};
 ghost use Rattle.kv_model.specs.declared.refusal.Refusal.TheVariants.{Memory, NoPlace, NoWatch};
 ghost use Rattle.kv_model.specs.Follows.Outcome.{said};
 ghost use Rattle.kv_model.specs.Wire.{WireTold};
@@ -44,6 +44,8 @@ const TURNS: u64 = 200;
 pub struct Engine<L: EngineName> {
     alloc: Global,
     ids: Ids,
+    /// Whether its events are written down.
+    is_recorded: bool,
     roster: Kept<L>,
     state: Mutex<State<L>>,
     /// Up to which event lines were taken.
@@ -60,7 +62,7 @@ impl<L: EngineName> Model for Engine<L> {
 
     ghost view = { λ e. e.ids };
 
-    ghost invariant = { λ e. e.ids ≡ L.ListName.ids };
+    ghost invariant = { λ e. (e.ids ≡ L.ListName.ids) × (e.is_recorded ≡ L.recorded) };
 }
 
 /// What a command came to.
@@ -86,6 +88,7 @@ impl<L: EngineName> Engine<L> {
         requires parts { opening.parts ≡ L.Ledger.parts }
         requires book { opening.book ≡ L.ListName.book }
         requires ids { ids ≡ L.ListName.ids }
+        requires recorded { L.recorded ≡ false }
         ensures { result ≡ ids }
     {
         Engine::opened(alloc, opening, ids, false)
@@ -97,6 +100,7 @@ impl<L: EngineName> Engine<L> {
         requires parts { opening.parts ≡ L.Ledger.parts }
         requires book { opening.book ≡ L.ListName.book }
         requires ids { ids ≡ L.ListName.ids }
+        requires recorded { is_recorded ≡ L.recorded }
         ensures { result ≡ ids }
     {
         let (state, roster) = State::new(alloc, opening, is_recorded);
@@ -104,6 +108,7 @@ impl<L: EngineName> Engine<L> {
         Engine {
             alloc,
             ids,
+            is_recorded,
             roster: Kept::new(roster),
             state: Mutex::new(state),
             taken: Mutex::new(taken),
@@ -116,6 +121,13 @@ impl<L: EngineName> Engine<L> {
         ensures { result.now ≡ self.now }
     {
         &self.ids
+    }
+
+    /// Whether its events are written down. Waits for nobody.
+    pub fn is_recorded(&self) -> bool
+        ensures { result ≡ L.recorded }
+    {
+        self.is_recorded
     }
 
     /// A client that made no event and has seen and read nothing yet. `NoPlace` comes once 64 were
@@ -266,6 +278,7 @@ impl<L: EngineName> Engine<L> {
         let Engine {
             alloc,
             ids,
+            is_recorded,
             roster,
             state,
             taken,
@@ -276,6 +289,7 @@ impl<L: EngineName> Engine<L> {
             let engine = Engine {
                 alloc,
                 ids,
+                is_recorded,
                 roster: Kept::new(roster),
                 state,
                 taken,

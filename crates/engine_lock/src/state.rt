@@ -57,7 +57,7 @@ pub(crate) struct State<L: EngineName> {
 }
 
 impl<L: EngineName> Model for State<L> {
-    ghost use Rattle.std.specs.Prelude.{◌≡◌};
+    ghost use Rattle.std.specs.Prelude.{◌≡◌, true, false};
     ghost use Rattle.std.specs.Coded.{codes};
     ghost use Rattle.kv_model.specs.contracts.call.Command as commands;
     ghost use Rattle.snapshot_feed.specs.States.{appended};
@@ -78,24 +78,25 @@ impl<L: EngineName> Model for State<L> {
     } };
 
     ghost invariant = { λ s. IsLocked s.core s.listing (appended s.feed) s.lines s.taken
-        × (s.feed.book ≡ L.ListName.book) };
+        × (s.feed.book ≡ L.ListName.book) × (L.recorded ≡ false → s.taken.is_over ≡ true) };
 }
 
 impl<L: EngineName> State<L> {
     /// A new core, to which nothing was done, and the roster of its clients, of whom there is none. The
     /// events are written down where `is_recorded` says so.
     pub(crate) fn new(alloc: Global, opening: Opening, is_recorded: bool) -> (Self, Roster<L>)
+        requires recorded { is_recorded ≡ L.recorded }
         requires name { opening.name ≡ L.Ledger.name }
         requires parts { opening.parts ≡ L.Ledger.parts }
         requires book { opening.book ≡ L.ListName.book }
         ensures log { result.0.log ≡ [] }
         ensures lines { result.0.lines ≡ blank (not is_recorded) }
-        ensures taken { result.0.taken ≡ untaken }
+        ensures taken { result.0.taken ≡ untaken (not is_recorded) }
         ensures clients { result.1 ≡ 0 }
     {
         let Opening { list, feed } = opening;
         let (listing, roster) = Listing::new(list);
-        let taken = Taken::nothing(listing.front());
+        let taken = Taken::nothing(listing.front(), !is_recorded);
         let state = State {
             core: first_core(alloc),
             listing,

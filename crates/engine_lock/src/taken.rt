@@ -33,17 +33,14 @@ impl<L: EngineName> Model for Taken<L> {
 }
 
 impl<L: EngineName> Taken<L> {
-    /// Nothing was taken yet of the list that this front begins.
-    pub(crate) fn nothing(front: Front) -> Self
+    /// Nothing was taken yet of the list that this front begins; where no line will come, that is over.
+    pub(crate) fn nothing(front: Front, is_over: bool) -> Self
         requires list { front.list ≡ [] }
         requires book { front.book ≡ L.ListName.book }
         requires history { IsHistory L.ListName.ids front.list }
-        ensures { result ≡ untaken }
+        ensures { result ≡ untaken is_over }
     {
-        Taken {
-            front,
-            is_over: false,
-        }
+        Taken { front, is_over }
     }
 
     /// A copy. Takes no memory.

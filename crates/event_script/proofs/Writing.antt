@@ -28,7 +28,7 @@ use Rattle.event_book.specs.Asking.{Asking}
 use Rattle.event_book.specs.Events.{Entry, Event, entry}
 use Rattle.event_book.proofs.Prefixes.{prefix_trans}
 use Rattle.event_script.specs.Notes.{NotesCommand, NotesEnding, NotesExpiry, NotesMessage, NotesRequest, says_done, step_outcome}
-use Rattle.event_script.specs.Scripts.{AllAsked, AllFit, Fits, HasRequest, IsCut, IsScript, IsWritten, Taken, noted, noted_by, noted_if, noted_trim}
+use Rattle.event_script.specs.Scripts.{AllAsked, AllFit, Fits, HasRequest, IsCut, IsScript, IsTaken, IsWritten, Taken, noted, noted_by, noted_if, noted_trim}
 use Rattle.event_script.specs.Scripts.{script_of, write, written_by}
 use Rattle.event_script.specs.Taking.{Ends, GoesOn, Takes, taken_next, untaken}
 use Rattle.event_script.specs.Writing.{CertificateIsWritten, CheckedIsWritten, CommandIsWritten, DeliveryIsWritten, EndingIsWritten, ExpiryIsWritten}
@@ -262,10 +262,14 @@ script_first : (gone : Bool) → IsScript (blank gone) []
 script_first true = record { front = []; begins = ([], refl); lines = refl; asked = All-nil (λ (x : Entry). HasRequest x.event x.outcome) }
 script_first false = (refl, All-nil (λ (x : Entry). HasRequest x.event x.outcome))
 
-first_by : (gone : Bool) → IsWritten (blank gone) untaken []
+taken_first : (gone : Bool) → IsTaken (blank gone) (untaken gone)
+taken_first true = (refl, refl)
+taken_first false = refl
+
+first_by : (gone : Bool) → IsWritten (blank gone) (untaken gone) []
 first_by gone = record {
   script = script_first gone;
-  taken = refl;
+  taken = taken_first gone;
   seen = ([], refl);
   fit = All-nil (λ (x : Entry). Fits x.event);
 }

@@ -4,9 +4,9 @@ use mathlib.Core.List.{IsPrefix}
 use Rattle.event_book.specs.Events.{Entry}
 use Rattle.event_script.specs.Scripts.{Taken, script_of}
 
--- nothing was taken yet
-abbrev pub untaken : Taken
-untaken = record { front = []; is_over = false }
+-- nothing was taken yet; where no line will come, that is over
+abbrev pub untaken : Bool → Taken
+untaken over = record { front = []; is_over = over }
 
 -- all is taken that was written of this list, of which lines are missing or not; once they are, nothing more is
 abbrev pub taken_next : Taken → Bool → List Entry → Taken

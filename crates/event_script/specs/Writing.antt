@@ -21,7 +21,7 @@ use Rattle.event_script.specs.Taking.{Takes, taken_next, untaken}
 
 -- nothing was done
 abbrev pub NothingIsWritten : Type 0
-NothingIsWritten = (gone : Bool) (l : Written) (t : Taken) → l ≡ blank gone → t ≡ untaken → IsWritten l t []
+NothingIsWritten = (gone : Bool) (l : Written) (t : Taken) → l ≡ blank gone → t ≡ untaken gone → IsWritten l t []
 
 -- ---- an event more
 

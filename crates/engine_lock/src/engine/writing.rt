@@ -1,5 +1,5 @@
 //! An engine whose events are written down, under its lock, as the lines of a script.
-ghost use Rattle.std.specs.Prelude.{◌≡◌};
+ghost use Rattle.std.specs.Prelude.{◌≡◌, true};
 ghost use Rattle.engine_lock.specs.Entering.{Submits};
 ghost use Rattle.engine_lock.specs.Takings.{TakesLines};
 
@@ -26,6 +26,7 @@ impl<L: EngineName> Engine<L> {
         requires parts { opening.parts ≡ L.Ledger.parts }
         requires book { opening.book ≡ L.ListName.book }
         requires ids { ids ≡ L.ListName.ids }
+        requires recorded { L.recorded ≡ true }
         ensures { result ≡ ids }
     {
         Engine::opened(alloc, opening, ids, true)

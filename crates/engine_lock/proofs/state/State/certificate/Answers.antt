@@ -26,6 +26,7 @@ invariant_of-self g c = (
       refl (c.certified-shown.ensures.makes g.L.ListName.ids) c.note.ensures.log
       (λ w. written_certificate c.self.inside.lines c.self.inside.lines c.self.inside.taken c.self.inside.listing c.args.client.now.holder.number c.args.client.now.about (certified_outcome c.certified-shown.result) w refl),
   c.self.invariant.1,
+  c.self.invariant.2,
 )
 
 pub returns : goal.returns

@@ -28,6 +28,7 @@ invariant_of-self g c = (
       refl (subst (λ (i : Ids). MakesOn i (Event.delivery c.args.number) (delivery_outcome c.told-message.result) c.self.inside.core c.told-message.new.core (appended c.self.inside.feed) (appended c.self.inside.feed)) c.requires.ids c.told-message.ensures) c.note.ensures.log
       (λ w. written_delivery c.self.inside.lines c.note_told.new.lines c.self.inside.taken c.self.inside.listing c.args.client.now.holder.number c.args.client.now.about c.args.number c.told-message.result w (search rules) c.note_told.ensures),
   c.self.invariant.1,
+  c.self.invariant.2,
 )
 
 pub returns : goal.returns

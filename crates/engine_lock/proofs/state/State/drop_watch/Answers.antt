@@ -28,6 +28,7 @@ invariant_of-self g c = (
       refl (subst (λ (b : Bool). MakesOn g.L.ListName.ids (Event.ending c.args.number) (said (WireTold.closed b)) c.self.inside.core c.dropped-ended.new.core (appended c.self.inside.feed) (appended c.self.inside.feed)) (sym c.is_ok-stood.ensures.value) (c.dropped-ended.ensures.makes g.L.ListName.ids)) c.note.ensures.log
       (λ w. written_ending c.self.inside.lines c.note_dropped.new.lines c.self.inside.taken c.self.inside.listing c.args.client.now.holder.number c.args.client.now.about c.args.number c.is_ok-stood.result w (search rules) c.note_dropped.ensures),
   c.self.invariant.1,
+  c.self.invariant.2,
 )
 
 pub returns-clause-ends : goal.returns-clause-ends

@@ -33,6 +33,7 @@ invariant_of-self g c = (
       (λ w. written_expiry c.self.inside.lines c.note_expired.new.lines c.self.inside.taken c.self.inside.listing c.args.client.now.holder.number c.args.client.now.about c.args.now
       c.expired-step.result w (search rules) (subst (λ (l : Written). NotesExpiry c.expired-step.result l c.note_expired.new.lines) c.hand_in.ensures c.note_expired.ensures)),
   c.expired-step.ensures.book (at_moment (led_to c.self.inside.listing) c.args.now) (c.moved.ensures.stands (led_to c.self.inside.listing) c.self.invariant.0.fits.stands) ∙ c.self.invariant.1,
+  c.self.invariant.2,
 )
 
 pub returns-clause-submits : goal.returns-clause-submits

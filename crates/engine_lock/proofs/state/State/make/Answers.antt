@@ -41,6 +41,7 @@ invariant_of-self g c = (
       c.args.asked.now c.performed-outcome.result w (search rules)
       (subst (λ (l : Written). NotesCommand c.performed-outcome.result.settled c.args.asked.now.request l c.note_done.new.lines) c.hand_in.ensures c.note_done.ensures)),
   c.performed-outcome.ensures.book (at_moment (led_to c.self.inside.listing) c.args.now) (c.moved.ensures.stands (led_to c.self.inside.listing) c.self.invariant.0.fits.stands) ∙ c.self.invariant.1,
+  c.self.invariant.2,
 )
 
 pub returns-clause-submits : goal.returns-clause-submits

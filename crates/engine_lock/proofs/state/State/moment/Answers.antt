@@ -26,6 +26,7 @@ invariant_of-self g c = (
       refl (c.moved-clock.ensures.makes g.L.ListName.ids) c.note.ensures.log
       (λ w. written_moment c.self.inside.lines c.hand_in.new.self c.self.inside.taken c.self.inside.listing c.args.client.now.holder.number c.args.client.now.about c.args.now (said (WireTold.clock c.moved-clock.result)) w (search rules) c.hand_in.ensures),
   c.self.invariant.1,
+  c.self.invariant.2,
 )
 
 pub returns-clause-makes : goal.returns-clause-makes

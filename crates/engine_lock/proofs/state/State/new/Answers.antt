@@ -1,5 +1,5 @@
-use Rattle.std.proofs.Common.{not, rules, subst, sym}
-use Rattle.event_script.specs.Scripts.{IsWritten}
+use Rattle.std.proofs.Common.{◌∙◌, ap, not, rules, subst, sym}
+use Rattle.event_script.specs.Scripts.{IsWritten, Taken}
 use Rattle.event_script.proofs.Writing.{first}
 use Rattle.engine_lock.proofs.Fitting.{fits_first}
 use Rattle.engine_lock.proofs.state.State.new.Goals as goal
@@ -13,4 +13,5 @@ invariant_of-state g c = (
         (first (not c.args.is_recorded) c.first_lines.result c.nothing-taken.result c.first_lines.ensures c.nothing-taken.ensures);
   },
   search rules,
+  λ none. ap (λ (t : Taken). t.is_over) c.nothing-taken.ensures ∙ ap not (c.requires.recorded ∙ none),
 )

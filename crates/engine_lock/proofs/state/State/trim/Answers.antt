@@ -17,6 +17,7 @@ invariant_of-self-2 g c = (
       (λ w. written_trimming c.self.inside.lines c.note_trimmed.new.lines c.self.inside.taken c.self.inside.listing c.args.client.now.holder.number c.args.client.now.about
       (told_of c.in-Ok.step) None w c.note_trimmed.ensures),
   search rules,
+  c.self.invariant.2,
 )
 
 pub returns-clause-trims : goal.returns-clause-trims

@@ -17,6 +17,7 @@ invariant_of-self-2 g c = (
       (λ w. written_checked c.self.inside.lines c.note_checked.new.lines c.self.inside.taken c.self.inside.listing c.args.client.now.holder.number c.args.client.now.about
       c.in-Ok.step w c.note_checked.ensures),
   search rules,
+  c.self.invariant.2,
 )
 
 pub returns-clause-makes : goal.returns-clause-makes
