@@ -176,9 +176,10 @@ where
     ensures revision { IfOk result (IsOfCore (ids_in serve.now)) }
     ensures begins { OnOk result (IsBegun (ids_in serve.now) (line_events start.entry.script.items)) }
 {
+    let is_recorded = lines.gate.is_recorded();
     match Opening::for_clients(alloc, rt, clients_of(serve)) {
         Ok(opening) => controlled_revision::<Brand, T, G, R, In, W>(
-            rt, alloc, opening, start, serve, lines,
+            rt, alloc, opening, is_recorded, start, serve, lines,
         ),
         Err(_) => Err(Fault::Memory),
     }
@@ -206,6 +207,7 @@ fn controlled_revision<
     rt: &R,
     alloc: Global,
     opening: Opening,
+    is_recorded: bool,
     start: Start<'_, T>,
     serve: &Serve<'_>,
     lines: &mut ByLines<'_, '_, '_, G, R, In, W>,
@@ -215,13 +217,13 @@ where
     requires name { opening.name ≡ L.Ledger.name }
     requires parts { opening.parts ≡ L.Ledger.parts }
     requires book { opening.book ≡ L.ListName.book }
-    requires feed { opening.feed ≡ L.feed }
+    requires recorded { is_recorded ≡ L.recorded }
     requires ids { ids_in serve.now ≡ L.ListName.ids }
     ensures revision { IfOk result (IsOfCore (ids_in serve.now)) }
     ensures begins { OnOk result (IsBegun (ids_in serve.now) (line_events start.entry.script.items)) }
 {
     let gate = lines.gate;
-    let engine = engine_of::<L>(alloc, opening, serve, gate.is_recorded());
+    let engine = engine_of::<L>(alloc, opening, serve, is_recorded);
     let Start {
         listener,
         script,

@@ -179,7 +179,15 @@ fn run_server<T: Starts, G: Gate + Sync, R: Wait + Threads + time::Clock + Net +
     ensures kind { IfErr result (StopsServing (ids_in serve.now) (line_events start.entry.script.items)) }
 {
     match Opening::for_clients(alloc, rt, clients_of(serve)) {
-        Ok(opening) => closed_revision::<Brand, T, G, R>(rt, alloc, opening, start, serve, gate),
+        Ok(opening) => closed_revision::<Brand, T, G, R>(
+            rt,
+            alloc,
+            opening,
+            gate.is_recorded(),
+            start,
+            serve,
+            gate,
+        ),
         Err(_) => Err(Fault::Memory),
     }
 }
@@ -196,6 +204,7 @@ fn closed_revision<L: EngineName + Send + Sync, T: Starts, G: Gate + Sync, R>(
     rt: &R,
     alloc: Global,
     opening: Opening,
+    is_recorded: bool,
     start: Start<'_, T>,
     serve: &Serve<'_>,
     gate: &G,
@@ -205,14 +214,14 @@ where
     requires name { opening.name ≡ L.Ledger.name }
     requires parts { opening.parts ≡ L.Ledger.parts }
     requires book { opening.book ≡ L.ListName.book }
-    requires feed { opening.feed ≡ L.feed }
+    requires recorded { is_recorded ≡ L.recorded }
     requires ids { ids_in serve.now ≡ L.ListName.ids }
     ensures revision { IfOk result (IsOfCore (ids_in serve.now)) }
     ensures begins { OnOk result (IsBegun (ids_in serve.now) (line_events start.entry.script.items)) }
     ensures fault { IfErr result (λ fault. is_write fault ≡ false) }
     ensures kind { IfErr result (StopsServing (ids_in serve.now) (line_events start.entry.script.items)) }
 {
-    let engine = engine_of::<L>(alloc, opening, serve, gate.is_recorded());
+    let engine = engine_of::<L>(alloc, opening, serve, is_recorded);
     let Start {
         listener,
         script,
@@ -238,7 +247,7 @@ pub(crate) fn engine_of<L: EngineName>(
     requires name { opening.name ≡ L.Ledger.name }
     requires parts { opening.parts ≡ L.Ledger.parts }
     requires book { opening.book ≡ L.ListName.book }
-    requires feed { opening.feed ≡ L.feed }
+    requires recorded { is_recorded ≡ L.recorded }
     requires ids { ids_in serve.now ≡ L.ListName.ids }
     ensures ids { result ≡ ids_in serve.now }
 {

@@ -87,7 +87,7 @@ fn answer_on<L: EngineName, R: Wait, W: Write>(
     requires name { opening.name ≡ L.Ledger.name }
     requires parts { opening.parts ≡ L.Ledger.parts }
     requires book { opening.book ≡ L.ListName.book }
-    requires feed { opening.feed ≡ L.feed }
+    requires recorded { L.recorded ≡ false }
     requires ids { L.ListName.ids ≡ record { cluster = 1; member = 1 } }
 {
     let mut clients = match Vec::with_capacity(alloc, 1) {

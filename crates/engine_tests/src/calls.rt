@@ -19,7 +19,7 @@ fn made<L: EngineName, R: Wait>(
     requires name { opening.name ≡ L.Ledger.name }
     requires parts { opening.parts ≡ L.Ledger.parts }
     requires book { opening.book ≡ L.ListName.book }
-    requires feed { opening.feed ≡ L.feed }
+    requires recorded { L.recorded ≡ false }
     requires ids { L.ListName.ids ≡ record { cluster = 1; member = 1 } }
 {
     let mut engine = Engine::<L>::new(alloc, opening, ONES);
@@ -124,7 +124,7 @@ fn each_call<L: EngineName, R: Wait>(
     requires name { opening.name ≡ L.Ledger.name }
     requires parts { opening.parts ≡ L.Ledger.parts }
     requires book { opening.book ≡ L.ListName.book }
-    requires feed { opening.feed ≡ L.feed }
+    requires recorded { L.recorded ≡ false }
     requires ids { L.ListName.ids ≡ record { cluster = 1; member = 1 } }
 {
     let mut engine = Engine::<L>::new(alloc, opening, ONES);
@@ -234,7 +234,7 @@ fn each_order<L: EngineName, R: Wait>(rt: &R, alloc: Global, opening: Opening) -
     requires name { opening.name ≡ L.Ledger.name }
     requires parts { opening.parts ≡ L.Ledger.parts }
     requires book { opening.book ≡ L.ListName.book }
-    requires feed { opening.feed ≡ L.feed }
+    requires recorded { L.recorded ≡ false }
     requires ids { L.ListName.ids ≡ record { cluster = 1; member = 1 } }
 {
     let mut engine = Engine::<L>::new(alloc, opening, ONES);
@@ -269,7 +269,7 @@ fn closed_twice<L: EngineName, R: Wait>(
     requires name { opening.name ≡ L.Ledger.name }
     requires parts { opening.parts ≡ L.Ledger.parts }
     requires book { opening.book ≡ L.ListName.book }
-    requires feed { opening.feed ≡ L.feed }
+    requires recorded { L.recorded ≡ false }
     requires ids { L.ListName.ids ≡ record { cluster = 1; member = 1 } }
 {
     let mut engine = Engine::<L>::new(alloc, opening, ONES);

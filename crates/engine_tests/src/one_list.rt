@@ -214,7 +214,7 @@ fn taken_in_turns<L: EngineName, R: Wait>(
     requires name { opening.name ≡ L.Ledger.name }
     requires parts { opening.parts ≡ L.Ledger.parts }
     requires book { opening.book ≡ L.ListName.book }
-    requires feed { opening.feed ≡ L.feed }
+    requires recorded { L.recorded ≡ false }
     requires ids { L.ListName.ids ≡ record { cluster = 1; member = 1 } }
 {
     let mut engine = Engine::<L>::new(alloc, opening, ONES);

@@ -436,7 +436,7 @@ fn run<L: EngineName + Send + Sync, R: Wait + Threads + Sync>(
     requires name { opening.name ≡ L.Ledger.name }
     requires parts { opening.parts ≡ L.Ledger.parts }
     requires book { opening.book ≡ L.ListName.book }
-    requires feed { opening.feed ≡ L.feed }
+    requires recorded { L.recorded ≡ false }
     requires ids { L.ListName.ids ≡ record { cluster = 1; member = 1 } }
 {
     let mut engine = Engine::<L>::new(alloc, opening, ONES);

@@ -49,20 +49,21 @@ pub reads_client : (c d e : Caller) → d ≡ record c { reader = d.reader } →
 reads_client c d e h b l = l ∙ ap left h ∙ (λ i. record c { reader = record c.reader { book = b i; known = d.reader.known; inside = false } })
 
 -- one that was to catch up
-pub caught : (ids : Ids) (c d : Caller) (now : ℕ) (b : Bool) → lock.CatchesUp ids c now b d → MatchBool b (CatchesUp ids true c d) (Stays ids c d)
-caught ids c d now true h = (now, h)
-caught ids c d now false h = inr (false, (now, h))
+pub caught : (ids : Ids) (recorded : Bool) (c d : Caller) (now : ℕ) (b : Bool) → recorded ≡ false → lock.CatchesUp ids c now b d
+    → MatchBool b ((recorded ≡ false) × CatchesUp ids true c d) (Stays ids c d)
+caught ids recorded c d now true no h = (no, (now, h))
+caught ids recorded c d now false no h = inr (false, (now, h))
 
 -- one that was to read then, and did not
-pub stays : (ids : Ids) (s : Bool) (c d e : Caller) → Begins ids s c d → e ≡ left d → Stays ids c e
-stays ids true c d e b l = inl (ap left l ∙ ap left b)
-stays ids false c d e b l = inr (true, subst (CatchesUp ids true c) (b.1.enters.same ∙ sym (l ∙ ap left b.1.enters.same)) b)
+pub stays : (ids : Ids) (recorded s : Bool) (c d e : Caller) → Begins ids recorded s c d → e ≡ left d → Stays ids c e
+stays ids recorded true c d e b l = inl (ap left l ∙ ap left b)
+stays ids recorded false c d e b l = inr (true, subst (CatchesUp ids true c) (b.1.1.enters.same ∙ sym (l ∙ ap left b.1.1.enters.same)) b.1)
 
 -- a Range that was read
-pub looks_as : (ids : Ids) (c d : Caller) (q : RangeQuery) (command : Command) (r : Option Outcome) → command ≡ commands.Range q
-    → IfSome r (λ o. LooksUp ids c q o d) → IfSome r (λ o. Looks ids c command o d)
-looks_as ids c d q command None is h = tt
-looks_as ids c d q command (Some o) is h = record { query = q; is = is; looks = h }
+pub looks_as : (ids : Ids) (recorded : Bool) (c d : Caller) (q : RangeQuery) (command : Command) (r : Option Outcome) → command ≡ commands.Range q
+    → IfSome r (λ o. LooksUp ids recorded c q o d) → IfSome r (λ o. Looks ids recorded c command o d)
+looks_as ids recorded c d q command None is h = tt
+looks_as ids recorded c d q command (Some o) is h = record { query = q; is = is; looks = h }
 
 -- so a Range that has to be submitted
 pub starts_as : (ids : Ids) (command : Command) (q : RangeQuery) (c d : Caller) (r : Option Outcome) → command ≡ commands.Range q

@@ -10,14 +10,14 @@ use Rattle.kv_model.specs.declared.refusal.Refusal.{Refusal}
 use Rattle.kv_model.specs.declared.refusal.Refusal.TheVariants.{Memory}
 use Rattle.kv_model.specs.Answers.{Response, fault_of, refused, success_response}
 use Rattle.kv_model.specs.Commands.{call_of}
-use Rattle.kv_model.specs.Feed.{Published}
 use Rattle.kv_model.specs.Follows.Outcome.{memory, said}
 use Rattle.kv_model.specs.History.{end_of}
 use Rattle.kv_model.specs.Ranges as ranges
 use Rattle.kv_model.specs.Requests.{request_of}
 use Rattle.kv_model.specs.Told as model
 use Rattle.kv_model.specs.Wire.{WireEvent, WireTold}
-use Rattle.store_laws.specs.Snapshots.{Untrimmed, untrimmed_of}
+use Rattle.store_laws.specs.Changes.{untrimmed}
+use Rattle.store_laws.specs.Snapshots.{Untrimmed}
 use Rattle.trim_core.specs.declared.trimmer.Trim.{Trim}
 use Rattle.trim_core.specs.Told.{told_of}
 use Rattle.range_view.specs.declared.reply.RangeReply.{RangeReply}
@@ -34,7 +34,7 @@ use Rattle.json_gateway.specs.Endings.{Refuses, fault_of_reading, is_done, is_wa
 use Rattle.json_gateway.specs.Outcomes.{response_of}
 use Rattle.event_book.specs.Asking.{Asking}
 use Rattle.event_book.specs.Callers.{Gives}
-use Rattle.event_book.specs.Events.{Entry, Event}
+use Rattle.event_book.specs.Events.{Entry, Event, led_to}
 use Rattle.engine_lock.specs.Entering as lock
 use Rattle.engine_lock.specs.Entering.{EntersAlone, ShowsTo, TrimsFor}
 use Rattle.engine_lock.specs.Locked.{Caller, knowing, left}
@@ -105,31 +105,32 @@ SettlesAs told (settled.Reply r) = response_of r ≡ told
 SettlesAs told settled.Memory = ⊤
 SettlesAs told (settled.Lost n) = ⊥
 
--- A client read beside the engine, and left its reading: the answer is that of some list of published operations which
--- begins with all that the client has read and was told of, and which it knows of from then on.
+-- A client read beside the engine, and left its reading: the answer is the model's in the world that a front of the list of
+-- all events leads to, which begins with all that the client has read and was told of, and which it knows of from then on.
 pub record Reads (ids : Ids) (c : Caller) (q : RangeQuery) (o : Outcome) (later : Caller) : Type 0 where
-  pub log : List Published
-  pub begins : IsPrefix c.reader.known log
-  pub settles : SettlesAs (response_over ids (answer_over (untrimmed_of log) q)) o.settled
+  pub front : List Entry
+  pub begins : IsPrefix c.reader.known front
+  pub settles : SettlesAs (response_over ids (answer_over (untrimmed (led_to front)) q)) o.settled
   pub bare : (o.raised ≡ None) × (o.watch ≡ None)
-  pub client : later ≡ knowing c c.holder log
+  pub client : later ≡ knowing c c.holder front
 
 -- At some moment, handed in as an event of its own, the client was told of all that the engine had done; or of nothing.
 abbrev pub CatchesUp : Ids → Bool → Caller → Caller → Type 0
 CatchesUp ids told c later = (now : ℕ) × lock.CatchesUp ids c now told later
 
--- A reading of a Range begins: a serializable one with what the client knows of, any other once the client caught up.
-abbrev pub Begins : Ids → Bool → Caller → Caller → Type 0
-Begins ids serializable c later = MatchBool serializable (later ≡ c) (CatchesUp ids true c later)
+-- A reading of a Range begins: a serializable one with what the client knows of, any other once the client caught up, where
+-- events are not written down.
+abbrev pub Begins : Ids → Bool → Bool → Caller → Caller → Type 0
+Begins ids recorded serializable c later = MatchBool serializable (later ≡ c) ((recorded ≡ false) × CatchesUp ids true c later)
 
 -- it left its reading, or caught up or was to, and nothing else
 abbrev pub Stays : Ids → Caller → Caller → Type 0
 Stays ids c later = (left later ≡ left c) ⊎ ((told : Bool) × CatchesUp ids told c later)
 
 -- a Range was read so
-pub record LooksUp (ids : Ids) (c : Caller) (query : RangeQuery) (o : Outcome) (later : Caller) : Type 0 where
+pub record LooksUp (ids : Ids) (recorded : Bool) (c : Caller) (query : RangeQuery) (o : Outcome) (later : Caller) : Type 0 where
   pub from : Caller
-  pub begins : Begins ids query.serializable c from
+  pub begins : Begins ids recorded query.serializable c from
   pub reads : Reads ids from query o later
 
 -- Only for a Range that then was not read so is a client to catch up that does not read.
@@ -143,10 +144,10 @@ pub record Submits (ids : Ids) (c : Caller) (asking : Asking) (o : Outcome) (lat
   pub does : Does ids from asking o later
 
 -- It is a Range, and it was read beside the engine.
-pub record Looks (ids : Ids) (c : Caller) (command : Command) (o : Outcome) (later : Caller) : Type 0 where
+pub record Looks (ids : Ids) (recorded : Bool) (c : Caller) (command : Command) (o : Outcome) (later : Caller) : Type 0 where
   pub query : RangeQuery
   pub is : command ≡ commands.Range query
-  pub looks : LooksUp ids c query o later
+  pub looks : LooksUp ids recorded c query o later
 
 -- ---- a request
 
@@ -168,10 +169,10 @@ pub record Refused (path body : List ℕ) (c : Caller) (o : Outcome) (later : Ca
   pub unwatched : o.watch ≡ None
   pub same : later ≡ c
 
--- of a connection: the command was submitted, or a Range read beside the engine
-abbrev pub Answers : Ids → Caller → Asked → Outcome → Caller → Type 0
-Answers ids c a o later = Did (path_asked a) a.body (λ command. Submits ids c (asking_by (path_asked a) a.body command) o later
-    ⊎ Looks ids c command o later) ⊎ Refused (path_asked a) a.body c o later
+-- of a connection: the command was submitted, or a Range read beside the engine; this says whether events are written down
+abbrev pub Answers : Ids → Bool → Caller → Asked → Outcome → Caller → Type 0
+Answers ids recorded c a o later = Did (path_asked a) a.body (λ command. Submits ids c (asking_by (path_asked a) a.body command) o later
+    ⊎ Looks ids recorded c command o later) ⊎ Refused (path_asked a) a.body c o later
 
 -- of a script: it was submitted
 abbrev pub Posts : Ids → Caller → List ℕ → List ℕ → Outcome → Caller → Type 0

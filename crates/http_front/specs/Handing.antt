@@ -1,5 +1,5 @@
 -- What an engine answers a connection whose streams go on elsewhere.
-use Rattle.std.specs.Prelude.{◌≡◌, ℕ, Option, None, Some}
+use Rattle.std.specs.Prelude.{◌≡◌, ℕ, Bool, Option, None, Some}
 use Rattle.kv_model.specs.declared.ids.Ids.{Ids}
 use Rattle.http_head.specs.Requests.{Asked}
 use Rattle.json_gateway.specs.declared.outcome.Outcome.{Outcome}
@@ -14,8 +14,8 @@ pub record Hands : Type 0 where
   pub client : Caller
   pub handed : Option ℕ
 
-abbrev pub Answers : Ids → Hands → Asked → Outcome → Hands → Type 0
-Answers ids s a o t = engines.Answers ids s.client a o t.client × (t.handed ≡ s.handed)
+abbrev pub Answers : Ids → Bool → Hands → Asked → Outcome → Hands → Type 0
+Answers ids recorded s a o t = engines.Answers ids recorded s.client a o t.client × (t.handed ≡ s.handed)
 
 -- a stream goes on elsewhere at once
 abbrev pub Tells : Hands → ℕ → Told → Hands → Type 0

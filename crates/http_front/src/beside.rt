@@ -1,5 +1,5 @@
 //! Ranges, which a client reads beside the engine.
-ghost use Rattle.std.specs.Prelude.{◌≡◌, true, None, Ok, Result, IfSome, IfNone, MatchBool};
+ghost use Rattle.std.specs.Prelude.{◌≡◌, true, false, None, Ok, Result, IfSome, IfNone, MatchBool};
 ghost use Rattle.range_view.specs.Replies.{reply_view};
 ghost use Rattle.kv_model.specs.declared.refusal.Refusal.{Refusal as RefusalOf};
 ghost use Rattle.kv_model.specs.declared.call.Command.TheVariants as commands;
@@ -35,7 +35,7 @@ pub(crate) fn looked<L: EngineName, G: Gate, R: Wait>(
     command: &Command,
 ) -> Option<Outcome>
     ensures looks { IfSome result
-        (λ o. Looks events.now.engine.now client.old command.now o client.new) }
+        (λ o. Looks events.now.engine.now L.recorded client.old command.now o client.new) }
     ensures none { IfNone result
         (Starts events.now.engine.now command.now client.old client.new) }
 {
@@ -64,7 +64,7 @@ fn looked_up<L: EngineName, G: Gate, R: Wait>(
     query: &RangeQuery,
 ) -> Option<Outcome>
     ensures looks { IfSome result
-        (λ o. LooksUp events.now.engine.now client.old query.now o client.new) }
+        (λ o. LooksUp events.now.engine.now L.recorded client.old query.now o client.new) }
     ensures none { IfNone result (Stays events.now.engine.now client.old client.new) }
 {
     if !may_begin(events, client, now, query) {
@@ -82,7 +82,7 @@ fn may_begin<L: EngineName, G: Gate, R: Wait>(
     query: &RangeQuery,
 ) -> bool
     ensures { MatchBool result
-        (Begins events.now.engine.now query.now.serializable client.old client.new)
+        (Begins events.now.engine.now L.recorded query.now.serializable client.old client.new)
         (Stays events.now.engine.now client.old client.new) }
 {
     query.serializable || is_caught_up(events, client, now)
@@ -95,7 +95,8 @@ fn is_caught_up<L: EngineName, G: Gate, R: Wait>(
     client: &mut Client<L>,
     now: u64,
 ) -> bool
-    ensures { MatchBool result (CatchesUp events.now.engine.now true client.old client.new)
+    ensures { MatchBool result
+        ((L.recorded ≡ false) × CatchesUp events.now.engine.now true client.old client.new)
         (Stays events.now.engine.now client.old client.new) }
 {
     if events.is_recorded() {

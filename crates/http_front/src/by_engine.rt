@@ -38,7 +38,7 @@ where
     C: Clock,
     R: Wait + time::Clock,
 {
-    ghost Answers = { λ by. engines.Answers by.events.engine.now };
+    ghost Answers = { λ by. engines.Answers by.events.engine.now L.recorded };
 
     ghost Tells = { λ by. engines.Tells by.events.engine.now (G.Left by.events.gate.now by.call) };
 
@@ -126,7 +126,7 @@ fn done<L: EngineName, G: Gate, R: Wait>(
     asked: &Asked<'_>,
 ) -> Outcome
     ensures { Submits events.now.engine.now client.old asked.now result client.new
-        ⊎ Looks events.now.engine.now client.old asked.now.command result client.new }
+        ⊎ Looks events.now.engine.now L.recorded client.old asked.now.command result client.new }
 {
     if let Some(outcome) = looked(events, alloc, client, now, asked.command()) {
         return outcome;

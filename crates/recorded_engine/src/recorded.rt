@@ -40,9 +40,11 @@ impl<'e, L: EngineName, G, R: Wait> Takes for Recorded<'e, L, G, R> {
 }
 
 impl<'e, L: EngineName, G: Gate, R: Wait> Recorded<'e, L, G, R> {
-    /// Whether events are to be written down.
-    pub fn is_recorded(&self) -> bool {
-        self.gate.is_recorded()
+    /// Whether events are written down.
+    pub fn is_recorded(&self) -> bool
+        ensures { result ≡ L.recorded }
+    {
+        self.engine.is_recorded()
     }
 
     /// [`Engine::submit_request`].

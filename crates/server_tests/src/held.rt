@@ -58,7 +58,7 @@ fn served<L: EngineName + Send + Sync, R: Wait + Threads + time::Clock + Net + S
     requires name { opening.name ≡ L.Ledger.name }
     requires parts { opening.parts ≡ L.Ledger.parts }
     requires book { opening.book ≡ L.ListName.book }
-    requires feed { opening.feed ≡ L.feed }
+    requires recorded { L.recorded ≡ false }
     requires ids { L.ListName.ids ≡ record { cluster = 1; member = 1 } }
 {
     let engine = Engine::<L>::new(alloc, opening, ONES);

@@ -1,7 +1,7 @@
 use Rattle.engine_tests.proofs.calls.run_closed_twice.Given as goal
 
 abbrev pub ghosts-closed_twice-L-EngineName : goal.ghosts-closed_twice-L-EngineName
-ghosts-closed_twice-L-EngineName g a = record { feed = a.opening.feed }
+ghosts-closed_twice-L-EngineName g a = record { recorded = false }
 
 abbrev pub ghosts-closed_twice-L-ListName : goal.ghosts-closed_twice-L-ListName
 ghosts-closed_twice-L-ListName g a = record { book = a.opening.book; ids = record { cluster = 1; member = 1 } }

@@ -1,7 +1,7 @@
 use Rattle.engine_tests.proofs.calls.run_each_order.Given as goal
 
 abbrev pub ghosts-each_order-L-EngineName : goal.ghosts-each_order-L-EngineName
-ghosts-each_order-L-EngineName g a = record { feed = a.opening.feed }
+ghosts-each_order-L-EngineName g a = record { recorded = false }
 
 abbrev pub ghosts-each_order-L-ListName : goal.ghosts-each_order-L-ListName
 ghosts-each_order-L-ListName g a = record { book = a.opening.book; ids = record { cluster = 1; member = 1 } }

@@ -1,7 +1,7 @@
 use Rattle.engine_tests.proofs.lock_replies.run_row.Given as goal
 
 abbrev pub ghosts-run-L-EngineName : goal.ghosts-run-L-EngineName
-ghosts-run-L-EngineName g a = record { feed = a.opening.feed }
+ghosts-run-L-EngineName g a = record { recorded = false }
 
 abbrev pub ghosts-run-L-ListName : goal.ghosts-run-L-ListName
 ghosts-run-L-ListName g a = record { book = a.opening.book; ids = record { cluster = 1; member = 1 } }

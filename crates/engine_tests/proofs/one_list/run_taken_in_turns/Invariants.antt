@@ -1,7 +1,7 @@
 use Rattle.engine_tests.proofs.one_list.run_taken_in_turns.Given as goal
 
 abbrev pub ghosts-taken_in_turns-L-EngineName : goal.ghosts-taken_in_turns-L-EngineName
-ghosts-taken_in_turns-L-EngineName g a = record { feed = a.opening.feed }
+ghosts-taken_in_turns-L-EngineName g a = record { recorded = false }
 
 abbrev pub ghosts-taken_in_turns-L-ListName : goal.ghosts-taken_in_turns-L-ListName
 ghosts-taken_in_turns-L-ListName g a = record { book = a.opening.book; ids = record { cluster = 1; member = 1 } }

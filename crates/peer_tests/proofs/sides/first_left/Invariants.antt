@@ -1,7 +1,7 @@
 use Rattle.peer_tests.proofs.sides.first_left.Given as goal
 
 abbrev pub ghosts-left-L-EngineName : goal.ghosts-left-L-EngineName
-ghosts-left-L-EngineName g a = record { feed = a.opening.feed }
+ghosts-left-L-EngineName g a = record { recorded = false }
 
 abbrev pub ghosts-left-L-ListName : goal.ghosts-left-L-ListName
 ghosts-left-L-ListName g a = record { book = a.opening.book; ids = record { cluster = 1; member = 1 } }

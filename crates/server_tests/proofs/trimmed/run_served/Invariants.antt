@@ -1,7 +1,7 @@
 use Rattle.server_tests.proofs.trimmed.run_served.Given as goal
 
 abbrev pub ghosts-served-L-EngineName : goal.ghosts-served-L-EngineName
-ghosts-served-L-EngineName g a = record { feed = a.opening.feed }
+ghosts-served-L-EngineName g a = record { recorded = false }
 
 abbrev pub ghosts-served-L-ListName : goal.ghosts-served-L-ListName
 ghosts-served-L-ListName g a = record { book = a.opening.book; ids = record { cluster = 1; member = 1 } }
