@@ -53,7 +53,7 @@ enters ids c d e o x = record {
   about = ap (λ (c : Caller). c.about) x.same;
 }
 
-module _ (ids : Ids) (recorded : Bool) (Left : Type 0) where
+module _ (ids : Ids) (recorded : Bool) (At : ℕ → Type 0) (Left : Type 0) where
   -- ---- one call
 
   made : (c d : Caller) (n : ℕ) → AreMade ids c n d → Gets c d
@@ -66,26 +66,26 @@ module _ (ids : Ids) (recorded : Bool) (Left : Type 0) where
   awaits s _ c d (Awaits.behind h t) = both c t.from d (made c t.from t.refusals t.made) (enters ids t.from d _ _ t.trims.enters)
   awaits s _ c d (Awaits.lost h t) = made c d 1000 t
 
-  does : (c d : Caller) (asking : Asking) (o : Outcome) → Does ids c asking o d → Gets c d
+  does : (c d : Caller) (asking : Asking) (o : Outcome) → Does ids At c asking o d → Gets c d
   does c d asking o h = both c h.told d (enters ids c h.told _ _ h.submits.enters) (awaits h.submitted o h.told d h.awaits)
 
-  stays : (c d : Caller) → Stays ids c d → Gets c d
+  stays : (c d : Caller) → Stays ids At c d → Gets c d
   stays c d (inl h) = rests c d (ap seen h)
-  stays c d (inr h) = enters ids c d _ _ h.1.1.enters
+  stays c d (inr h) = enters ids c d _ _ h.1.2.enters
 
-  starts : (command : Command) (c d : Caller) → Starts ids command c d → Gets c d
+  starts : (command : Command) (c d : Caller) → Starts ids At command c d → Gets c d
   starts command c d (inl h) = rests c d (ap seen h)
   starts command c d (inr h) = stays c d h.2
 
-  begins : (s : Bool) (c d : Caller) → Begins ids recorded s c d → Gets c d
+  begins : (s : Bool) (c d : Caller) → Begins ids recorded At s c d → Gets c d
   begins true c d h = rests c d (ap seen h)
-  begins false c d h = enters ids c d _ _ h.1.1.enters
+  begins false c d h = enters ids c d _ _ h.1.2.enters
 
-  done : (c d : Caller) (asking : Asking) (command : Command) (o : Outcome) → Submits ids c asking o d ⊎ Looks ids recorded c command o d → Gets c d
+  done : (c d : Caller) (asking : Asking) (command : Command) (o : Outcome) → Submits ids At c asking o d ⊎ Looks ids recorded At c command o d → Gets c d
   done c d asking command o (inl s) = both c s.from d (starts asking.command c s.from s.starts) (does s.from d asking o s.does)
   done c d asking command o (inr l) = both c l.looks.from d (begins l.query.serializable c l.looks.from l.looks.begins) (rests l.looks.from d (ap seen l.looks.reads.client))
 
-  answers : (c d : Caller) (a : Asked) (o : Outcome) → Answers ids recorded c a o d → Gets c d
+  answers : (c d : Caller) (a : Asked) (o : Outcome) → Answers ids recorded At c a o d → Gets c d
   answers c d a o (inl h) = done c d _ h.command o h.does
   answers c d a o (inr h) = rests c d (ap seen h.same)
 
@@ -128,7 +128,7 @@ module _ (ids : Ids) (recorded : Bool) (Left : Type 0) where
   is_told (Some n) x close s t out r h = streams n _ s t out r h
 
   abbrev Is : Caller → Asked → List ℕ → Caller → Result Bool Front → Type 0
-  Is = IsAnswered Caller (Answers ids recorded) (Tells ids Left) (Finishes ids)
+  Is = IsAnswered Caller (Answers ids recorded At) (Tells ids Left) (Finishes ids)
 
   answered : (s t : Caller) (a : Asked) (out : List ℕ) (r : Result Bool Front) → Is s a out t r → Gets s t
   answered s t a out r d =

@@ -49,24 +49,26 @@ pub reads_client : (c d e : Caller) → d ≡ record c { reader = d.reader } →
 reads_client c d e h b l = l ∙ ap left h ∙ (λ i. record c { reader = record c.reader { book = b i; known = d.reader.known; inside = false } })
 
 -- one that was to catch up
-pub caught : (ids : Ids) (recorded : Bool) (c d : Caller) (now : ℕ) (b : Bool) → recorded ≡ false → lock.CatchesUp ids c now b d
-    → MatchBool b ((recorded ≡ false) × CatchesUp ids true c d) (Stays ids c d)
-caught ids recorded c d now true no h = (no, (now, h))
-caught ids recorded c d now false no h = inr (false, (now, h))
+pub caught : (ids : Ids) (recorded : Bool) (At : ℕ → Type 0) (c d : Caller) (now : ℕ) (b : Bool) → At now → recorded ≡ false → lock.CatchesUp ids c now b d
+    → MatchBool b ((recorded ≡ false) × CatchesUp ids At true c d) (Stays ids At c d)
+caught ids recorded At c d now true at no h = (no, (now, at, h))
+caught ids recorded At c d now false at no h = inr (false, (now, at, h))
 
 -- one that was to read then, and did not
-pub stays : (ids : Ids) (recorded s : Bool) (c d e : Caller) → Begins ids recorded s c d → e ≡ left d → Stays ids c e
-stays ids recorded true c d e b l = inl (ap left l ∙ ap left b)
-stays ids recorded false c d e b l = inr (true, subst (CatchesUp ids true c) (b.1.1.enters.same ∙ sym (l ∙ ap left b.1.1.enters.same)) b.1)
+pub stays : (ids : Ids) (recorded : Bool) (At : ℕ → Type 0) (s : Bool) (c d e : Caller) → Begins ids recorded At s c d → e ≡ left d → Stays ids At c e
+stays ids recorded At true c d e b l = inl (ap left l ∙ ap left b)
+stays ids recorded At false c d e b l =
+    let h = b.1 in
+    inr (true, subst (CatchesUp ids At true c) (h.2.enters.same ∙ sym (l ∙ ap left h.2.enters.same)) h)
 
 -- a Range that was read
-pub looks_as : (ids : Ids) (recorded : Bool) (c d : Caller) (q : RangeQuery) (command : Command) (r : Option Outcome) → command ≡ commands.Range q
-    → IfSome r (λ o. LooksUp ids recorded c q o d) → IfSome r (λ o. Looks ids recorded c command o d)
-looks_as ids recorded c d q command None is h = tt
-looks_as ids recorded c d q command (Some o) is h = record { query = q; is = is; looks = h }
+pub looks_as : (ids : Ids) (recorded : Bool) (At : ℕ → Type 0) (c d : Caller) (q : RangeQuery) (command : Command) (r : Option Outcome) → command ≡ commands.Range q
+    → IfSome r (λ o. LooksUp ids recorded At c q o d) → IfSome r (λ o. Looks ids recorded At c command o d)
+looks_as ids recorded At c d q command None is h = tt
+looks_as ids recorded At c d q command (Some o) is h = record { query = q; is = is; looks = h }
 
 -- so a Range that has to be submitted
-pub starts_as : (ids : Ids) (command : Command) (q : RangeQuery) (c d : Caller) (r : Option Outcome) → command ≡ commands.Range q
-    → IfNone r (Stays ids c d) → IfNone r (Starts ids command c d)
-starts_as ids command q c d (Some o) is h = tt
-starts_as ids command q c d None is h = inr (q, is, h)
+pub starts_as : (ids : Ids) (At : ℕ → Type 0) (command : Command) (q : RangeQuery) (c d : Caller) (r : Option Outcome) → command ≡ commands.Range q
+    → IfNone r (Stays ids At c d) → IfNone r (Starts ids At command c d)
+starts_as ids At command q c d (Some o) is h = tt
+starts_as ids At command q c d None is h = inr (q, is, h)

@@ -77,10 +77,11 @@ pub data Awaits (ids : Ids) (s : Submitted) : Outcome → Caller → Caller → 
 
 -- ---- a command
 
--- It was submitted once, for that client, at some moment, with the request for it; where its answer waits for trimming, that
--- was done behind it.
-pub record Does (ids : Ids) (c : Caller) (asking : Asking) (o : Outcome) (later : Caller) : Type 0 where
+-- It was submitted once, for that client, at a moment that was told (`At`), with the request for it; where its answer waits
+-- for trimming, that was done behind it.
+pub record Does (ids : Ids) (At : ℕ → Type 0) (c : Caller) (asking : Asking) (o : Outcome) (later : Caller) : Type 0 where
   pub now : ℕ
+  pub at : At now
   pub submitted : Submitted
   pub told : Caller
   pub submits : lock.Submits ids c now asking submitted told
@@ -114,40 +115,41 @@ pub record Reads (ids : Ids) (c : Caller) (q : RangeQuery) (o : Outcome) (later 
   pub bare : (o.raised ≡ None) × (o.watch ≡ None)
   pub client : later ≡ knowing c c.holder front
 
--- At some moment, handed in as an event of its own, the client was told of all that the engine had done; or of nothing.
-abbrev pub CatchesUp : Ids → Bool → Caller → Caller → Type 0
-CatchesUp ids told c later = (now : ℕ) × lock.CatchesUp ids c now told later
+-- At a moment that was told, handed in as an event of its own, the client was told of all that the engine had done; or of
+-- nothing.
+abbrev pub CatchesUp : Ids → (ℕ → Type 0) → Bool → Caller → Caller → Type 0
+CatchesUp ids At told c later = (now : ℕ) × At now × lock.CatchesUp ids c now told later
 
 -- A reading of a Range begins: a serializable one with what the client knows of, any other once the client caught up, where
 -- events are not written down.
-abbrev pub Begins : Ids → Bool → Bool → Caller → Caller → Type 0
-Begins ids recorded serializable c later = MatchBool serializable (later ≡ c) ((recorded ≡ false) × CatchesUp ids true c later)
+abbrev pub Begins : Ids → Bool → (ℕ → Type 0) → Bool → Caller → Caller → Type 0
+Begins ids recorded At serializable c later = MatchBool serializable (later ≡ c) ((recorded ≡ false) × CatchesUp ids At true c later)
 
 -- it left its reading, or caught up or was to, and nothing else
-abbrev pub Stays : Ids → Caller → Caller → Type 0
-Stays ids c later = (left later ≡ left c) ⊎ ((told : Bool) × CatchesUp ids told c later)
+abbrev pub Stays : Ids → (ℕ → Type 0) → Caller → Caller → Type 0
+Stays ids At c later = (left later ≡ left c) ⊎ ((told : Bool) × CatchesUp ids At told c later)
 
 -- a Range was read so
-pub record LooksUp (ids : Ids) (recorded : Bool) (c : Caller) (query : RangeQuery) (o : Outcome) (later : Caller) : Type 0 where
+pub record LooksUp (ids : Ids) (recorded : Bool) (At : ℕ → Type 0) (c : Caller) (query : RangeQuery) (o : Outcome) (later : Caller) : Type 0 where
   pub from : Caller
-  pub begins : Begins ids recorded query.serializable c from
+  pub begins : Begins ids recorded At query.serializable c from
   pub reads : Reads ids from query o later
 
 -- Only for a Range that then was not read so is a client to catch up that does not read.
-abbrev pub Starts : Ids → Command → Caller → Caller → Type 0
-Starts ids command c from = (left from ≡ left c) ⊎ ((query : RangeQuery) × (command ≡ commands.Range query) × Stays ids c from)
+abbrev pub Starts : Ids → (ℕ → Type 0) → Command → Caller → Caller → Type 0
+Starts ids At command c from = (left from ≡ left c) ⊎ ((query : RangeQuery) × (command ≡ commands.Range query) × Stays ids At c from)
 
 -- It was submitted.
-pub record Submits (ids : Ids) (c : Caller) (asking : Asking) (o : Outcome) (later : Caller) : Type 0 where
+pub record Submits (ids : Ids) (At : ℕ → Type 0) (c : Caller) (asking : Asking) (o : Outcome) (later : Caller) : Type 0 where
   pub from : Caller
-  pub starts : Starts ids asking.command c from
-  pub does : Does ids from asking o later
+  pub starts : Starts ids At asking.command c from
+  pub does : Does ids At from asking o later
 
 -- It is a Range, and it was read beside the engine.
-pub record Looks (ids : Ids) (recorded : Bool) (c : Caller) (command : Command) (o : Outcome) (later : Caller) : Type 0 where
+pub record Looks (ids : Ids) (recorded : Bool) (At : ℕ → Type 0) (c : Caller) (command : Command) (o : Outcome) (later : Caller) : Type 0 where
   pub query : RangeQuery
   pub is : command ≡ commands.Range query
-  pub looks : LooksUp ids recorded c query o later
+  pub looks : LooksUp ids recorded At c query o later
 
 -- ---- a request
 
@@ -169,14 +171,15 @@ pub record Refused (path body : List ℕ) (c : Caller) (o : Outcome) (later : Ca
   pub unwatched : o.watch ≡ None
   pub same : later ≡ c
 
--- of a connection: the command was submitted, or a Range read beside the engine; this says whether events are written down
-abbrev pub Answers : Ids → Bool → Caller → Asked → Outcome → Caller → Type 0
-Answers ids recorded c a o later = Did (path_asked a) a.body (λ command. Submits ids c (asking_by (path_asked a) a.body command) o later
-    ⊎ Looks ids recorded c command o later) ⊎ Refused (path_asked a) a.body c o later
+-- of a connection: the command was submitted, or a Range read beside the engine, by whether events are written down, and at a
+-- moment that was told
+abbrev pub Answers : Ids → Bool → (ℕ → Type 0) → Caller → Asked → Outcome → Caller → Type 0
+Answers ids recorded At c a o later = Did (path_asked a) a.body (λ command. Submits ids At c (asking_by (path_asked a) a.body command) o later
+    ⊎ Looks ids recorded At c command o later) ⊎ Refused (path_asked a) a.body c o later
 
--- of a script: it was submitted
+-- of a script: it was submitted, at the engine's clock, as the moment 0 leaves that
 abbrev pub Posts : Ids → Caller → List ℕ → List ℕ → Outcome → Caller → Type 0
-Posts ids c path body o later = Did path body (λ command. Does ids c (asking_by path body command) o later)
+Posts ids c path body o later = Did path body (λ command. Does ids (λ now. now ≡ 0) c (asking_by path body command) o later)
     ⊎ Refused path body c o later
 
 -- ---- a stream

@@ -14,8 +14,8 @@ pub record Hands : Type 0 where
   pub client : Caller
   pub handed : Option ℕ
 
-abbrev pub Answers : Ids → Bool → Hands → Asked → Outcome → Hands → Type 0
-Answers ids recorded s a o t = engines.Answers ids recorded s.client a o t.client × (t.handed ≡ s.handed)
+abbrev pub Answers : Ids → Bool → (ℕ → Type 0) → Hands → Asked → Outcome → Hands → Type 0
+Answers ids recorded At s a o t = engines.Answers ids recorded At s.client a o t.client × (t.handed ≡ s.handed)
 
 -- a stream goes on elsewhere at once
 abbrev pub Tells : Hands → ℕ → Told → Hands → Type 0

@@ -96,7 +96,7 @@ fn make_expiry_step<L: EngineName, G: Gate, C: Clock, R: Wait>(
     clock: &C,
     client: &mut Client<L>,
 ) -> bool
-    ensures { (now : ℕ) × (step : Result ExpiryOf RefusalOf)
+    ensures { (now : ℕ) × C.Tells clock.now now × (step : Result ExpiryOf RefusalOf)
         × SubmitsExpiry events.now.engine.now client.old now step client.new × (result ≡ has_ended step) }
 {
     ended_lease(events.expire(client, clock.now()))

@@ -5,6 +5,7 @@ ghost use Rattle.http_front.specs.Engines as engines;
 ghost use Rattle.http_front.specs.Engines.{AreTrimmed, Awaits, Does, IsQuiet, Looks, Posts, Says, Submits, lost_answer};
 
 use crate::beside::looked;
+use crate::directed::Standing;
 use engine_lock::{Asked, Client, EngineName, Submitted};
 use http_input::Request;
 use http_loop::{Answering, Told, command_path};
@@ -38,7 +39,7 @@ where
     C: Clock,
     R: Wait + time::Clock,
 {
-    ghost Answers = { λ by. engines.Answers by.events.engine.now L.recorded };
+    ghost Answers = { λ by. engines.Answers by.events.engine.now L.recorded (C.Tells by.clock.now) };
 
     ghost Tells = { λ by. engines.Tells by.events.engine.now (G.Left by.events.gate.now by.call) };
 
@@ -56,7 +57,7 @@ where
             Ok(command) => {
                 let now = self.clock.now();
                 let asked = Asked::by(&command, path, request.body);
-                done(&self.events, alloc, state, now, &asked)
+                done(&self.events, self.clock, alloc, state, now, &asked)
             }
             Err(bad) => refused(alloc, bad),
         }
@@ -116,22 +117,25 @@ fn refused(alloc: Global, bad: Bad) -> Outcome
     }
 }
 
-/// Does the command that a request asks for: reads a Range beside the engine where it can be, and
-/// else submits it.
-fn done<L: EngineName, G: Gate, R: Wait>(
+/// Does the command that a request asks for, at the moment `now`, which the clock told: reads a Range
+/// beside the engine where it can be, and else submits it.
+fn done<L: EngineName, G: Gate, C: Clock, R: Wait>(
     events: &Recorded<'_, L, G, R>,
+    clock: &C,
     alloc: Global,
     client: &mut Client<L>,
     now: u64,
     asked: &Asked<'_>,
 ) -> Outcome
-    ensures { Submits events.now.engine.now client.old asked.now result client.new
-        ⊎ Looks events.now.engine.now L.recorded client.old asked.now.command result client.new }
+    requires { C.Tells clock.now now }
+    ensures { Submits events.now.engine.now (C.Tells clock.now) client.old asked.now result client.new
+        ⊎ Looks events.now.engine.now L.recorded (C.Tells clock.now) client.old asked.now.command
+        result client.new }
 {
-    if let Some(outcome) = looked(events, alloc, client, now, asked.command()) {
+    if let Some(outcome) = looked(events, clock, alloc, client, now, asked.command()) {
         return outcome;
     }
-    performed(events, client, now, asked)
+    performed(events, clock, client, now, asked)
 }
 
 /// Does what a POST of this body to this path asks for on behalf of a client, as an event of a script
@@ -149,21 +153,25 @@ pub fn post<L: EngineName, G: Gate, R: Wait>(
     match read(alloc, path, body) {
         Ok(command) => {
             let asked = Asked::by(&command, path, body);
-            performed(events, client, 0, &asked)
+            performed(events, &Standing, client, 0, &asked)
         }
         Err(bad) => refused(alloc, bad),
     }
 }
 
-/// Submits a command, and does the trimming that its answer waits for.
-fn performed<L: EngineName, G: Gate, R: Wait>(
+/// Submits a command at the moment `now`, which the clock told, and does the trimming that its answer
+/// waits for.
+fn performed<L: EngineName, G: Gate, C: Clock, R: Wait>(
     events: &Recorded<'_, L, G, R>,
+    clock: &C,
     client: &mut Client<L>,
     now: u64,
     asked: &Asked<'_>,
 ) -> Outcome
-    ensures { Does events.now.engine.now client.old asked.now result client.new }
+    requires { C.Tells clock.now now }
+    ensures { Does events.now.engine.now (C.Tells clock.now) client.old asked.now result client.new }
 {
+    let _ = clock;
     let submitted = events.submit(client, now, asked);
     awaited(events, client, submitted)
 }

@@ -59,7 +59,7 @@ where
     C: Clock,
     R: Wait + time::Clock,
 {
-    ghost Answers = { λ w. handing.Answers w.by.events.engine.now L.recorded };
+    ghost Answers = { λ w. handing.Answers w.by.events.engine.now L.recorded (C.Tells w.by.clock.now) };
 
     ghost Tells = { λ w. handing.Tells };
 

@@ -42,6 +42,10 @@ pub trait Directing<L: EngineName> {
 pub(crate) struct Standing;
 
 impl Clock for Standing {
+    ghost use Rattle.std.specs.Prelude.{◌≡◌};
+
+    ghost Tells = { λ c now. now ≡ 0 };
+
     fn now(&self) -> u64 {
         0
     }

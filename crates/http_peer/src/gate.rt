@@ -62,6 +62,10 @@ impl Gate for OpenGate {
 
 /// Tells the moments by which leases end.
 pub trait Clock {
+    /// Which moment it tells.
+    ghost Tells: { Self → ℕ → Type 0 } = { λ _ _. ⊤ };
+
     /// The moment, in milliseconds. One before an earlier one counts as that.
-    fn now(&self) -> u64;
+    fn now(&self) -> u64
+        ensures { Tells self.now result };
 }
