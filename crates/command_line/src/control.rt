@@ -187,7 +187,8 @@ where
 
 /// The revision that a server ended at, where its lines ended in order, too.
 fn both(ended: Result<u64, Fault>, told: Result<(), Fault>) -> Result<u64, Fault>
-    ensures { IfOk result (λ revision. ended ≡ Ok revision) }
+    ensures ended { IfOk result (λ revision. ended ≡ Ok revision) }
+    ensures told { OnOk result (told ≡ Ok tt) }
 {
     match (ended, told) {
         (Ok(revision), Ok(())) => Ok(revision),

@@ -9,8 +9,8 @@ use Rattle.command_line.proofs.control.serve_controlled.Goals as goal
 pub returns-in-Ok-clause-ok : goal.returns-in-Ok-clause-ok
 returns-in-Ok-clause-ok g c =
     let closed = subst (λ a. IfOk c.run_controlled-ended.result (IsOfCore (ids_of a))) (sym c.in-Serve.is) c.run_controlled-ended.ensures.revision in
-    closed_at _ g.W.Write.contents _ _ c.close.result c.run_controlled-ended.result c.in-Ok.revision c.in-Ok.ensures closed c.close.ensures
+    closed_at _ g.W.Write.contents _ _ c.close.result c.run_controlled-ended.result c.in-Ok.revision c.in-Ok.ensures.ended closed c.close.ensures
 
 pub returns-in-Ok-clause-begins : goal.returns-in-Ok-clause-begins
 returns-in-Ok-clause-begins g c = on_ok c.close.result
-    (subst (λ a. IsBegun (ids_of a) (line_events c.args.start.script.items)) (sym c.in-Serve.is) (when_ok c.run_controlled-ended.result (ap is_ok c.in-Ok.ensures) c.run_controlled-ended.ensures.begins))
+    (subst (λ a. IsBegun (ids_of a) (line_events c.args.start.script.items)) (sym c.in-Serve.is) (when_ok c.run_controlled-ended.result (ap is_ok c.in-Ok.ensures.ended) c.run_controlled-ended.ensures.begins))
