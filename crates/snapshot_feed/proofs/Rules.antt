@@ -6,10 +6,10 @@ use lib.ListN.{get_elem?}
 use Rattle.crossbeam_utils.specs.Register.{Admits, TurnsAt, Forks, Merges}
 use Rattle.atomic_table.proofs.Lists.{at_set, at_snoc}
 use Rattle.logbook.specs.Pages.{Book}
-use Rattle.feed_book.specs.Feeds.{Beginning}
+use Rattle.event_book.specs.Rules.{Beginning}
 use Rattle.snapshot_feed.specs.declared.entry.ReadTables.{ReadTables}
 use Rattle.snapshot_feed.specs.declared.rule.Sight.{Sight}
-use Rattle.snapshot_feed.specs.Shown.{Shows, MayBeOf, IsOf, Keeps, SeesFront, looked_at}
+use Rattle.snapshot_feed.specs.Shown.{ShowsWell, MayBeOf, IsOf, Keeps, SeesFront, looked_at}
 
 again : (b c : Book) (v : Option Beginning) → b ≡ c → MayBeOf c v → MayBeOf b v
 again b c v same h = subst (λ d. MayBeOf d v) (sym same) h
@@ -19,7 +19,7 @@ abbrev pub unseen : Sight
 unseen = record { front = None; looks = 0 }
 
 -- the shown value goes from x to y, both of one list
-pub turns : (x y : ReadTables) (seat : ℕ) (v : Sight) → Shows y.tables y.front → y.front.book ≡ x.front.book
+pub turns : (x y : ReadTables) (seat : ℕ) (v : Sight) → ShowsWell y.tables y.front → y.front.book ≡ x.front.book
     → TurnsAt Keeps seat v x y SeesFront
 turns x y seat v shows same views kept at = (
   looked_at y.front v,

@@ -1,10 +1,10 @@
 -- A seat and what is known.
 use Rattle.std.proofs.Common.{◌≡◌, Bool, true, false, Some, refl, sym, ap, ◌∙◌, subst}
 use Rattle.std.specs.Prelude.{MatchBool}
-use Rattle.feed_book.specs.Feeds.{Beginning}
+use Rattle.event_book.specs.Rules.{Beginning}
 use Rattle.snapshot_feed.specs.declared.seat.Seat.{Seat}
 use Rattle.snapshot_feed.specs.declared.seat.Seat.TheVariants.{Out, In}
-use Rattle.snapshot_feed.specs.Shown.{IsOf, Shows}
+use Rattle.snapshot_feed.specs.Shown.{IsOf, ShowsWell}
 use Rattle.snapshot_feed.specs.Seats.{is_in, known_to, IsSeated, MayRead, IsWithin}
 use Rattle.left_right.specs.Sides.{view}
 
@@ -26,7 +26,7 @@ in_seated (Out r) f g h w = absurd h
 in_seated (In r) f g h w = (
   h.0 ∙ ap Some w,
   w,
-  subst (λ k. Shows r.part.value.tables k) w h.2,
+  subst (λ k. ShowsWell r.part.value.tables k) w h.2,
 )
 
 -- the front is of the list that was known

@@ -1,5 +1,5 @@
 //! The feed of what a store publishes.
-ghost use Rattle.std.specs.Prelude.{◌≡◌, ◌<◌, [], length, OnOk, OnErr, IfOk, IfErr, MatchBool};
+ghost use Rattle.std.specs.Prelude.{◌≡◌, ◌<◌, false, [], length, OnOk, OnErr, IfOk, IfErr, MatchBool};
 ghost use Rattle.kv_model.specs.Feed.{published};
 ghost use Rattle.kv_model.specs.declared.refusal.Refusal.TheVariants.{NoPlace};
 ghost use Rattle.event_book.specs.Publishing.{published_by};
