@@ -311,7 +311,7 @@ taking_by true true l t log is w h lost = let bad : true ≡ false = sym h.0 ∙
 taking_by true false l t log is w h lost = (
   record {
     script = script_emptied l log w.script;
-    taken = subst (λ b. MatchBool b ((l.is_lost ≡ true) × ([] ≡ [])) (concat (l.taken ++ l.text ∷ []) ≡ script_of t.front)) (sym is) (h.0, refl);
+    taken = subst (λ b. MatchBool b ((l.is_lost ≡ true) × ((emptied l).text ≡ [])) (concat (emptied l).taken ≡ script_of t.front)) (sym is) (h.0, refl);
     seen = w.seen;
     fit = w.fit;
   },
