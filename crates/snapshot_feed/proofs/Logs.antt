@@ -10,6 +10,7 @@ use mathlib.Core.List.{IsPrefix}
 use Rattle.kv_model.specs.declared.feed.Op.{Op}
 use Rattle.kv_model.specs.Feed.{Published, published}
 use Rattle.store_laws.specs.Snapshots.{Stored, absorb, blank, store_of}
+use Rattle.logbook.specs.Pages.{Book}
 use Rattle.event_book.specs.Events as events
 use Rattle.event_book.specs.Publishing.{published_by}
 use Rattle.event_book.specs.Rules.{Beginning}
@@ -21,7 +22,8 @@ use Rattle.snapshot_feed.specs.declared.entry.ReadTables.{ReadTables}
 use Rattle.snapshot_feed.specs.Entries.{after, ops_of, marked_by}
 use Rattle.snapshot_feed.specs.Shown.{ShowsWell}
 use Rattle.snapshot_feed.specs.Showing.{IsShown}
-use Rattle.snapshot_feed.specs.States.{FeedState, HasAll, HasOperation, Settles, appended, state_by, tried, tries_by}
+use Rattle.snapshot_feed.specs.States.{FeedState, HasAll, HasOperation, Settles, appended, state_by, tried, tries_by, unused}
+use Rattle.snapshot_feed.proofs.Readings.{nothing_is_shown}
 
 -- ---- one entry more
 
@@ -82,6 +84,28 @@ tells_more xs ys more both is some = ⊎_elim (λ p. absurd (none p)) (λ p. p) 
       length-append (published_by ys) more,
     )
 
+-- a front that is handed to a publication
+pub may_mark : (n : ℕ) (f g : Beginning) (es : List Entry) (s : FeedState) → state_by n f es ≡ s → g.book ≡ s.book
+    → published_by g.list ≡ appended s → IsShown g.list → 0 < length s.pending → IsPrefix g.list f.list ⊎ IsPrefix f.list g.list
+    → HasAll g f es
+may_mark n f g es s is book all may some both =
+    let here : published_by g.list ≡ published_by f.list ++ ops_of es = all ∙ ap appended (sym is) in record {
+      book = book ∙ ap (λ (t : FeedState). t.book) (sym is);
+      all = here;
+      begins = tells_more g.list f.list (ops_of es) both here (subst (λ (t : FeedState). 0 < length t.pending) (sym is) some);
+      may = may;
+    }
+
+-- a front that tells all still does once it is logged as the last mark
+pub has_mark : (g f : Beginning) (es ds : List Entry) → HasAll g f es → ops_of ds ≡ ops_of es → marked_by f ds ≡ g → HasAll (marked_by f ds) f ds
+has_mark g f es ds has ops last =
+    subst (λ h. HasAll h f ds) (sym last) (record {
+      book = has.book;
+      all = has.all ∙ ap (λ l. published_by f.list ++ l) (sym ops);
+      begins = has.begins;
+      may = has.may;
+    })
+
 -- ---- what waits
 
 pub settled_by : (b : Bool) (es : List Entry) → IsTrue b ↔ (0 < length es) → HasOperation es
@@ -135,10 +159,14 @@ still_ends (Ok z) x y es ds shows ends h =
     subst (Ends y) (sym h.1) (has_none y.front (goes_on es x.tables y.tables x.front y.front shows ends h.0).0.1)
 still_ends (Err e) x y es ds shows ends h = subst (λ (z : ReadTables). Ends z ds) (sym h.0) (subst (Ends x) (sym h.1) ends)
 
-pub has_all : {X Y : Type 0} (r : Result X Y) (x y : ReadTables) (es ds : List Entry) → ShowsWell x.tables x.front → Ends x es
-    → Publishes x es y ds r → OnOk r (HasAll y.front x.front es)
-has_all (Ok z) x y es ds shows ends h = (goes_on es x.tables y.tables x.front y.front shows ends h.0).1
-has_all (Err e) x y es ds shows ends h = tt
+pub shows_mark : {X Y : Type 0} (r : Result X Y) (x y : ReadTables) (es ds : List Entry) → Publishes x es y ds r
+    → OnOk r (y.front ≡ marked_by x.front es)
+shows_mark (Ok z) x y es ds h = ap (λ (p : Stored × Beginning). p.1) (h.0 ∙ after-all es x.tables x.front)
+shows_mark (Err e) x y es ds h = tt
+
+-- where no event was shown and nothing was logged, that is all
+pub ends_none : (x : ReadTables) (es : List Entry) → es ≡ [] → x.front.list ≡ [] → Ends x es
+ends_none x es none first = subst (Ends x) (sym none) (has_none x.front (subst IsShown (sym first) nothing_is_shown))
 
 -- ---- what a feed is after it
 
@@ -166,3 +194,7 @@ settles_all n m f g es ds has none some is = record {
   begins = has.begins;
   attempts = is ∙ sym (tries_some (ops_of es) n some);
 }
+
+-- a new feed
+pub is_unused : (n : ℕ) (g : Beginning) (ds : List Entry) (b : Book) → n ≡ 0 → g.book ≡ b → g.list ≡ [] → ds ≡ [] → state_by n g ds ≡ unused b
+is_unused n g ds b start book none empty = λ i. record { book = book i; published = none i; pending = ops_of (empty i); attempts = start i }

@@ -1,5 +1,5 @@
 -- A reader's answer is the model's.
-use Rattle.std.proofs.Common.{◌≡◌, List, sym, ap, ◌∙◌, ⊎_elim, inl, inr, Result, Ok, Err}
+use Rattle.std.proofs.Common.{◌≡◌, List, [], sym, ap, ◌∙◌, ⊎_elim, inl, inr, Result, Ok, Err}
 use Rattle.kv_model.specs.declared.call.RangeQuery.{RangeQuery}
 use Rattle.kv_model.specs.declared.refusal.Refusal.{Refusal}
 use Rattle.kv_model.specs.History.{end_of}

@@ -9,7 +9,7 @@ ghost use Rattle.snapshot_feed.specs.States.{Settles, appended, tried, unused, w
 use crate::entry::ReadTables;
 use crate::reader::SnapReader;
 use crate::rule::Tells;
-use crate::writer::{FeedWriter, mark, publish_by, push};
+use crate::writer::{FeedWriter, mark_all, publish_by, push};
 use core::mem::replace_with;
 use event_book::Front;
 use kv_model::feed::{Op, Sink};
@@ -164,11 +164,8 @@ impl Feed {
             attempts,
         } = self;
         *attempts = attempts.wrapping_add(1);
-        if !*marked {
-            if !mark(&mut **writer, front) {
-                return Err(AllocError);
-            }
-            *marked = true;
+        if !mark_all(&mut **writer, marked, front) {
+            return Err(AllocError);
         }
         replace_with(&mut **writer, rt, publish_by::<R>)
     }

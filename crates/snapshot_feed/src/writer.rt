@@ -31,7 +31,7 @@ pub fn push(writer: &mut FeedWriter, op: Op) -> bool
 }
 
 /// Logs a front as the mark of all that was logged, and says whether there was memory for it.
-pub fn mark(writer: &mut FeedWriter, front: &Front) -> bool
+fn mark(writer: &mut FeedWriter, front: &Front) -> bool
     ensures desk { writer.new.desk ≡ writer.old.desk }
     ensures ops { ops_of (drop writer.new.behind writer.new.log.items)
         ≡ ops_of (drop writer.old.behind writer.old.log.items) }
@@ -42,6 +42,31 @@ pub fn mark(writer: &mut FeedWriter, front: &Front) -> bool
 {
     let logged = writer.append(Entry::Mark(front.again()));
     logged.is_ok()
+}
+
+/// Logs this front as the mark of all that was logged, unless the last mark is one of all already, and
+/// says whether the last mark is then.
+pub fn mark_all(writer: &mut FeedWriter, is_marked: &mut bool, front: &Front) -> bool
+    requires front { HasAll front.now writer.old.desk.shown.value.front
+        (drop writer.old.behind writer.old.log.items) }
+    requires marked { is_marked.old ≡ true → HasAll
+        (marked_by writer.old.desk.shown.value.front
+        (drop writer.old.behind writer.old.log.items))
+        writer.old.desk.shown.value.front (drop writer.old.behind writer.old.log.items) }
+    ensures desk { writer.new.desk ≡ writer.old.desk }
+    ensures ops { ops_of (drop writer.new.behind writer.new.log.items)
+        ≡ ops_of (drop writer.old.behind writer.old.log.items) }
+    ensures marked { is_marked.new ≡ true → HasAll
+        (marked_by writer.new.desk.shown.value.front
+        (drop writer.new.behind writer.new.log.items))
+        writer.new.desk.shown.value.front (drop writer.new.behind writer.new.log.items) }
+    ensures is { result ≡ is_marked.new }
+{
+    if *is_marked {
+        return true;
+    }
+    *is_marked = mark(writer, front);
+    *is_marked
 }
 
 /// Shows readers all that was logged. At `Err` memory was wanting, and they see what they saw.
@@ -56,9 +81,8 @@ pub fn publish_by<R: Wait>(writer: FeedWriter, rt: &R) -> (FeedWriter, Result<()
     ensures marked { HasAll
         (marked_by result.0.desk.shown.value.front (drop result.0.behind result.0.log.items))
         result.0.desk.shown.value.front (drop result.0.behind result.0.log.items) }
-    ensures ok { OnOk result.1
-        (HasAll result.0.desk.shown.value.front writer.desk.shown.value.front
-        (drop writer.behind writer.log.items)) }
+    ensures ok { OnOk result.1 (result.0.desk.shown.value.front
+        ≡ marked_by writer.desk.shown.value.front (drop writer.behind writer.log.items)) }
     ensures err { OnErr result.1
         (result.0.desk.shown.value ≡ writer.desk.shown.value) }
     ensures entries { MatchResult result.1
