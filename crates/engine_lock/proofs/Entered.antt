@@ -44,7 +44,7 @@ pub learnt : (b : Bool) (fed : List Published) (log : List Entry) (c later : Cal
     → later ≡ record c { reader = later.reader } → Learns b fed c later → IsTold b c later
 learnt true fed log c later told front same h =
     let seen : fed ≡ published_by later.holder.front = told ∙ ap published_by (sym front ∙ sym (ap (λ (x : Caller). x.holder.front) same)) in
-    (h.0 ∙ seen, subst (IsPrefix c.reader.known) (sym h.0) h.1)
+    (h.0 ∙ seen, h.1)
 learnt false fed log c later told front same h = h
 
 -- what was entered for it stays so

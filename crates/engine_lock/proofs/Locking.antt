@@ -1,5 +1,6 @@
 -- The lock goes on keeping what it keeps as an event is entered.
-use Rattle.std.proofs.Common.{◌≡◌, Bool, true, cond, not, List, [], ◌∷◌, ◌++◌, ap, sym, subst, ◌∙◌}
+use Rattle.std.proofs.Common.{◌≡◌, Bool, true, false, cond, not, List, [], ◌∷◌, ◌++◌, ap, refl, sym, subst, ◌∙◌}
+use mathlib.Core.Bool.{beq}
 use Rattle.kv_model.specs.declared.ids.Ids.{Ids}
 use Rattle.kv_model.specs.Feed.{Published}
 use Rattle.kv_model.specs.World.{World}
@@ -26,3 +27,10 @@ locked_more ids old mid new log later fed more lines noted t x locked moved kept
 pub over_next : (t u : Taken) (all : Bool) (log : List Entry) → u ≡ taken_next t all log → t.is_over ≡ true → u.is_over ≡ true
 over_next t u all log is over =
     ap (λ (x : Taken). x.is_over) is ∙ ap (λ b. (cond b t (record { front = log; is_over = not all })).is_over) over ∙ over
+
+-- two truth values that were found equal
+pub bools : (a b : Bool) → beq a b ≡ true → a ≡ b
+bools true true h = refl
+bools true false h = absurd (cc h)
+bools false true h = absurd (cc h)
+bools false false h = refl

@@ -43,7 +43,7 @@ use Rattle.json_gateway.proofs.Keeps.{spent_rests}
 use Rattle.json_gateway.specs.Runs.{certified_outcome, command_view, delivery_outcome, ending_view, expired_view, message_view, trimmed_view}
 use Rattle.event_book.specs.Asking.{Asking}
 use Rattle.event_book.specs.Events.{Answers, Event, left_by, told_of as told_in}
-use Rattle.event_book.specs.Publishing.{change_by, change_made}
+use Rattle.event_book.specs.Publishing.{change_by, change_made, published_by}
 use Rattle.event_book.proofs.Publishing.{refused_is_untold}
 use Rattle.event_script.specs.Notes.{step_outcome}
 use Rattle.engine_lock.specs.Fits.{MakesOn}
@@ -52,7 +52,7 @@ use Rattle.engine_lock.specs.Fits.{MakesOn}
 
 -- one operation
 pub took : (f g : FeedState) (op : Published) → g ≡ with_op f op → appended g ≡ appended f ++ op ∷ []
-took f g op e = ap appended e ∙ sym (append_assoc f.published f.pending (op ∷ []))
+took f g op e = ap appended e ∙ sym (append_assoc (published_by f.published) f.pending (op ∷ []))
 
 -- none
 still : (f g : FeedState) → g ≡ f → appended g ≡ appended f ++ []

@@ -5,7 +5,7 @@ ghost use Rattle.event_script.specs.Taking.{taken_next, untaken};
 
 use crate::opening::EngineName;
 use event_book::Front;
-use std::marker::Model;
+use std::marker::{Model, PhantomData};
 
 /// Up to which event of the list of the engine `L` its lines were taken, and whether it was told then
 /// that some are missing. What stands under the lock has one, and whoever takes the lines another
@@ -14,6 +14,7 @@ use std::marker::Model;
 pub struct Taken<L: EngineName> {
     front: Front,
     is_over: bool,
+    name: PhantomData<L>,
 }
 
 impl<L: EngineName> Model for Taken<L> {
@@ -40,16 +41,22 @@ impl<L: EngineName> Taken<L> {
         requires history { IsHistory L.ListName.ids front.list }
         ensures { result ≡ untaken is_over }
     {
-        Taken { front, is_over }
+        Taken {
+            front,
+            is_over,
+            name: PhantomData,
+        }
     }
 
     /// A copy. Takes no memory.
     pub(crate) fn again(&self) -> Self
-        ensures { result ≡ self.now }
+        ensures value { result ≡ self.now }
+        ensures history { IsHistory L.ListName.ids result.front }
     {
         Taken {
             front: self.front.again(),
             is_over: self.is_over,
+            name: PhantomData,
         }
     }
 
@@ -57,9 +64,13 @@ impl<L: EngineName> Taken<L> {
     pub(crate) fn is(&self, other: &Self) -> bool
         ensures { result ≡ true → self.now ≡ other.now }
     {
-        self.front.begins_with(&other.front)
-            && other.front.begins_with(&self.front)
-            && self.is_over == other.is_over
+        if !self.front.begins_with(&other.front) {
+            return false;
+        }
+        if !other.front.begins_with(&self.front) {
+            return false;
+        }
+        self.is_over == other.is_over
     }
 
     /// All was taken that was written of the list up to here, of which lines are missing or not. Once

@@ -42,7 +42,7 @@ impl<L: EngineName> State<L> {
         sure(rt, self.taken.is(taken));
         let is_whole = self.lines.take(text);
         self.taken.take_on(is_whole, self.listing.front());
-        taken.take_on(is_whole, self.listing.front());
+        *taken = self.taken.again();
         is_whole
     }
 }
