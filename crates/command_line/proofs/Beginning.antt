@@ -7,8 +7,8 @@ use Rattle.commands.specs.declared.fault.Fault.{Fault}
 use Rattle.commands.specs.declared.fault.Fault.TheVariants as fault
 use Rattle.commands.specs.Faults.{is_write}
 use Rattle.commands.specs.Playing.{PlaysLines, StopsPlaying}
-use Rattle.command_line.specs.From.{IsBegun, IsPlayed, StopsBeginning}
-use Rattle.command_line.specs.Serving.{IsOfRun, IsOfServerAlone, StopsServing}
+use Rattle.command_line.specs.From.{IsBegun, IsPlayed, StopsBeginning, StopsServing}
+use Rattle.command_line.specs.Serving.{IsOfRun, IsOfServerAlone}
 
 pub on_ok : {T E P : Type 0} (r : Result T E) → P → OnOk r P
 on_ok (Ok x) p = p

@@ -34,3 +34,9 @@ IsBegun ids lines = (c d : Caller) × IsNew c × PlaysLines (IsPlayed ids) lines
 abbrev pub StopsBeginning : Ids → List (Option WireEvent) → Fault → Type 0
 StopsBeginning ids lines (fault.Server front) = IsOfServer front
 StopsBeginning ids lines f = (c d : Caller) × IsNew c × StopsPlaying (IsPlayed ids) lines c f d
+
+-- A server ends so before its last line: no memory was found for the engine, or `pool` failed, or not every line of the script that
+-- it goes on from was played.
+abbrev pub StopsServing : Ids → List (Option WireEvent) → Fault → Type 0
+StopsServing ids lines fault.Memory = ⊤
+StopsServing ids lines f = StopsBeginning ids lines f

@@ -4,10 +4,10 @@ ghost use Rattle.std.specs.Io.KnownBytes.{Appends};
 ghost use Rattle.kv_model.specs.Wire as wire;
 ghost use Rattle.json_gateway.specs.Runs.{outcome_view};
 ghost use Rattle.commands.specs.Controlling.{made_view};
-ghost use Rattle.http_front.specs.Ends.{IsClosed};
+ghost use Rattle.command_line.specs.Histories.{IsOfHistory};
 ghost use Rattle.command_line.specs.Controls.{IsMade};
 ghost use Rattle.command_line.specs.From.{IsBegun};
-ghost use Rattle.command_line.specs.Serving.{IsOfCore, asks_to_serve, closing_line, ids_in, ids_of};
+ghost use Rattle.command_line.specs.Serving.{asks_to_serve, closing_line, ids_in, ids_of};
 ghost use Rattle.commands.specs.Script.{line_events};
 
 use crate::from::{Start, Starts, begin};
@@ -128,8 +128,8 @@ pub fn serve_controlled<T: Starts, G: Gate + Sync, R, In: BufRead, W: Write>(
 ) -> Result<(), Fault>
 where
     R: Wait + Threads + time::Clock + Net + Sync,
-    ensures ok { OnOk result ((between : W) × ((core : _) × IsClosed (ids_of args.now) core × Appends
-        (W.contents between) (W.contents w.new) (closing_line core.store.revision))) }
+    ensures ok { OnOk result ((between : W) × ((n : _) × IsOfHistory (ids_of args.now) n × Appends
+        (W.contents between) (W.contents w.new) (closing_line n))) }
     ensures begins { OnOk result (IsBegun (ids_of args.now) (line_events start.entry.script.items)) }
     ensures unasked { asks_to_serve args.now ≡ false → (result ≡ Err Fault.Arguments) × (w.new ≡ w.old) }
 {
@@ -173,7 +173,7 @@ fn run_controlled<T: Starts, G: Gate + Sync, R, In: BufRead, W: Write>(
 ) -> Result<u64, Fault>
 where
     R: Wait + Threads + time::Clock + Net + Sync,
-    ensures revision { IfOk result (IsOfCore (ids_in serve.now)) }
+    ensures revision { IfOk result (IsOfHistory (ids_in serve.now)) }
     ensures begins { OnOk result (IsBegun (ids_in serve.now) (line_events start.entry.script.items)) }
 {
     let is_recorded = lines.gate.is_recorded();
@@ -220,7 +220,7 @@ where
     requires book { opening.book ≡ L.ListName.book }
     requires recorded { is_recorded ≡ L.recorded }
     requires ids { ids_in serve.now ≡ L.ListName.ids }
-    ensures revision { IfOk result (IsOfCore (ids_in serve.now)) }
+    ensures revision { IfOk result (IsOfHistory (ids_in serve.now)) }
     ensures begins { OnOk result (IsBegun (ids_in serve.now) (line_events start.entry.script.items)) }
 {
     let gate = lines.gate;

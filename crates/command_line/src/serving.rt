@@ -4,12 +4,12 @@ ghost use Rattle.std.specs.Prelude.{MatchResult};
 ghost use Rattle.std.specs.Time.{instant_nanos};
 ghost use Rattle.std.specs.Io.KnownBytes.{Appends};
 ghost use Rattle.commands.specs.Faults.{is_write};
-ghost use Rattle.command_line.specs.From.{IsBegun};
-ghost use Rattle.command_line.specs.Serving.{IsOfCore, IsOfRun, IsOfServerAlone, StopsServing, asks_to_serve};
+ghost use Rattle.command_line.specs.From.{IsBegun, StopsServing};
+ghost use Rattle.command_line.specs.Serving.{IsOfRun, IsOfServerAlone, asks_to_serve};
 ghost use Rattle.command_line.specs.Serving.{closing_line, connections_of, ids_in, ids_of};
 ghost use Rattle.commands.specs.Script.{line_events};
 ghost use Rattle.commands.specs.Writes.{AppendsFront, Writes};
-ghost use Rattle.http_front.specs.Ends.{IsClosed};
+ghost use Rattle.command_line.specs.Histories.{IsOfHistory};
 
 use crate::from::{Start, Starts, Unheard, begin};
 use command_words::{Args, Serve};
@@ -60,8 +60,7 @@ fn millis_between(start: Instant, now: Instant) -> u64
 
 /// Serves the connections that come in at a listener, as the arguments ask, and writes the line
 /// `closed at revision` and the revision of the store when it has ended. It begins with an empty store.
-/// That revision is of the world which the history of all that was done leads to, and 1 plus all changes
-/// that the server's clients made in it (`IsClosed` of `http_front`).
+/// That revision is of the world which the one history of all that was done leads to (`IsOfHistory`).
 ///
 /// The moments by which leases end are milliseconds since its start. Nothing is written before it
 /// has ended.
@@ -77,11 +76,11 @@ pub fn serve_on<R: Wait + Threads + time::Clock + Net + Sync, W: Write>(
     args: &Args<'_>,
     w: &mut W,
 ) -> Result<(), Fault>
-    ensures ok { OnOk result ((core : _) × IsClosed (ids_of args.now) core
-        × Appends (W.contents w.old) (W.contents w.new) (closing_line core.store.revision)) }
+    ensures ok { OnOk result ((n : _) × IsOfHistory (ids_of args.now) n
+        × Appends (W.contents w.old) (W.contents w.new) (closing_line n)) }
     ensures unwritten { IfErr result (λ fault. is_write fault ≡ false → w.new ≡ w.old) }
-    ensures cut { IfErr result (λ fault. is_write fault ≡ true → (core : _) × IsClosed (ids_of args.now) core
-        × AppendsFront (W.contents w.old) (W.contents w.new) (closing_line core.store.revision)) }
+    ensures cut { IfErr result (λ fault. is_write fault ≡ true → (n : _) × IsOfHistory (ids_of args.now) n
+        × AppendsFront (W.contents w.old) (W.contents w.new) (closing_line n)) }
     ensures fault { IfErr result (λ fault. asks_to_serve args.now ≡ true
         → is_write fault ≡ false → IsOfRun fault) }
     ensures unasked { asks_to_serve args.now ≡ false → result ≡ Err Fault.Arguments }
@@ -113,11 +112,11 @@ pub fn serve_by<T: Starts, G, R, W: Write>(
 where
     G: Gate + Sync,
     R: Wait + Threads + time::Clock + Net + Sync,
-    ensures ok { OnOk result ((core : _) × IsClosed (ids_of args.now) core
-        × Appends (W.contents w.old) (W.contents w.new) (closing_line core.store.revision)) }
+    ensures ok { OnOk result ((n : _) × IsOfHistory (ids_of args.now) n
+        × Appends (W.contents w.old) (W.contents w.new) (closing_line n)) }
     ensures unwritten { IfErr result (λ fault. is_write fault ≡ false → w.new ≡ w.old) }
-    ensures cut { IfErr result (λ fault. is_write fault ≡ true → (core : _) × IsClosed (ids_of args.now) core
-        × AppendsFront (W.contents w.old) (W.contents w.new) (closing_line core.store.revision)) }
+    ensures cut { IfErr result (λ fault. is_write fault ≡ true → (n : _) × IsOfHistory (ids_of args.now) n
+        × AppendsFront (W.contents w.old) (W.contents w.new) (closing_line n)) }
     ensures begins { OnOk result (IsBegun (ids_of args.now) (line_events start.entry.script.items)) }
     ensures fault { IfErr result (λ fault. asks_to_serve args.now ≡ true → is_write fault ≡ false
         → StopsServing (ids_of args.now) (line_events start.entry.script.items) fault) }
@@ -173,7 +172,7 @@ fn run_server<T: Starts, G: Gate + Sync, R: Wait + Threads + time::Clock + Net +
     serve: &Serve<'_>,
     gate: &G,
 ) -> Result<u64, Fault>
-    ensures revision { IfOk result (IsOfCore (ids_in serve.now)) }
+    ensures revision { IfOk result (IsOfHistory (ids_in serve.now)) }
     ensures begins { OnOk result (IsBegun (ids_in serve.now) (line_events start.entry.script.items)) }
     ensures fault { IfErr result (λ fault. is_write fault ≡ false) }
     ensures kind { IfErr result (StopsServing (ids_in serve.now) (line_events start.entry.script.items)) }
@@ -216,7 +215,7 @@ where
     requires book { opening.book ≡ L.ListName.book }
     requires recorded { is_recorded ≡ L.recorded }
     requires ids { ids_in serve.now ≡ L.ListName.ids }
-    ensures revision { IfOk result (IsOfCore (ids_in serve.now)) }
+    ensures revision { IfOk result (IsOfHistory (ids_in serve.now)) }
     ensures begins { OnOk result (IsBegun (ids_in serve.now) (line_events start.entry.script.items)) }
     ensures fault { IfErr result (λ fault. is_write fault ≡ false) }
     ensures kind { IfErr result (StopsServing (ids_in serve.now) (line_events start.entry.script.items)) }
@@ -302,7 +301,7 @@ fn run_pool<L: EngineName + Send + Sync, G: Gate + Sync, R>(
 where
     R: Wait + Threads + time::Clock + Net + Sync,
     requires { begun.engine ≡ ids_in serve.now }
-    ensures revision { IfOk result (IsOfCore (ids_in serve.now)) }
+    ensures revision { IfOk result (IsOfHistory (ids_in serve.now)) }
     ensures fault { IfErr result IsOfServerAlone }
 {
     let Begun { engine, client } = begun;

@@ -26,7 +26,7 @@
 //! `tests/allocations_engine` refuses each of its allocations in turn.
 #![tactic(auto)]
 
-ghost use Rattle.std.specs.Prelude.{◌≡◌};
+ghost use Rattle.std.specs.Prelude.{◌≡◌, false};
 
 mod events;
 mod lines;

@@ -1,5 +1,5 @@
 //! The calls of an engine, each by itself.
-ghost use Rattle.std.specs.Prelude.{◌≡◌};
+ghost use Rattle.std.specs.Prelude.{◌≡◌, false};
 
 use crate::lock_replies::ONES;
 use crate::texts::{GRANT, PUT, WATCH};

@@ -1,5 +1,5 @@
 //! The worked rows through an engine: each reply, byte for byte, and what is left when it closes.
-ghost use Rattle.std.specs.Prelude.{◌≡◌};
+ghost use Rattle.std.specs.Prelude.{◌≡◌, false};
 
 use crate::rows;
 use crate::rows::{Row, Step};

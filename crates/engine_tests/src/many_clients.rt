@@ -1,6 +1,6 @@
 //! Eight clients of one engine, each in a thread of its own, beside a thread of trimming steps: when
 //! all have ended, what is kept is certified, and the shares add up.
-ghost use Rattle.std.specs.Prelude.{◌≡◌};
+ghost use Rattle.std.specs.Prelude.{◌≡◌, false};
 
 use crate::lock_replies::ONES;
 use crate::texts::{DELETE, GRANT, PUT, PUT_A_1, PUT_B_1, RANGE};

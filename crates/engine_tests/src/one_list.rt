@@ -1,6 +1,6 @@
 //! Events of two clients in the list of all events of one engine: each answer is told behind all events
 //! before it, whoever made them, and each change is of the client that made it alone.
-ghost use Rattle.std.specs.Prelude.{◌≡◌};
+ghost use Rattle.std.specs.Prelude.{◌≡◌, false};
 
 use crate::lock_replies::ONES;
 use crate::texts::{COMPACT, GRANT, PUT, PUT_A_1, PUT_B_1, RANGE, WATCH};

@@ -1,5 +1,5 @@
 //! What a client reads beside the engine: its own changes, and what others made before it was told.
-ghost use Rattle.std.specs.Prelude.{◌≡◌};
+ghost use Rattle.std.specs.Prelude.{◌≡◌, false};
 
 use crate::lock_replies::ONES;
 use crate::texts::{COMPACT, PUT, PUT_A_1, PUT_A_2, PUT_B_1, RANGE};

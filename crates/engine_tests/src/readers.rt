@@ -1,6 +1,6 @@
 //! Writers, readers beside them, and a thread that trims and compacts, on one engine: no reader goes
 //! back, each of its replies is that of the history at its revision, and the shares add up.
-ghost use Rattle.std.specs.Prelude.{◌≡◌};
+ghost use Rattle.std.specs.Prelude.{◌≡◌, false};
 
 use crate::lock_replies::ONES;
 use crate::many_clients::{joined, made_clients, sum_of};

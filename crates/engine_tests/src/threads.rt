@@ -1,5 +1,5 @@
 //! Two threads, each with a client of its own, share one engine.
-ghost use Rattle.std.specs.Prelude.{◌≡◌};
+ghost use Rattle.std.specs.Prelude.{◌≡◌, false};
 
 use crate::lock_replies::ONES;
 use crate::texts::{PUT, PUT_A_1, RANGE};

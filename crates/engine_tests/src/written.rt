@@ -1,5 +1,5 @@
 //! What an engine writes down of its events.
-ghost use Rattle.std.specs.Prelude.{◌≡◌};
+ghost use Rattle.std.specs.Prelude.{◌≡◌, false, true};
 
 use crate::lock_replies::ONES;
 use crate::texts::{GRANT, PUT, WATCH};

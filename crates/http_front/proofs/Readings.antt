@@ -51,8 +51,8 @@ reads_client c d e h b l = l ∙ ap left h ∙ (λ i. record c { reader = record
 -- one that was to catch up
 pub caught : (ids : Ids) (recorded : Bool) (At : ℕ → Type 0) (c d : Caller) (now : ℕ) (b : Bool) → At now → recorded ≡ false → lock.CatchesUp ids c now b d
     → MatchBool b ((recorded ≡ false) × CatchesUp ids At true c d) (Stays ids At c d)
-caught ids recorded At c d now true at no h = (no, (now, at, h))
-caught ids recorded At c d now false at no h = inr (false, (now, at, h))
+caught ids recorded At c d now true at unwritten h = (unwritten, (now, at, h))
+caught ids recorded At c d now false at unwritten h = inr (false, (now, at, h))
 
 -- one that was to read then, and did not
 pub stays : (ids : Ids) (recorded : Bool) (At : ℕ → Type 0) (s : Bool) (c d e : Caller) → Begins ids recorded At s c d → e ≡ left d → Stays ids At c e

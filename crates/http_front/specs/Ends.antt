@@ -1,9 +1,5 @@
 -- How a server ends.
-use Rattle.std.specs.Prelude.{List, ⊤}
-use Rattle.kv_model.specs.declared.ids.Ids.{Ids}
-use Rattle.request_core.specs.State.{CoreState}
-use Rattle.engine_lock.specs.Entering.{Closes}
-use Rattle.engine_lock.specs.Locked.{Caller}
+use Rattle.std.specs.Prelude.{⊤}
 use Rattle.http_front.specs.declared.threads.Trouble.{Trouble}
 use Rattle.http_front.specs.declared.threads.Trouble.TheVariants as trouble
 use Rattle.http_reply.specs.declared.front.Front.{Front}
@@ -22,8 +18,3 @@ abbrev pub fault_of : Trouble → Front
 fault_of trouble.Spawn = front.Spawn
 fault_of trouble.Accept = front.Accept
 fault_of trouble.Memory = front.Memory
-
--- There is one history of all that was done, each event of which is of one of these clients: the core stands for the world
--- that it leads to, and its revision is 1 plus all changes that they made.
-abbrev pub IsClosed : Ids → CoreState → Type 0
-IsClosed ids core = (clients : List Caller) × Closes ids core clients

@@ -1,6 +1,7 @@
 //! A server that somebody ends by hand: no clock, no expiry and no trimming of its own.
 ghost use Rattle.std.specs.Prelude.{IfOk, IfErr};
-ghost use Rattle.http_front.specs.Ends.{IsClosed, IsOfServer};
+ghost use Rattle.http_front.specs.Closed.{IsClosed};
+ghost use Rattle.http_front.specs.Ends.{IsOfServer};
 
 use crate::begun::{Begun, Limits};
 use crate::duties::Duty;

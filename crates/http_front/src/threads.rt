@@ -2,7 +2,8 @@
 ghost use Rattle.std.specs.Prelude.{◌≡◌, length, None, Err, IfOk, IfErr, IfSome};
 ghost use Rattle.engine_lock.specs.Entering.{Closes};
 ghost use Rattle.engine_lock.specs.Locked.{IsNew};
-ghost use Rattle.http_front.specs.Ends.{IsClosed, IsOfServer, fault_of};
+ghost use Rattle.http_front.specs.Closed.{IsClosed};
+ghost use Rattle.http_front.specs.Ends.{IsOfServer, fault_of};
 
 use crate::begun::{Begun, Limits};
 use crate::duties::{Duty, Worked, keep};

@@ -1,5 +1,5 @@
 //! Who answers a connection: a core by itself, or an engine on behalf of one of its clients.
-ghost use Rattle.std.specs.Prelude.{◌≡◌};
+ghost use Rattle.std.specs.Prelude.{◌≡◌, false};
 
 use crate::peers::{Coming, Going, Then, short, willing};
 use crate::texts::{CREATED, PUT, PUT_REPLY, REPLIES, REQUESTS};

@@ -1,5 +1,5 @@
 //! Streams that stand: each call of them, over an engine, and how each of them ends.
-ghost use Rattle.std.specs.Prelude.{◌≡◌, ⊤};
+ghost use Rattle.std.specs.Prelude.{◌≡◌, ⊤, false};
 
 use crate::sides::ONES;
 use engine_lock::{Asked, Client, Engine, EngineName, Opening};

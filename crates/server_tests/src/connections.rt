@@ -1,5 +1,5 @@
 //! One connection of a server, over an engine of its own.
-ghost use Rattle.std.specs.Prelude.{◌≡◌};
+ghost use Rattle.std.specs.Prelude.{◌≡◌, false};
 
 use crate::texts::{ONES, PUT, PUT_REPLY, Still};
 use engine_lock::{Client, Engine, EngineName, Opening};

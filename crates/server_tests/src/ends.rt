@@ -1,5 +1,5 @@
 //! Servers that let no connection in.
-ghost use Rattle.std.specs.Prelude.{◌≡◌};
+ghost use Rattle.std.specs.Prelude.{◌≡◌, false};
 
 use crate::texts::{ONES, Still};
 use engine_lock::{Engine, EngineName, Opening};

@@ -1,5 +1,5 @@
 //! Two connections of one server: the first is answered only when the second has been.
-ghost use Rattle.std.specs.Prelude.{◌≡◌};
+ghost use Rattle.std.specs.Prelude.{◌≡◌, false};
 
 use crate::texts::{LAST_PUT, LAST_PUT_REPLIES, ONES, Still};
 use engine_lock::{Engine, EngineName, Opening};

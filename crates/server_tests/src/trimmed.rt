@@ -1,5 +1,5 @@
 //! Trimming goes on beside the connections, whatever was done before.
-ghost use Rattle.std.specs.Prelude.{◌≡◌};
+ghost use Rattle.std.specs.Prelude.{◌≡◌, false};
 
 use crate::texts::{COMPACTED_PUTS, ONES, Still};
 use engine_lock::{Engine, EngineName, Opening};

@@ -1,3 +1,4 @@
+use Rattle.std.specs.Prelude.{false}
 use Rattle.engine_script.proofs.answer_script.Given as goal
 
 abbrev pub ghosts-answer_on-L-EngineName : goal.ghosts-answer_on-L-EngineName

@@ -1,6 +1,6 @@
 use Rattle.commands.specs.Script.{line_events}
 use Rattle.std.proofs.Common.{IfOk, ◌∙◌, subst}
-use Rattle.http_front.specs.Ends.{IsClosed}
+use Rattle.http_front.specs.Closed.{IsClosed}
 use Rattle.command_line.specs.From.{IsBegun}
 use Rattle.command_line.proofs.Beginning.{on_ok}
 use Rattle.command_line.proofs.Closing.{of_core}

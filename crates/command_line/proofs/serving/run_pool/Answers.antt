@@ -1,5 +1,5 @@
 use Rattle.std.proofs.Common.{IfOk, subst}
-use Rattle.http_front.specs.Ends.{IsClosed}
+use Rattle.http_front.specs.Closed.{IsClosed}
 use Rattle.command_line.proofs.Closing.{of_core}
 use Rattle.command_line.proofs.serving.run_pool.Goals as goal
 

@@ -1,3 +1,4 @@
+use Rattle.std.specs.Prelude.{false}
 use Rattle.engine_tests.proofs.calls.run_closed_twice.Given as goal
 
 abbrev pub ghosts-closed_twice-L-EngineName : goal.ghosts-closed_twice-L-EngineName

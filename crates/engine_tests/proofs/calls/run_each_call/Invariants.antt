@@ -1,3 +1,4 @@
+use Rattle.std.specs.Prelude.{false}
 use Rattle.engine_tests.proofs.calls.run_each_call.Given as goal
 
 abbrev pub ghosts-each_call-L-EngineName : goal.ghosts-each_call-L-EngineName

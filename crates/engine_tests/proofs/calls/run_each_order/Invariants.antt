@@ -1,3 +1,4 @@
+use Rattle.std.specs.Prelude.{false}
 use Rattle.engine_tests.proofs.calls.run_each_order.Given as goal
 
 abbrev pub ghosts-each_order-L-EngineName : goal.ghosts-each_order-L-EngineName

@@ -1,3 +1,4 @@
+use Rattle.std.specs.Prelude.{false}
 use Rattle.engine_tests.proofs.calls.run_made.Given as goal
 
 abbrev pub ghosts-made-L-EngineName : goal.ghosts-made-L-EngineName

@@ -1,3 +1,4 @@
+use Rattle.std.specs.Prelude.{false}
 use Rattle.engine_tests.proofs.many_clients.run_many.Given as goal
 
 abbrev pub ghosts-run-L-EngineName : goal.ghosts-run-L-EngineName

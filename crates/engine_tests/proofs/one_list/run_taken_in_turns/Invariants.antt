@@ -1,3 +1,4 @@
+use Rattle.std.specs.Prelude.{false}
 use Rattle.engine_tests.proofs.one_list.run_taken_in_turns.Given as goal
 
 abbrev pub ghosts-taken_in_turns-L-EngineName : goal.ghosts-taken_in_turns-L-EngineName

@@ -1,3 +1,4 @@
+use Rattle.std.specs.Prelude.{false}
 use Rattle.engine_tests.proofs.read_back.run_read_back.Given as goal
 
 abbrev pub ghosts-run-L-EngineName : goal.ghosts-run-L-EngineName

@@ -1,3 +1,4 @@
+use Rattle.std.specs.Prelude.{false}
 use Rattle.engine_tests.proofs.threads.run_shared.Given as goal
 
 abbrev pub ghosts-shared-L-EngineName : goal.ghosts-shared-L-EngineName

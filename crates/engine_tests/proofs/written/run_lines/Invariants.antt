@@ -1,3 +1,4 @@
+use Rattle.std.specs.Prelude.{true}
 use Rattle.engine_tests.proofs.written.run_lines.Given as goal
 
 abbrev pub ghosts-lines-L-EngineName : goal.ghosts-lines-L-EngineName

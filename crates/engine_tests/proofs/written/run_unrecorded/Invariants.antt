@@ -1,3 +1,4 @@
+use Rattle.std.specs.Prelude.{false}
 use Rattle.engine_tests.proofs.written.run_unrecorded.Given as goal
 
 abbrev pub ghosts-unrecorded-L-EngineName : goal.ghosts-unrecorded-L-EngineName

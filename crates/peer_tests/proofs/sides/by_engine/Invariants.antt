@@ -1,3 +1,4 @@
+use Rattle.std.specs.Prelude.{false}
 use Rattle.peer_tests.proofs.sides.by_engine.Given as goal
 
 abbrev pub ghosts-worked-L-EngineName : goal.ghosts-worked-L-EngineName

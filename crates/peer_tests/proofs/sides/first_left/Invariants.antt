@@ -1,3 +1,4 @@
+use Rattle.std.specs.Prelude.{false}
 use Rattle.peer_tests.proofs.sides.first_left.Given as goal
 
 abbrev pub ghosts-left-L-EngineName : goal.ghosts-left-L-EngineName

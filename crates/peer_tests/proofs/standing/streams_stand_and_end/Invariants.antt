@@ -1,3 +1,4 @@
+use Rattle.std.specs.Prelude.{false}
 use Rattle.peer_tests.proofs.standing.streams_stand_and_end.Given as goal
 
 abbrev pub ghosts-stand-L-EngineName : goal.ghosts-stand-L-EngineName

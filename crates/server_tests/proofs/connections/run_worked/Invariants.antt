@@ -1,3 +1,4 @@
+use Rattle.std.specs.Prelude.{false}
 use Rattle.server_tests.proofs.connections.run_worked.Given as goal
 
 abbrev pub ghosts-worked-L-EngineName : goal.ghosts-worked-L-EngineName

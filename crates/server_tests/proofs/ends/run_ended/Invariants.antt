@@ -1,3 +1,4 @@
+use Rattle.std.specs.Prelude.{false}
 use Rattle.server_tests.proofs.ends.run_ended.Given as goal
 
 abbrev pub ghosts-ended-L-EngineName : goal.ghosts-ended-L-EngineName

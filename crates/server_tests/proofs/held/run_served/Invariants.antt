@@ -1,3 +1,4 @@
+use Rattle.std.specs.Prelude.{false}
 use Rattle.server_tests.proofs.held.run_served.Given as goal
 
 abbrev pub ghosts-served-L-EngineName : goal.ghosts-served-L-EngineName
