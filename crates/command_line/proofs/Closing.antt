@@ -5,7 +5,6 @@ use Rattle.kv_model.specs.declared.ids.Ids.{Ids}
 use Rattle.request_core.specs.State.{CoreState}
 use Rattle.engine_lock.specs.Locked.{Caller}
 use Rattle.http_front.specs.Closed.{IsClosed}
-use Rattle.http_reply.specs.declared.front.Front.{Front}
 use Rattle.commands.specs.Faults.{is_write}
 use Rattle.commands.specs.Writes.{AppendsFront}
 use Rattle.commands.specs.declared.fault.Fault.{Fault}
@@ -39,7 +38,7 @@ of_closed ids core h = record {
   revision_is = h.1.stands.revision_is;
 }
 
-pub of_core : (ids : Ids) (made : Result CoreState Front) (r : Result ℕ Fault) → IfOk made (λ core. IsClosed ids core)
+pub of_core : (ids : Ids) (made : Result CoreState _) (r : Result ℕ Fault) → IfOk made (λ core. IsClosed ids core)
     → MatchResult made (λ core. r ≡ Ok core.store.revision) (λ front. r ≡ Err (fault.Server front)) → IfOk r (IsOfHistory ids)
 of_core ids (Ok core) r h e = subst (λ x. IfOk x (IsOfHistory ids)) (sym e) (of_closed ids core h)
 of_core ids (Err front) r h e = subst (λ x. IfOk x (IsOfHistory ids)) (sym e) tt

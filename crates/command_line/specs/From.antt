@@ -1,5 +1,5 @@
 -- A server that goes on from a script.
-use Rattle.std.specs.Prelude.{◌≡◌, List, Option}
+use Rattle.std.specs.Prelude.{◌≡◌, List, Option, ⊤}
 use Rattle.kv_model.specs.declared.ids.Ids.{Ids}
 use Rattle.kv_model.specs.Wire.{WireEvent, WireOutcome}
 use Rattle.json_gateway.specs.declared.outcome.Outcome.{Outcome}

@@ -1,5 +1,5 @@
 -- A server: how it answers, and what it writes when it has ended.
-use Rattle.std.specs.Prelude.{◌≡◌, ⊤, ℕ, ◌-◌, ◌^◌, List, [], ◌∷◌, ◌++◌, Bool, true, false, ◌==◌, if◌then◌else◌, codes, decimal}
+use Rattle.std.specs.Prelude.{⊤, ℕ, ◌-◌, ◌^◌, List, [], ◌∷◌, ◌++◌, Bool, true, false, ◌==◌, if◌then◌else◌, codes, decimal}
 use Rattle.kv_model.specs.declared.ids.Ids.{Ids}
 use Rattle.http_front.specs.Ends.{IsOfServer}
 use Rattle.commands.specs.declared.fault.Fault.{Fault}
