@@ -179,7 +179,13 @@ where
     let is_recorded = lines.gate.is_recorded();
     match Opening::for_clients(alloc, rt, clients_of(serve)) {
         Ok(opening) => controlled_revision::<Brand, T, G, R, In, W>(
-            rt, alloc, opening, is_recorded, start, serve, lines,
+            rt,
+            alloc,
+            opening,
+            is_recorded,
+            start,
+            serve,
+            lines,
         ),
         Err(_) => Err(Fault::Memory),
     }
