@@ -8,4 +8,5 @@ pub mod Parts
 pub mod Reading
 pub mod Signs
 pub mod Transactions
+pub mod Values
 pub mod Watches

@@ -1,69 +1,60 @@
 //! The object that a body is.
 ghost use Rattle.std.specs.Prelude.{◌≡◌, ◌<◌, length, Err};
-ghost use Rattle.serde_json.specs.View.{view, members_view};
 ghost use Rattle.kv_model.specs.Requests as requests;
-ghost use Rattle.gateway_read.specs.Reading.{Gives, IsParsed, Tells};
+ghost use Rattle.gateway_read.specs.Reading.{Gives, Tells};
+ghost use Rattle.gateway_read.specs.Values.{view};
 ghost use Rattle.gateway_read.specs.declared.bad.Bad.TheVariants.{NotJson, TooLong};
 ghost use Rattle.std.specs.Str.{IsUtf8};
 
 use crate::bad::Bad;
-use serde_json::{Error, Map, Value};
+use crate::value::is_in_range;
+use json::{Error, Reader, Scratch, Value};
 use std::alloc::Global;
 use std::str;
 
 /// The longest body, in bytes.
 const LONGEST_BODY: usize = 1_572_864;
 
-/// The members of a body that is a JSON object. No body at all is an empty object. A body that is
-/// too long takes no memory.
-pub(crate) fn object_of(alloc: Global, body: &[u8]) -> Result<Map<String, Value>, Bad>
-    ensures gives { Gives (λ members. members_view members.entries) result
-        (requests.object_of body.now) }
-    ensures too_long { requests.longest_body < length body.now → result ≡ Err TooLong }
-{
+/// How deep arrays and objects may nest.
+const DEEPEST: usize = 127;
+
+/// The value of a body. No body at all is an empty object. A body that is too long takes no memory.
+pub(crate) fn value_of<'a>(
+    alloc: Global,
+    scratch: &'a mut Scratch,
+    body: &'a [u8],
+) -> Result<Value<'a>, Bad> {
     if body.len() > LONGEST_BODY {
         return Err(Bad::TooLong);
     }
     let body = if body.is_empty() { b"{}" } else { body };
-    members_of(value_of(alloc, body)?)
-}
-
-/// The value of a JSON text (RFC 8259), which is UTF-8. Bytes that are not take no memory.
-fn value_of(alloc: Global, text: &[u8]) -> Result<Value, Bad>
-    ensures gives { Gives view result
-        (requests.some_or requests.not_json (requests.json_of text.now)) }
-    ensures not_text { (IsUtf8 text.now → ⊥) → result ≡ Err NotJson }
-{
-    match str::from_utf8(text) {
-        Ok(text) => parsed(Value::from_str(alloc, text)),
+    match str::from_utf8(body) {
+        Ok(text) => read_text(alloc, scratch, text),
         Err(_) => Err(Bad::NotJson),
     }
 }
 
-/// What a parse came to: the value, or `Memory` where the parse found none, or `NotJson`. Takes no
-/// memory.
-fn parsed(made: Result<Value, Error>) -> Result<Value, Bad>
-    ensures { IsParsed made result }
-{
-    match made {
-        Ok(value) => Ok(value),
-        Err(refused) => {
-            if refused.is_memory() {
-                Err(Bad::Memory)
-            } else {
-                Err(Bad::NotJson)
-            }
-        }
+fn read_text<'a>(
+    alloc: Global,
+    scratch: &'a mut Scratch,
+    text: &'a str,
+) -> Result<Value<'a>, Bad> {
+    match read_whole(alloc, scratch, text) {
+        Ok(value) => if is_in_range(&value) { Ok(value) } else { Err(Bad::NotJson) },
+        Err(Error::OutOfMemory) => Err(Bad::Memory),
+        Err(_) => Err(Bad::NotJson),
     }
 }
 
-/// The members of a value that is an object. Takes no memory.
-fn members_of(value: Value) -> Result<Map<String, Value>, Bad>
-    ensures { Tells (λ members. members_view members.entries) result
-        (requests.some_or requests.not_json (requests.members_of (view value))) }
-{
-    match value {
-        Value::Object(members) => Ok(members),
-        _other => Err(Bad::NotJson),
+fn read_whole<'a>(
+    alloc: Global,
+    scratch: &'a mut Scratch,
+    text: &'a str,
+) -> Result<Value<'a>, Error> {
+    let mut reader = Reader::new(text, scratch)?;
+    let value = Value::read(alloc, &mut reader, DEEPEST)?;
+    if reader.next().is_some() {
+        return Err(Error::Invalid);
     }
+    Ok(value)
 }

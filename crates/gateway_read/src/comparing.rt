@@ -1,6 +1,6 @@
 //! A compare of a Txn.
 ghost use Rattle.std.specs.Prelude.{◌≡◌};
-ghost use Rattle.serde_json.specs.View.{view};
+ghost use Rattle.gateway_read.specs.Values.{view};
 ghost use Rattle.kv_model.specs.declared.call.Relation.TheVariants.{IsEqual};
 ghost use Rattle.kv_model.specs.Requests as requests;
 ghost use Rattle.gateway_read.specs.Compares.{target_of, operand_read, compared};
@@ -14,7 +14,7 @@ use crate::members::{bytes_field, enum_field, integer_field, object_under};
 use crate::object::Object;
 use kv_model::call::{Compare, Operand, Relation};
 use kv_model::version::KeyRange;
-use serde_json::Value;
+use json::Value;
 use std::alloc::Global;
 
 /// What a compare looks at.

@@ -30,6 +30,7 @@ ghost use Rattle.gateway_read.specs.Reading.{Gives};
 ghost use Rattle.gateway_read.specs.declared.bad.Bad.TheVariants.{NoPath, TooLong};
 
 use bad::Bad;
+use json::Scratch;
 use kv_model::call::Command;
 use object::Object;
 use requests::Request;
@@ -44,11 +45,13 @@ pub mod field;
 mod kinds;
 mod leasing;
 mod members;
+mod number;
 mod object;
 mod requests;
 mod sorting;
 mod symbols;
 mod transacting;
+mod value;
 mod watching;
 
 const PATHS: [(&str, Request); 14] = [
@@ -83,12 +86,31 @@ pub fn read(alloc: Global, path: &[u8], body: &[u8]) -> Result<Command, Bad>
     ensures too_long { IsSome (requests.named_value requests.paths path.now)
         → requests.longest_body < length body.now → result ≡ Err TooLong }
 {
-    let Some(request) = kinds::named(&PATHS, path) else {
-        return Err(Bad::NoPath);
-    };
-    let members = match body::object_of(alloc, body) {
-        Ok(members) => members,
-        Err(bad) => return Err(bad),
-    };
-    requests::command(alloc, request, &Object::new(&members))
+    Reading::new(alloc).read(alloc, path, body)
+}
+
+/// What is kept from one body to the next.
+#[derive(Drop)]
+pub struct Reading {
+    scratch: Scratch,
+}
+
+impl Reading {
+    pub fn new(alloc: Global) -> Self {
+        Reading { scratch: Scratch::new(alloc) }
+    }
+
+    pub fn read(&mut self, alloc: Global, path: &[u8], body: &[u8]) -> Result<Command, Bad> {
+        let Some(request) = kinds::named(&PATHS, path) else {
+            return Err(Bad::NoPath);
+        };
+        let value = match body::value_of(alloc, &mut self.scratch, body) {
+            Ok(value) => value,
+            Err(bad) => return Err(bad),
+        };
+        match Object::of(&value) {
+            Some(object) => requests::command(alloc, request, &object),
+            None => Err(Bad::NotJson),
+        }
+    }
 }

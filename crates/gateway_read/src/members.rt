@@ -1,7 +1,7 @@
 //! The fields of an object, each by its kind. An absent field is at its kind's default, and so is
 //! one that is null.
 ghost use Rattle.std.specs.Prelude.{◌≡◌, false, map, option_map};
-ghost use Rattle.serde_json.specs.View.{view, items_view};
+ghost use Rattle.gateway_read.specs.Values.{view, items_view};
 ghost use Rattle.kv_model.specs.Requests as requests;
 ghost use Rattle.gateway_read.specs.Decoding as decoding;
 ghost use Rattle.gateway_read.specs.Decoding.{is_text};
@@ -13,13 +13,13 @@ ghost use Rattle.gateway_read.specs.Transactions.{object_under};
 use crate::bad::Bad;
 use crate::field::Field;
 use crate::object::Object;
-use crate::{kinds, symbols};
+use crate::{kinds, symbols, value};
 use bytes::Bytes;
-use serde_json::Value;
+use json::Value;
 use std::alloc::{AllocError, Global};
 
 /// The value under a name of the field, the snake one first, unless it is null.
-pub(crate) fn given<'v>(object: &Object<'v>, field: Field) -> Option<&'v Value>
+pub(crate) fn given<'v>(object: &Object<'v>, field: Field) -> Option<&'v Value<'v>>
     ensures { option_map (λ v. view v.now) result
         ≡ requests.given (snake_of field) (seen object.now) }
 {
@@ -27,7 +27,7 @@ pub(crate) fn given<'v>(object: &Object<'v>, field: Field) -> Option<&'v Value>
         Some(value) => value,
         None => object.get(field.camel())?,
     };
-    if value.is_null() { None } else { Some(value) }
+    if value::is_null(value) { None } else { Some(value) }
 }
 
 /// Bytes in base64. The default is no bytes. Memory is taken only where the value is a text.
@@ -41,7 +41,7 @@ pub(crate) fn bytes_field(alloc: Global, object: &Object<'_>, field: Field) -> R
     let Some(value) = given(object, field) else {
         return Ok(Bytes::new());
     };
-    let Some(text) = value.as_str() else {
+    let Some(text) = value::as_str(value) else {
         return Err(Bad::BadField(field));
     };
     told_as(field, symbols::decoded(alloc, text))
@@ -77,7 +77,7 @@ pub(crate) fn truth_field(object: &Object<'_>, field: Field) -> Result<bool, Bad
 {
     match given(object, field) {
         None => Ok(false),
-        Some(value) => value.as_bool().ok_or(Bad::BadField(field)),
+        Some(value) => value::as_bool(value).ok_or(Bad::BadField(field)),
     }
 }
 
@@ -99,13 +99,13 @@ pub(crate) fn enum_field<T: Copy>(
 }
 
 /// A list. The default is an empty one. Takes no memory.
-pub(crate) fn list_field<'v>(object: &Object<'v>, field: Field) -> Result<&'v [Value], Bad>
+pub(crate) fn list_field<'v>(object: &Object<'v>, field: Field) -> Result<&'v [Value<'v>], Bad>
     ensures { Tells (λ values. items_view values.now) result
         (requests.list_field (snake_of field) (seen object.now)) }
 {
     match given(object, field) {
         None => Ok(&[]),
-        Some(value) => match value.as_array() {
+        Some(value) => match value::as_array(value) {
             Some(values) => Ok(values),
             None => Err(Bad::BadField(field)),
         },
@@ -113,9 +113,9 @@ pub(crate) fn list_field<'v>(object: &Object<'v>, field: Field) -> Result<&'v [V
 }
 
 /// The object that is the value of this field. Takes no memory.
-pub(crate) fn object_under<'v>(value: &'v Value, field: Field) -> Result<Object<'v>, Bad>
+pub(crate) fn object_under<'v>(value: &'v Value<'v>, field: Field) -> Result<Object<'v>, Bad>
     ensures { Tells seen result
         (object_under (snake_of field) (view value.now)) }
 {
-    Ok(Object::new(value.as_object().ok_or(Bad::BadField(field))?))
+    Object::of(value).ok_or(Bad::BadField(field))
 }

@@ -1,10 +1,11 @@
 //! An object, as the fields of a request are looked up in it.
 ghost use Rattle.std.specs.Prelude.{◌≡◌, ℕ, length, min, option_map};
 ghost use Rattle.serde_json.specs.Find as find;
-ghost use Rattle.serde_json.specs.View.{view, members_view};
+ghost use Rattle.kv_model.specs.Requests as requests;
 ghost use Rattle.gateway_read.specs.Lengths.{place_of, AreMarked};
+ghost use Rattle.gateway_read.specs.Values.{view};
 
-use serde_json::{Map, Value};
+use json::Value;
 
 /// How many lengths of names are told apart: the last place is that of all longer names too.
 const PLACES: usize = 32;
@@ -13,31 +14,28 @@ const PLACES: usize = 32;
 /// absent, and most of those have a name of a length that no member's name has.
 #[derive(Drop)]
 pub(crate) struct Object<'v> {
-    members: &'v Map<String, Value>,
+    value: &'v Value<'v>,
     /// Whether a member's name has the length of this place.
     lengths: [bool; PLACES],
-    ghost marked: { AreMarked lengths (members_view members.now.entries) },
 }
 
 impl<'v> Object<'v> {
-    ghost use Rattle.gateway_read.specs.Objects.{seen};
-
-    /// The members, whose names are walked once. Takes no memory.
-    pub(crate) fn new(members: &'v Map<String, Value>) -> Self
-        ensures { seen result ≡ members_view members.now.entries }
-    {
-        Object {
-            members,
-            lengths: lengths_of(members),
+    /// The members of a value that is an object, whose names are walked once. Takes no memory.
+    pub(crate) fn of(value: &'v Value<'v>) -> Option<Self> {
+        match value {
+            Value::Object(members) => Some(Object {
+                value,
+                lengths: lengths_of(members.as_slice()),
+            }),
+            _other => None,
         }
     }
 
     /// The value under a name: at once where no member's name has its length, and else by a search.
-    pub(crate) fn get(&self, name: &str) -> Option<&'v Value>
-        ensures { option_map (λ v. view v.now) result ≡ find.get_member name.now (seen self.now) }
+    pub(crate) fn get(&self, name: &str) -> Option<&'v Value<'v>>
     {
         if self.lengths[place(name)] {
-            member(self.members, name)
+            self.value.get(name)
         } else {
             None
         }
@@ -52,19 +50,10 @@ fn place(name: &str) -> usize
 }
 
 /// Which lengths the names have.
-fn lengths_of(members: &Map<String, Value>) -> [bool; PLACES]
-    ensures { AreMarked result (members_view members.now.entries) }
-{
+fn lengths_of(members: &[(&str, Value)]) -> [bool; PLACES] {
     let mut lengths = [false; PLACES];
-    for name in members.keys() {
-        lengths[place(name.as_str())] = true;
+    for (name, _) in members {
+        lengths[place(name)] = true;
     }
     lengths
-}
-
-fn member<'v>(members: &'v Map<String, Value>, name: &str) -> Option<&'v Value>
-    ensures { option_map (λ v. view v.now) result
-        ≡ find.get_member name.now (members_view members.now.entries) }
-{
-    members.get(name)
 }

@@ -1,6 +1,6 @@
 //! The fields of a transaction, and of those within it.
 ghost use Rattle.std.specs.Prelude.{◌≡◌, option_map};
-ghost use Rattle.serde_json.specs.View.{view, items_view};
+ghost use Rattle.gateway_read.specs.Values.{view, items_view};
 ghost use Rattle.kv_model.specs.Commands.{txn_view, op_view, ops_view};
 ghost use Rattle.kv_model.specs.Requests as requests;
 ghost use Rattle.gateway_read.specs.Fields.{snake_of};
@@ -17,7 +17,7 @@ use crate::members::{given, list_field, object_under};
 use crate::object::Object;
 use crate::requests::{put_request, range_query};
 use kv_model::call::{Compare, Operation, Txn};
-use serde_json::Value;
+use json::Value;
 use std::alloc::Global;
 
 /// How many transactions may lie in one another: more than a JSON text nests.
@@ -108,7 +108,7 @@ fn operation(alloc: Global, value: &Value, list: Field, depth: u8) -> Result<Ope
 }
 
 /// The one kind of an operation of a list.
-fn kind_of<'v>(value: &'v Value, list: Field) -> Result<Kind<'v>, Bad>
+fn kind_of<'v>(value: &'v Value<'v>, list: Field) -> Result<Kind<'v>, Bad>
     ensures { Tells message_of result (kind_read (snake_of list) (view value.now)) }
 {
     let object = &object_under(value, list)?;
@@ -123,10 +123,10 @@ fn kind_of<'v>(value: &'v Value, list: Field) -> Result<Kind<'v>, Bad>
 #[tactic(auto, unfolding(crate::specs::Fields::snake_of))]
 fn only_kind<'v>(
     list: Field,
-    range: Option<&'v Value>,
-    put: Option<&'v Value>,
-    delete: Option<&'v Value>,
-    inner: Option<&'v Value>,
+    range: Option<&'v Value<'v>>,
+    put: Option<&'v Value<'v>>,
+    delete: Option<&'v Value<'v>>,
+    inner: Option<&'v Value<'v>>,
 ) -> Result<Kind<'v>, Bad>
     ensures { Tells message_of result
         (only_of (snake_of list) (option_map (λ v. view v.now) range.entry)

@@ -1,6 +1,6 @@
 //! The fields of a request for a watch.
 ghost use Rattle.std.specs.Prelude.{◌≡◌};
-ghost use Rattle.serde_json.specs.View.{view, items_view};
+ghost use Rattle.gateway_read.specs.Values.{view, items_view};
 ghost use Rattle.kv_model.specs.Commands.{call_of};
 ghost use Rattle.kv_model.specs.Requests as requests;
 ghost use Rattle.gateway_read.specs.Objects.{seen};
@@ -16,7 +16,7 @@ use crate::object::Object;
 use bytes::Bytes;
 use kv_model::call::{Command, Watched};
 use kv_model::version::KeyRange;
-use serde_json::Value;
+use json::Value;
 use std::alloc::Global;
 
 /// Which events a watch is not told of.
