@@ -1,3 +1,4 @@
+pub mod Bodies
 pub mod Compares
 pub mod Decoding
 pub mod Fields

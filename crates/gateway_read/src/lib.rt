@@ -26,6 +26,7 @@
 ghost use Rattle.std.specs.Prelude.{◌≡◌, ◌<◌, length, None, Err, IsSome};
 ghost use Rattle.kv_model.specs.Commands.{call_of};
 ghost use Rattle.kv_model.specs.Requests as requests;
+ghost use Rattle.gateway_read.specs.Parts.{command_read};
 ghost use Rattle.gateway_read.specs.Reading.{Gives};
 ghost use Rattle.gateway_read.specs.declared.bad.Bad.TheVariants.{NoPath, TooLong};
 
@@ -78,7 +79,8 @@ const PATHS: [(&str, Request); 14] = [
 /// one that is no JSON object, and `BadField` or `BadBase64` by the fields in their order. A body
 /// of no bytes is an empty object. Names are snake or camel case, and the snake one counts where
 /// both stand; other names are ignored. `Memory` comes where a growth finds no memory. The time is
-/// linear in the body, but for the look-up of each field.
+/// linear in the body, but for the look-up of each field. It clears 16 KiB, and takes as many bytes
+/// as the body has: whoever reads many bodies keeps a [`Reading`].
 pub fn read(alloc: Global, path: &[u8], body: &[u8]) -> Result<Command, Bad>
     ensures gives { Gives call_of result (requests.request_of path.now body.now) }
     ensures no_path { requests.named_value requests.paths path.now ≡ None
@@ -89,28 +91,61 @@ pub fn read(alloc: Global, path: &[u8], body: &[u8]) -> Result<Command, Bad>
     Reading::new(alloc).read(alloc, path, body)
 }
 
-/// What is kept from one body to the next.
+/// The longest body whose room is kept, in bytes.
+const LONGEST_KEPT: usize = 65_536;
+
+/// What is kept from one body to the next: the room that reading needs, of at most some 80 KiB.
+/// Whoever reads bodies one after another keeps one.
 #[derive(Drop)]
 pub struct Reading {
     scratch: Scratch,
 }
 
 impl Reading {
+    /// Clears 16 KiB, and takes no memory.
     pub fn new(alloc: Global) -> Self {
-        Reading { scratch: Scratch::new(alloc) }
+        Reading {
+            scratch: Scratch::new(alloc),
+        }
     }
 
-    pub fn read(&mut self, alloc: Global, path: &[u8], body: &[u8]) -> Result<Command, Bad> {
+    /// The command that a POST of this body to this path asks for, as [`read`] has it, and its
+    /// refusals. What bodies were read before makes no difference. Nothing is cleared where a body
+    /// is at most as long as one before, and a body above 65,536 bytes leaves no room behind.
+    pub fn read(&mut self, alloc: Global, path: &[u8], body: &[u8]) -> Result<Command, Bad>
+        ensures gives { Gives call_of result (requests.request_of path.now body.now) }
+        ensures no_path { requests.named_value requests.paths path.now ≡ None
+            → result ≡ Err NoPath }
+        ensures too_long { IsSome (requests.named_value requests.paths path.now)
+            → requests.longest_body < length body.now → result ≡ Err TooLong }
+    {
         let Some(request) = kinds::named(&PATHS, path) else {
             return Err(Bad::NoPath);
         };
-        let value = match body::value_of(alloc, &mut self.scratch, body) {
-            Ok(value) => value,
-            Err(bad) => return Err(bad),
-        };
-        match Object::of(&value) {
-            Some(object) => requests::command(alloc, request, &object),
-            None => Err(Bad::NotJson),
+        let command = command_of(alloc, &mut self.scratch, request, body);
+        if body.len() > LONGEST_KEPT {
+            self.scratch = Scratch::new(alloc);
         }
+        command
+    }
+}
+
+/// The command of a request of this kind. `Memory` comes where a growth finds no memory.
+fn command_of(
+    alloc: Global,
+    scratch: &mut Scratch,
+    request: Request,
+    body: &[u8],
+) -> Result<Command, Bad>
+    ensures gives { Gives call_of result (command_read request body.now) }
+    ensures too_long { requests.longest_body < length body.now → result ≡ Err TooLong }
+{
+    let value = match body::value_of(alloc, scratch, body) {
+        Ok(value) => value,
+        Err(bad) => return Err(bad),
+    };
+    match Object::of(&value) {
+        Some(object) => requests::command(alloc, request, &object),
+        None => Err(Bad::NotJson),
     }
 }

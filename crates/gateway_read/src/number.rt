@@ -1,5 +1,5 @@
 //! The number that a JSON text writes.
-ghost use Rattle.std.specs.Prelude.{◌≡◌, ◌==◌, option_map, option_and_then, slice_index};
+ghost use Rattle.std.specs.Prelude.{◌≡◌, ◌==◌, true, false, option_map, option_and_then, slice_index};
 ghost use Rattle.serde_json.specs.Find.{as_i64, as_u64};
 ghost use Rattle.serde_json.specs.Read.{number_of, number_from, float_of};
 

@@ -15,7 +15,7 @@ pub(crate) fn is_null(value: &Value) -> bool
 }
 
 /// The text that the value is.
-pub(crate) fn as_str<'v>(value: &'v Value<'v>) -> Option<&'v str>
+pub(crate) fn as_str<'a>(value: &Value<'a>) -> Option<&'a str>
     ensures { option_map (λ s. s.now) result ≡ find.as_str (view value.now) }
 {
     value.as_str()
@@ -29,7 +29,7 @@ pub(crate) fn as_bool(value: &Value) -> Option<bool>
 }
 
 /// The values of the list that the value is.
-pub(crate) fn as_array<'v>(value: &'v Value<'v>) -> Option<&'v [Value<'v>]>
+pub(crate) fn as_array<'v, 'a>(value: &'v Value<'a>) -> Option<&'v [Value<'a>]>
     ensures { option_map (λ items. items_view items.now) result ≡ find.as_array (view value.now) }
 {
     if let Value::Array(items) = value {
@@ -68,7 +68,9 @@ pub(crate) fn is_in_range(value: &Value) -> bool
 }
 
 #[cycle(ranging)]
-fn are_in_range(items: &[Value]) -> bool {
+fn are_in_range(items: &[Value]) -> bool
+    ensures { result ≡ items_in_range (tree.items_view items.now) }
+{
     for item in items {
         if !is_in_range(item) {
             return false;
@@ -78,7 +80,9 @@ fn are_in_range(items: &[Value]) -> bool {
 }
 
 #[cycle(ranging)]
-fn are_members_in_range(members: &[(&str, Value)]) -> bool {
+fn are_members_in_range(members: &[(&str, Value)]) -> bool
+    ensures { result ≡ members_in_range (tree.members_view members.now) }
+{
     for (_, value) in members {
         if !is_in_range(value) {
             return false;
