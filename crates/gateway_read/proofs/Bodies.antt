@@ -15,9 +15,10 @@ use Rattle.kv_model.specs.Requests as requests
 use Rattle.kv_model.specs.Requests.{Read, ◌>>=◌}
 use Rattle.gateway_read.specs.declared.bad.Bad.{Bad}
 use Rattle.gateway_read.specs.Bodies.{tree_of, value_read, IsChecked}
-use Rattle.gateway_read.specs.Reading.{Gives}
+use Rattle.gateway_read.specs.Reading.{Fails, Gives}
 use Rattle.gateway_read.specs.Values.{Tree, view, data_of, in_range}
 use Rattle.gateway_read.proofs.Values.{of_json-ranged}
+use Rattle.gateway_read.proofs.Steps.{fails_then}
 
 json_of-read : (text : List ℕ) → IsUtf8 text → requests.json_of text ≡ read text
 json_of-read text h = ap (λ b. cond b (read text) None) (is_utf8-from_IsUtf8 text h)
@@ -59,3 +60,14 @@ object_of-value body = over (nat_lt requests.longest_body (length body)) (reques
     over true o = refl
     over false None = refl
     over false (Some d) = refl
+
+pub object_of-ok : (body : List ℕ) (d : Data) (ms : Members) → value_read body ≡ Ok d → requests.members_of d ≡ Some ms
+    → requests.object_of body ≡ Ok ms
+object_of-ok body d ms read is = rw (object_of-value body, read, is) refl
+
+pub object_of-other : (body : List ℕ) (d : Data) → value_read body ≡ Ok d → requests.members_of d ≡ None
+    → requests.object_of body ≡ Err requests.not_json
+object_of-other body d read is = rw (object_of-value body, read, is) refl
+
+pub object_of-fails : (body : List ℕ) (e : Bad) → Fails e (value_read body) → Fails e (requests.object_of body)
+object_of-fails body e h = rw (object_of-value body) (fails_then e (value_read body) _ h)

@@ -123,10 +123,15 @@ impl Reading {
             return Err(Bad::NoPath);
         };
         let command = command_of(alloc, &mut self.scratch, request, body);
-        if body.len() > LONGEST_KEPT {
+        self.keep(alloc, body.len());
+        command
+    }
+
+    /// Lets the room go that a body of this length took, where that is too much to keep.
+    fn keep(&mut self, alloc: Global, len: usize) {
+        if len > LONGEST_KEPT {
             self.scratch = Scratch::new(alloc);
         }
-        command
     }
 }
 

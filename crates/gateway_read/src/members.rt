@@ -114,12 +114,13 @@ pub(crate) fn list_field<'v, 'a>(
     ensures { Tells (λ values. items_view values.now) result
         (requests.list_field (snake_of field) (seen object.now)) }
 {
-    match given(object, field) {
-        None => Ok(&[]),
-        Some(value) => match value::as_array(value) {
-            Some(values) => Ok(values),
-            None => Err(Bad::BadField(field)),
-        },
+    let Some(value) = given(object, field) else {
+        let none: &'v [Value<'a>] = value::no_items();
+        return Ok(none);
+    };
+    match value::as_array(value) {
+        Some(values) => Ok(values),
+        None => Err(Bad::BadField(field)),
     }
 }
 

@@ -1,5 +1,5 @@
 //! A JSON value over the text that it was read from, looked into.
-ghost use Rattle.std.specs.Prelude.{◌≡◌, option_map, option_and_then, is_some};
+ghost use Rattle.std.specs.Prelude.{◌≡◌, [], option_map, option_and_then, is_some};
 ghost use Rattle.json.specs.Value as tree;
 ghost use Rattle.serde_json.specs.Find as find;
 ghost use Rattle.gateway_read.specs.Values.{view, items_view, in_range, items_in_range, members_in_range};
@@ -37,6 +37,13 @@ pub(crate) fn as_array<'v, 'a>(value: &'v Value<'a>) -> Option<&'v [Value<'a>]>
     } else {
         None
     }
+}
+
+/// A list of no values.
+pub(crate) fn no_items<'v, 'a>() -> &'v [Value<'a>]
+    ensures { result.now ≡ [] }
+{
+    &[]
 }
 
 /// The integer of 64 signed bits that the value is, written without point and exponent.
