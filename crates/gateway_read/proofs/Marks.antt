@@ -1,4 +1,4 @@
--- The marks of the names of an object, as they are set one after the other.
+-- The lengths of the names of an object, as they are marked one after the other.
 use Rattle.std.proofs.Common.{◌≡◌, ℕ, zero, suc, ◌<◌, List, [], ◌∷◌, length, get_or, fold, replicate, Bool, Ordering, Less, Equal, Greater}
 use Rattle.std.proofs.Common.{true, false, true≢false, refl, sym, ap, ◌∙◌, Option, None, Some, arith, eqb, eq-eqb, bytes_eq, is_eq, nat_cmp}
 use Rattle.std.proofs.lemmas.Bool.{or_parts, eqb-true}
@@ -6,6 +6,7 @@ use Rattle.std.proofs.lemmas.Bool.Decides.{nat_tests}
 use Rattle.std.proofs.lemmas.List.{length-set, get_or-set_same, get_or-set_other}
 use Rattle.std.proofs.lemmas.Map.Text.{is_eq-slice_cmp}
 use Rattle.std.proofs.lemmas.Slice.Eq.{bytes_eq-Decides}
+use Rattle.std.proofs.Math.Nat.{min-le_right}
 use Rattle.std.specs.Cmp.Lexicographic.{slice_cmp}
 use Rattle.std.specs.Ordering.{match_ordering}
 use Rattle.std.specs.Prelude.{◌||◌}
@@ -16,8 +17,7 @@ use Rattle.gateway_read.specs.Lengths.{Named, place_of, marked, has_place, AreMa
 use Rattle.gateway_read.specs.Values.{view, members_data}
 
 place_fits : (name : List ℕ) → place_of name < 32
-place_fits [] = omega arith
-place_fits (x ∷ xs) = omega arith
+place_fits name = omega (arith, min-le_right (length name) 31)
 
 marked_long : (l : List Bool) (m : Named) → length l ≡ 32 → length (marked l m) ≡ 32
 marked_long l m long = length-set l (place_of m.0.now) true ∙ long

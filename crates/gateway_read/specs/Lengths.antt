@@ -1,14 +1,13 @@
--- Which marks the names of an object have.
-use Rattle.std.specs.Prelude.{◌≡◌, ◌==◌, ◌||◌, ℕ, ◌+◌, ◌%◌, List, [], ◌∷◌, length, Bool, true, false}
+-- Which lengths the names of an object have.
+use Rattle.std.specs.Prelude.{◌≡◌, ◌==◌, ◌||◌, ℕ, List, length, min, Bool, true, false}
 use Rattle.std.specs.Prelude.{slice_index_or, slice_set}
 use Rattle.std.specs.Borrow.{Bor}
 use Rattle.serde_json.specs.Data.{Members, no_members, member}
 use Rattle.gateway_read.specs.Values.{Tree}
 
--- the place of a name's mark, which its length and its first byte make
+-- the place of a name's length: the last one is that of all longer names too
 abbrev pub place_of : List ℕ → ℕ
-place_of [] = 0
-place_of (x ∷ xs) = (length (x ∷ xs) % 32 + x) % 32
+place_of name = min (length name) 31
 
 -- a member with its name
 abbrev pub Named : Type 0

@@ -1,5 +1,5 @@
 //! An object, as the fields of a request are looked up in it.
-ghost use Rattle.std.specs.Prelude.{◌≡◌, option_map};
+ghost use Rattle.std.specs.Prelude.{◌≡◌, ℕ, length, min, option_map};
 ghost use Rattle.serde_json.specs.Find as find;
 ghost use Rattle.kv_model.specs.Requests as requests;
 ghost use Rattle.gateway_read.specs.Lengths.{place_of, AreMarked};
@@ -9,17 +9,17 @@ ghost use Rattle.serde_json.specs.Data.{no_members};
 
 use json::Value;
 
-/// How many marks of names are told apart.
+/// How many lengths of names are told apart: the last place is that of all longer names too.
 const PLACES: usize = 32;
 
-/// The members of an object, with the marks of their names. Most of a request's fields are absent,
-/// and most of those have a name with a mark that no member's name has.
+/// The members of an object, with the lengths of their names. Most of a request's fields are
+/// absent, and most of those have a name of a length that no member's name has.
 #[derive(Drop)]
 pub(crate) struct Object<'v, 'a> {
     value: &'v Value<'a>,
-    /// Whether a member's name has this mark.
-    marks: [bool; PLACES],
-    ghost marked: { AreMarked marks (members_of (view value.now)) },
+    /// Whether a member's name has the length of this place.
+    lengths: [bool; PLACES],
+    ghost marked: { AreMarked lengths (members_of (view value.now)) },
 }
 
 impl<'v, 'a> Object<'v, 'a> {
@@ -32,17 +32,17 @@ impl<'v, 'a> Object<'v, 'a> {
         match value {
             Value::Object(members) => Some(Object {
                 value,
-                marks: marks_of(members.as_slice()),
+                lengths: lengths_of(members.as_slice()),
             }),
             _other => None,
         }
     }
 
-    /// The value under a name: at once where no member's name has its mark, and else by a search.
+    /// The value under a name: at once where no member's name has its length, and else by a search.
     pub(crate) fn get(&self, name: &str) -> Option<&'v Value<'a>>
         ensures { option_map (λ v. view v.now) result ≡ find.get_member name.now (seen self.now) }
     {
-        if self.marks[place(name)] {
+        if self.lengths[place(name)] {
             member(self.value, name)
         } else {
             None
@@ -50,27 +50,22 @@ impl<'v, 'a> Object<'v, 'a> {
     }
 }
 
-/// The mark of a name, which its length and its first byte make.
+/// The place of a name's length.
 fn place(name: &str) -> usize
     ensures { result ≡ place_of name.now }
 {
-    let bytes = name.as_bytes();
-    if bytes.is_empty() {
-        0
-    } else {
-        (bytes.len() % PLACES + usize::from(bytes[0])) % PLACES
-    }
+    name.len().min(PLACES - 1)
 }
 
-/// Which marks the names have.
-fn marks_of(members: &[(&str, Value)]) -> [bool; PLACES]
+/// Which lengths the names have.
+fn lengths_of(members: &[(&str, Value)]) -> [bool; PLACES]
     ensures { AreMarked result (members_data (tree.members_view members.now) no_members) }
 {
-    let mut marks = [false; PLACES];
+    let mut lengths = [false; PLACES];
     for (name, _) in members {
-        marks[place(name)] = true;
+        lengths[place(name)] = true;
     }
-    marks
+    lengths
 }
 
 /// The value under a name, the last one where several members have it.

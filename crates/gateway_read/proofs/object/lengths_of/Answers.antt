@@ -2,10 +2,10 @@ use Rattle.std.proofs.Common.{false, get_or, drop, fold, ap, sym, ◌∙◌, ari
 use Rattle.std.proofs.lemmas.List.{drop_all}
 use Rattle.gateway_read.specs.Lengths.{marked}
 use Rattle.gateway_read.proofs.Marks.{are_marked}
-use Rattle.gateway_read.proofs.object.marks_of.Goals as goal
+use Rattle.gateway_read.proofs.object.lengths_of.Goals as goal
 
 pub returns : goal.returns
 returns c =
     let ended = drop_all c.loop-name.name-index c.args.members.now (omega arith) in
-    let done = sym (ap (fold marked c.loop-name.marks) ended) ∙ c.loop-name.invariant in
-    λ p. ap (λ marks. get_or marks p false) done ∙ are_marked c.args.members.now p
+    let done = sym (ap (fold marked c.loop-name.lengths) ended) ∙ c.loop-name.invariant in
+    λ p. ap (λ lengths. get_or lengths p false) done ∙ are_marked c.args.members.now p
