@@ -1,6 +1,6 @@
 -- The value that a body is, and then the object.
-use Rattle.std.proofs.Common.{◌≡◌, ◌≢◌, ℕ, List, [], ◌∷◌, length, Bool, true, false, cond, Option, None, Some, option_and_then}
-use Rattle.std.proofs.Common.{Result, Ok, Err, IfOk, IfErr, refl, sym, ap, ◌∙◌}
+use Rattle.std.proofs.Common.{◌≡◌, ◌≢◌, ℕ, List, length, Bool, true, false, cond, Option, None, Some, option_and_then}
+use Rattle.std.proofs.Common.{Result, Ok, Err, IfOk, IfErr, refl, ap, ◌∙◌}
 use Rattle.std.specs.Prelude.{nat_lt}
 use Rattle.std.specs.Str.{IsUtf8, is_utf8}
 use Rattle.std.proofs.lemmas.Str.{is_utf8-from_IsUtf8, IsUtf8-from_is_utf8}
@@ -9,7 +9,7 @@ use Rattle.json.specs.Json.{Json}
 use Rattle.json.specs.Value.{value_view}
 use Rattle.json.specs.declared.error.Error.{Error}
 use Rattle.json.specs.declared.error.Error.TheVariants.{Invalid, OutOfMemory, TooLong, DuplicateKey}
-use Rattle.serde_json.specs.Data.{Data, Members}
+use Rattle.serde_json.specs.Data.{Data}
 use Rattle.serde_json.specs.Read.{read, of_json}
 use Rattle.kv_model.specs.Requests as requests
 use Rattle.kv_model.specs.Requests.{Read, ◌>>=◌}
@@ -61,13 +61,10 @@ object_of-value body = over (nat_lt requests.longest_body (length body)) (reques
     over false None = refl
     over false (Some d) = refl
 
-pub object_of-ok : (body : List ℕ) (d : Data) (ms : Members) → value_read body ≡ Ok d → requests.members_of d ≡ Some ms
-    → requests.object_of body ≡ Ok ms
-object_of-ok body d ms read is = rw (object_of-value body, read, is) refl
-
-pub object_of-other : (body : List ℕ) (d : Data) → value_read body ≡ Ok d → requests.members_of d ≡ None
-    → requests.object_of body ≡ Err requests.not_json
-object_of-other body d read is = rw (object_of-value body, read, is) refl
+-- what is read of the body goes on from the value
+pub object_of-read : (body : List ℕ) (d : Data) → value_read body ≡ Ok d
+    → requests.object_of body ≡ requests.some_or requests.not_json (requests.members_of d)
+object_of-read body d read = rw (object_of-value body, read) refl
 
 pub object_of-fails : (body : List ℕ) (e : Bad) → Fails e (value_read body) → Fails e (requests.object_of body)
 object_of-fails body e h = rw (object_of-value body) (fails_then e (value_read body) _ h)

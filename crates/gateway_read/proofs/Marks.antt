@@ -1,8 +1,7 @@
 -- The lengths of the names of an object, as they are marked one after the other.
 use Rattle.std.proofs.Common.{◌≡◌, ℕ, zero, suc, ◌<◌, List, [], ◌∷◌, length, get_or, fold, replicate, Bool, Ordering, Less, Equal, Greater}
-use Rattle.std.proofs.Common.{true, false, true≢false, refl, sym, ap, ◌∙◌, Option, None, Some, arith, eqb, eq-eqb, bytes_eq, is_eq, nat_cmp}
+use Rattle.std.proofs.Common.{true, false, true≢false, refl, sym, ap, ◌∙◌, Option, None, Some, arith, eqb, eq-eqb, is_eq, nat_cmp}
 use Rattle.std.proofs.lemmas.Bool.{or_parts, eqb-true}
-use Rattle.std.proofs.lemmas.Bool.Decides.{nat_tests}
 use Rattle.std.proofs.lemmas.List.{length-set, get_or-set_same, get_or-set_other}
 use Rattle.std.proofs.lemmas.Map.Text.{is_eq-slice_cmp}
 use Rattle.std.proofs.lemmas.Slice.Eq.{bytes_eq-Decides}

@@ -1,6 +1,5 @@
 -- The data that a value over its text stands for. The text of a number stands for the number that it writes.
-use Rattle.std.specs.Prelude.{ℕ, List, [], ◌∷◌, Bool, true, false, ◌&&◌, Option, None, Some, is_some, Float}
-use Rattle.std.specs.Borrow.{Bor}
+use Rattle.std.specs.Prelude.{ℕ, List, [], ◌∷◌, Bool, true, false, ◌&&◌, Option, None, Some, is_some}
 use Rattle.std.specs.Float.{binary64}
 use Rattle.std.specs.declared.alloc.Global.{Global}
 use Rattle.fast_float.specs.Text.{scan, nearest}

@@ -1,16 +1,18 @@
 //! The value that a body is.
-ghost use Rattle.std.specs.Prelude.{◌≡◌, ◌≢◌, ◌<◌, length, Err, Some, None, IfOk, IfErr};
+ghost use Rattle.std.specs.Prelude.{◌≡◌, ◌≢◌, ◌<◌, length, if◌then◌else◌, Ok, Err, Some, None, IfOk, IfErr};
 ghost use Rattle.std.specs.Str.{IsUtf8};
 ghost use Rattle.serde_json.specs.Read.{read as read_text};
 ghost use Rattle.json.specs.Value.{value_view};
-ghost use Rattle.json.specs.declared.error.Error.TheVariants.{OutOfMemory};
+ghost use Rattle.json.specs.declared.error.Error.TheVariants.{Invalid, OutOfMemory};
 ghost use Rattle.kv_model.specs.Requests as requests;
 ghost use Rattle.gateway_read.specs.Bodies.{tree_of, value_read, IsChecked};
-ghost use Rattle.gateway_read.specs.Reading.{Gives};
+ghost use Rattle.gateway_read.specs.Reading.{Gives, Tells};
+ghost use Rattle.gateway_read.specs.Objects.{seen};
 ghost use Rattle.gateway_read.specs.Values.{view};
 ghost use Rattle.gateway_read.specs.declared.bad.Bad.TheVariants.{NotJson, TooLong};
 
 use crate::bad::Bad;
+use crate::object::Object;
 use crate::value::is_in_range;
 use json::{Error, Reader, Scratch, Value};
 use std::alloc::Global;
@@ -75,8 +77,21 @@ fn whole<'a>(alloc: Global, scratch: &'a mut Scratch, text: &'a str) -> Result<V
 {
     let mut reader = Reader::new(text, scratch)?;
     let value = Value::read(alloc, &mut reader, DEEPEST)?;
-    if reader.next().is_some() {
-        return Err(Error::Invalid);
-    }
-    Ok(value)
+    let more = reader.next().is_some();
+    alone(value, more)
+}
+
+/// The value, unless more than it stands in the text. Takes no memory.
+fn alone<'a>(value: Value<'a>, more: bool) -> Result<Value<'a>, Error>
+    ensures { result ≡ (if more then Err Invalid else Ok value.entry) }
+{
+    if more { Err(Error::Invalid) } else { Ok(value) }
+}
+
+/// The object that a value is, or `NotJson`. Takes no memory.
+pub(crate) fn object_of<'v, 'a>(value: &'v Value<'a>) -> Result<Object<'v, 'a>, Bad>
+    ensures { Tells seen result (requests.some_or requests.not_json
+        (requests.members_of (view value.now))) }
+{
+    Object::of(value).ok_or(Bad::NotJson)
 }

@@ -33,7 +33,6 @@ ghost use Rattle.gateway_read.specs.declared.bad.Bad.TheVariants.{NoPath, TooLon
 use bad::Bad;
 use json::Scratch;
 use kv_model::call::Command;
-use object::Object;
 use requests::Request;
 use std::alloc::Global;
 
@@ -149,8 +148,8 @@ fn command_of(
         Ok(value) => value,
         Err(bad) => return Err(bad),
     };
-    match Object::of(&value) {
-        Some(object) => requests::command(alloc, request, &object),
-        None => Err(Bad::NotJson),
+    match body::object_of(&value) {
+        Ok(object) => requests::command(alloc, request, &object),
+        Err(bad) => Err(bad),
     }
 }

@@ -1,4 +1,4 @@
-use Rattle.std.proofs.Common.{false, get_or, drop, fold, ap, sym, ◌∙◌, arith}
+use Rattle.std.proofs.Common.{false, get_or, fold, ap, sym, ◌∙◌, arith}
 use Rattle.std.proofs.lemmas.List.{drop_all}
 use Rattle.gateway_read.specs.Lengths.{marked}
 use Rattle.gateway_read.proofs.Marks.{are_marked}
