@@ -1,8 +1,8 @@
 //! The command that a request asks for, read from its path and its body (etcd: the JSON gateway).
 //!
-//! The one contract is that of [`read`]: what it gives is `request_of` of `kv_model`, a command or
-//! the first fault in the order of the fields, and want of memory says nothing. `json_gateway`
-//! calls it for each request. Ranges, puts, deletions, transactions, compactions, watches and what
+//! The one contract is that of [`read`] and of [`Reading::read`], which keeps its room: what they
+//! give is `request_of` of `kv_model`, a command or the first fault in the order of the fields, and
+//! want of memory says nothing. `json_gateway` calls `read` for each request. Ranges, puts, deletions, transactions, compactions, watches and what
 //! is asked of leases have a path each, or two of one meaning. For example,
 //!
 //! ```text
@@ -20,7 +20,7 @@
 //! `"limit":"two"` and `"key":"?"` the refusal is `BadBase64(Key)`, since `key` is read first.
 //!
 //! Only tested is that calls which may find no memory succeed where there is ample: in the crate
-//! `gateway_tests`, in `src/values.rt` and `src/faults.rt`, and in `tests/rows.d/refusals.rows`.
+//! `gateway_tests`, in `src/{values,faults,kept}.rt`, and in `tests/rows.d/refusals.rows`.
 #![tactic(auto)]
 
 ghost use Rattle.std.specs.Prelude.{◌≡◌, ◌<◌, length, None, Err, IsSome};
