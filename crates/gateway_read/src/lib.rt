@@ -2,8 +2,9 @@
 //!
 //! The one contract is that of [`read`] and of [`Reading::read`], which keeps its room: what they
 //! give is `request_of` of `kv_model`, a command or the first fault in the order of the fields, and
-//! want of memory says nothing. `json_gateway` calls `read` for each request. Ranges, puts, deletions, transactions, compactions, watches and what
-//! is asked of leases have a path each, or two of one meaning. For example,
+//! want of memory says nothing. `json_gateway` calls `read` for each request. Ranges, puts,
+//! deletions, transactions, compactions, watches and what is asked of leases have a path each, or
+//! two of one meaning. For example,
 //!
 //! ```text
 //! POST /v3/kv/range  {"key":"YQ==","rangeEnd":"Yg==","limit":"2","sort_order":"DESCEND","x":1}
