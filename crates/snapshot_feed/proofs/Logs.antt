@@ -1,8 +1,8 @@
 -- What the entries of the log come to.
 use Rattle.std.proofs.Common.{◌≡◌, true, List, [], ◌∷◌, ◌++◌, length, fold, Result, Ok, Err, refl, sym, ap, ◌∙◌, subst, ⊎_elim}
-use Rattle.std.proofs.Common.{MatchBool, Bool, false, ℕ, ◌+◌, ◌%◌, ◌^◌, ◌<◌, ◌⊎◌, zero, suc, not, arith, length-append}
+use Rattle.std.proofs.Common.{MatchBool, Bool, false, ℕ, ◌<◌, ◌⊎◌, zero, suc, not, arith, length-append}
 use Rattle.std.specs.Prelude.{IsTrue, ◌↔◌}
-use Rattle.std.specs.Prelude.{MatchResult, OnOk, OnErr}
+use Rattle.std.specs.Prelude.{MatchResult, OnOk}
 use Rattle.std.proofs.Common.{is_ok}
 use Rattle.std.proofs.lemmas.List.{append-nil, nil_from_length}
 use Rattle.std.proofs.lemmas.List.Sums.{fold-append}
@@ -22,7 +22,7 @@ use Rattle.snapshot_feed.specs.declared.entry.ReadTables.{ReadTables}
 use Rattle.snapshot_feed.specs.Entries.{after, ops_of, marked_by}
 use Rattle.snapshot_feed.specs.Shown.{ShowsWell}
 use Rattle.snapshot_feed.specs.Showing.{IsShown}
-use Rattle.snapshot_feed.specs.States.{FeedState, HasAll, HasOperation, Settles, appended, state_by, tried, tries_by, unused}
+use Rattle.snapshot_feed.specs.States.{FeedState, HasAll, HasOperation, appended, state_by, unused}
 use Rattle.snapshot_feed.proofs.Readings.{nothing_is_shown}
 
 -- ---- one entry more
@@ -96,16 +96,6 @@ may_mark n f g es s is book all may some both =
       may = may;
     }
 
--- a front that tells all still does once it is logged as the last mark
-pub has_mark : (g f : Beginning) (es ds : List Entry) → HasAll g f es → ops_of ds ≡ ops_of es → marked_by f ds ≡ g → HasAll (marked_by f ds) f ds
-has_mark g f es ds has ops last =
-    subst (λ h. HasAll h f ds) (sym last) (record {
-      book = has.book;
-      all = has.all ∙ ap (λ l. published_by f.list ++ l) (sym ops);
-      begins = has.begins;
-      may = has.may;
-    })
-
 -- ---- what waits
 
 pub settled_by : (b : Bool) (es : List Entry) → IsTrue b ↔ (0 < length es) → HasOperation es
@@ -148,11 +138,6 @@ Publishes x es y ds r = MatchResult r (λ _. ((y.tables, y.front) ≡ fold after
 abbrev pub Ends : ReadTables → List Entry → Type 0
 Ends x es = HasAll (marked_by x.front es) x.front es
 
-pub still_shows : {X Y : Type 0} (r : Result X Y) (x y : ReadTables) (es ds : List Entry) → ShowsWell x.tables x.front → Ends x es
-    → Publishes x es y ds r → ShowsWell y.tables y.front
-still_shows (Ok z) x y es ds shows ends h = (goes_on es x.tables y.tables x.front y.front shows ends h.0).0
-still_shows (Err e) x y es ds shows ends h = subst (λ (z : ReadTables). ShowsWell z.tables z.front) (sym h.0) shows
-
 pub still_ends : {X Y : Type 0} (r : Result X Y) (x y : ReadTables) (es ds : List Entry) → ShowsWell x.tables x.front → Ends x es
     → Publishes x es y ds r → Ends y ds
 still_ends (Ok z) x y es ds shows ends h =
@@ -167,33 +152,6 @@ shows_mark (Err e) x y es ds h = tt
 -- where no event was shown and nothing was logged, that is all
 pub ends_none : (x : ReadTables) (es : List Entry) → es ≡ [] → x.front.list ≡ [] → Ends x es
 ends_none x es none first = subst (Ends x) (sym none) (has_none x.front (subst IsShown (sym first) nothing_is_shown))
-
--- ---- what a feed is after it
-
--- an operation waits
-pub tries_some : (ops : List Published) (n : ℕ) → 0 < length ops → tries_by ops n ≡ (n + 1) % 2 ^ 64
-tries_some [] n some = absurd (omega arith)
-tries_some (op ∷ ops) n some = refl
-
--- nothing waits
-pub settles_none : (f : FeedState) → f.pending ≡ [] → Settles f f
-settles_none f none = record {
-  book = refl;
-  pending = none;
-  all = sym (ap (λ l. published_by f.published ++ l) none ∙ append-nil (published_by f.published));
-  begins = ([], append-nil f.published);
-  attempts = sym (ap (λ l. tries_by l f.attempts) none);
-}
-
-pub settles_all : (n m : ℕ) (f g : Beginning) (es ds : List Entry) → HasAll g f es → ds ≡ [] → 0 < length (ops_of es) → m ≡ (n + 1) % 2 ^ 64
-    → Settles (state_by n f es) (state_by m g ds)
-settles_all n m f g es ds has none some is = record {
-  book = has.book;
-  pending = ap ops_of none;
-  all = has.all;
-  begins = has.begins;
-  attempts = is ∙ sym (tries_some (ops_of es) n some);
-}
 
 -- a new feed
 pub is_unused : (n : ℕ) (g : Beginning) (ds : List Entry) (b : Book) → n ≡ 0 → g.book ≡ b → g.list ≡ [] → ds ≡ [] → state_by n g ds ≡ unused b

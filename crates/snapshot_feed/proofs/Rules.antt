@@ -1,5 +1,5 @@
 -- Which steps keep the rule over what is shown.
-use Rattle.std.proofs.Common.{◌≡◌, ℕ, zero, suc, ◌≢◌, List, [], ◌∷◌, Option, None, Some, set, refl, sym, ap, ◌∙◌, subst, ⊎_elim}
+use Rattle.std.proofs.Common.{◌≡◌, ℕ, zero, suc, ◌≢◌, List, [], ◌∷◌, Option, None, set, refl, sym, ap, ◌∙◌, subst, ⊎_elim}
 use Rattle.std.specs.Prelude.{Result, Ok, Err, MatchResult}
 use mathlib.Core.Option.{some}
 use lib.ListN.{get_elem?}

@@ -6,7 +6,6 @@ use Rattle.snapshot_feed.specs.declared.seat.Seat.{Seat}
 use Rattle.snapshot_feed.specs.declared.seat.Seat.TheVariants.{Out, In}
 use Rattle.snapshot_feed.specs.Shown.{IsOf, ShowsWell}
 use Rattle.snapshot_feed.specs.Seats.{is_in, known_to, IsSeated, MayRead, IsWithin}
-use Rattle.left_right.specs.Sides.{view}
 
 pub seated_knows : (s : Seat) (f : Beginning) → IsSeated s f → IsOf f.book (known_to s)
 seated_knows (Out r) f h = h
@@ -35,10 +34,6 @@ same_list (Out r) f g h w = absurd h
 same_list (In r) f g h w = ap (λ k. k.book) (sym w) ∙ h.1
 
 -- ---- a test that came out
-
-pub granted : (A B : Type 0) (b : Bool) → b ≡ true → MatchBool b A B → A
-granted A B true is h = h
-granted A B false is h = absurd (cc is)
 
 pub denied : (A B : Type 0) (b : Bool) → b ≡ false → MatchBool b A B → B
 denied A B true is h = absurd (cc is)

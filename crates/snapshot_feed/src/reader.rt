@@ -101,9 +101,10 @@ impl SnapReader {
         }
     }
 
-    /// Takes the tables that are shown now, and leaves those that it was within. They have all that
-    /// this reader has seen and was told of. What is shown is looked at once, and the tables are those
-    /// of that look (`Sees`, the one step by which a reader's looks are counted).
+    /// Takes the tables that are shown now, and leaves those that it was within. They stand at a front
+    /// that begins with all that this reader has seen and was told of, and that may be shown. What is
+    /// shown is looked at once, and the tables are those of that look (`Sees`, the one step by which a
+    /// reader's looks are counted).
     ///
     /// The only refusal is `NoPlace`, where the feed is closed, or where the tables are older than
     /// what is known, which never comes. The reader is then within no tables. Takes no memory,
@@ -149,8 +150,9 @@ impl SnapReader {
     }
 
     /// Leaves the tables, and takes note of a front that it was told of: from then on it enters no
-    /// older tables. It does not where what it knows begins with the front and has more, and says so.
-    /// Takes no memory, constant time, and waits for nobody.
+    /// older tables. So a front that is not shown yet keeps it out until one is that begins with it:
+    /// hand it what [`Feed::told`](crate::Feed::told) told. It takes no note where what it knows begins
+    /// with the front and has more, and says so. Takes no memory, constant time, and waits for nobody.
     pub fn learn(&mut self, told: &Front) -> bool
         requires { told.now.book ≡ self.old.reads.book }
         ensures told { MatchBool result

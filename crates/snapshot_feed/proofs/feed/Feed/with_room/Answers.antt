@@ -1,5 +1,4 @@
 use Rattle.std.proofs.Common.{◌≡◌, [], drop, ap, refl, sym, ◌∙◌, subst}
-use Rattle.snapshot_feed.specs.declared.entry.Entry.{Entry}
 use Rattle.snapshot_feed.specs.declared.entry.ReadTables.{ReadTables}
 use Rattle.snapshot_feed.specs.Entries.{marked_by}
 use Rattle.snapshot_feed.specs.Shown.{ShowsWell}
