@@ -1,6 +1,7 @@
 //! `serve --from`: a server that goes on from a script, whose events are made before it lets a
 //! connection in.
 ghost use Rattle.std.specs.Prelude.{◌≡◌, [], IfOk, IfErr, OnOk};
+ghost use Rattle.engine_lock.specs.Locked.{IsNew};
 ghost use Rattle.commands.specs.Playing.{PlaysLines, StopsPlaying};
 ghost use Rattle.commands.specs.Script.{line_events};
 ghost use Rattle.command_line.specs.From.{IsBegun, IsPlayed, StopsBeginning};
@@ -81,8 +82,8 @@ impl<'e, L: EngineName, G: Gate, R: Wait> Playing<Client<L>> for Script<'e, L, G
 }
 
 /// The engine of a server once the events of its script were made on it, line by line, on behalf of
-/// one client, with which the server goes on: each is an event of the engine, as an event of a running
-/// server is, and has its line where those are written down. The script is let go then.
+/// one client, with which the server goes on: each is an event of the list of all events, as an event
+/// of a running server is, and has its line where those are written down. The script is let go then.
 ///
 /// Fails with `Fault::Server` where the engine has no place for the client, and as [`play`] does.
 pub(crate) fn begin<L: EngineName, G: Gate, R: Wait>(
@@ -110,8 +111,7 @@ fn went_on<L: EngineName, G: Gate, R: Wait>(
     gate: &G,
     script: &[u8],
 ) -> Result<Begun<L>, Fault>
-    requires made { begun.client.made ≡ 0 }
-    requires given { begun.client.given ≡ [] }
+    requires { IsNew begun.client }
     ensures ids { IfOk result (λ b. b.engine ≡ begun.engine) }
     ensures begins { OnOk result (IsBegun begun.engine (line_events script.now)) }
     ensures fault { IfErr result (StopsBeginning begun.engine (line_events script.now)) }

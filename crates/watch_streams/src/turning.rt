@@ -49,7 +49,8 @@ impl Turn {
 /// told what there is, and so on, up to 16 such steps.
 ///
 /// What goes out is in order, each once, and nothing besides: the chunks of the messages that the
-/// engine told its watch, and the last chunk where the watch is no more (`Goes`).
+/// engine told its watch, and the last chunk where the watch is no more (`Goes`). The client's events
+/// by it tell no other watch anything.
 pub fn take_turn<L: EngineName, G: Gate, R: Wait, W: Write>(
     alloc: Global,
     events: &Recorded<'_, L, G, R>,
