@@ -33,7 +33,7 @@ pub(crate) struct Orders<'e, L: EngineName, G, R> {
 }
 
 impl<'e, L: EngineName, G: Gate, R: Wait> Controlling<Client<L>> for Orders<'e, L, G, R> {
-    ghost Makes = { λ by. IsMade by.events.engine.now };
+    ghost Makes = { λ by. IsMade by.events.engine.now.ids };
 
     fn make(&self, state: &mut Client<L>, order: Order) -> Result<WireOutcome, AllocError> {
         match order {
@@ -50,7 +50,7 @@ fn expired<L: EngineName, G: Gate, R: Wait>(
     events: &Recorded<'_, L, G, R>,
     client: &mut Client<L>,
 ) -> WireOutcome
-    ensures { IsMade events.now.engine.now client.old wire.WireEvent.expire (outcome_view result)
+    ensures { IsMade events.now.engine.now.ids client.old wire.WireEvent.expire (outcome_view result)
         client.new }
 {
     match events.expire(client, 0) {
@@ -65,7 +65,7 @@ fn trimmed<L: EngineName, G: Gate, R: Wait>(
     events: &Recorded<'_, L, G, R>,
     client: &mut Client<L>,
 ) -> Result<WireOutcome, AllocError>
-    ensures { IsMade events.now.engine.now client.old wire.WireEvent.trim (made_view result)
+    ensures { IsMade events.now.engine.now.ids client.old wire.WireEvent.trim (made_view result)
         client.new }
 {
     match events.trim_checked(client) {

@@ -61,7 +61,7 @@ struct Script<'e, L: EngineName, G, R> {
 }
 
 impl<'e, L: EngineName, G: Gate, R: Wait> Playing<Client<L>> for Script<'e, L, G, R> {
-    ghost Makes = { λ by. IsPlayed by.orders.events.engine.now };
+    ghost Makes = { λ by. IsPlayed by.orders.events.engine.now.ids };
 
     fn make(&self, state: &mut Client<L>, event: WireEvent<'_>) -> Result<WireOutcome, AllocError> {
         let events = &self.orders.events;
@@ -93,9 +93,9 @@ pub(crate) fn begin<L: EngineName, G: Gate, R: Wait>(
     gate: &G,
     script: Vec<u8>,
 ) -> Result<Begun<L>, Fault>
-    ensures ids { IfOk result (λ begun. begun.engine ≡ engine) }
-    ensures begins { OnOk result (IsBegun engine (line_events script.items)) }
-    ensures fault { IfErr result (StopsBeginning engine (line_events script.items)) }
+    ensures ids { IfOk result (λ begun. begun.engine.ids ≡ engine.ids) }
+    ensures begins { OnOk result (IsBegun engine.ids (line_events script.items)) }
+    ensures fault { IfErr result (StopsBeginning engine.ids (line_events script.items)) }
 {
     match Begun::new(rt, engine) {
         Ok(begun) => went_on(rt, alloc, begun, gate, script.as_slice()),
@@ -113,8 +113,8 @@ fn went_on<L: EngineName, G: Gate, R: Wait>(
 ) -> Result<Begun<L>, Fault>
     requires { IsNew begun.client }
     ensures ids { IfOk result (λ b. b.engine ≡ begun.engine) }
-    ensures begins { OnOk result (IsBegun begun.engine (line_events script.now)) }
-    ensures fault { IfErr result (StopsBeginning begun.engine (line_events script.now)) }
+    ensures begins { OnOk result (IsBegun begun.engine.ids (line_events script.now)) }
+    ensures fault { IfErr result (StopsBeginning begun.engine.ids (line_events script.now)) }
 {
     let Begun { engine, client } = begun;
     let mut client = client;
@@ -134,8 +134,8 @@ fn play_on<L: EngineName, G: Gate, R: Wait>(
     script: &[u8],
 ) -> Result<(), Fault>
     ensures ok { OnOk result
-        (PlaysLines (IsPlayed engine.now) (line_events script.now) client.old client.new) }
-    ensures fault { IfErr result (λ fault. StopsPlaying (IsPlayed engine.now)
+        (PlaysLines (IsPlayed engine.now.ids) (line_events script.now) client.old client.new) }
+    ensures fault { IfErr result (λ fault. StopsPlaying (IsPlayed engine.now.ids)
         (line_events script.now) client.old fault client.new) }
 {
     let events = Recorded { rt, engine, gate };

@@ -248,7 +248,7 @@ pub(crate) fn engine_of<L: EngineName>(
     requires book { opening.book ≡ L.ListName.book }
     requires recorded { is_recorded ≡ L.recorded }
     requires ids { ids_in serve.now ≡ L.ListName.ids }
-    ensures ids { result ≡ ids_in serve.now }
+    ensures ids { result.ids ≡ ids_in serve.now }
 {
     let ids = ids_of(serve);
     if is_recorded {
@@ -300,7 +300,7 @@ fn run_pool<L: EngineName + Send + Sync, G: Gate + Sync, R>(
 ) -> Result<u64, Fault>
 where
     R: Wait + Threads + time::Clock + Net + Sync,
-    requires { begun.engine ≡ ids_in serve.now }
+    requires { begun.engine.ids ≡ ids_in serve.now }
     ensures revision { IfOk result (IsOfHistory (ids_in serve.now)) }
     ensures fault { IfErr result IsOfServerAlone }
 {

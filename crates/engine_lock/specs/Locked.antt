@@ -1,5 +1,6 @@
 -- What clauses see of an engine: its clients, and what stands under its lock.
 use Rattle.std.specs.Prelude.{◌≡◌, ℕ, List, [], false}
+use Rattle.kv_model.specs.declared.ids.Ids.{Ids}
 use Rattle.snapshot_feed.specs.Seats.{Reads}
 use Rattle.snapshot_feed.specs.States.{FeedState}
 use Rattle.request_core.specs.State.{CoreState}
@@ -7,6 +8,11 @@ use Rattle.recording.specs.Lines.{Written}
 use Rattle.event_book.specs.Callers as list
 use Rattle.event_book.specs.Events.{Entry}
 use Rattle.event_script.specs.Scripts.{Taken}
+
+-- of an engine: by which ids it answers, and how many clients it made
+pub record EngineState : Type 0 where
+  pub ids : Ids
+  pub clients : ℕ
 
 -- of a client: its number in the list of events, with what it has seen of that; what its next events are about; and its
 -- reader beside the writers

@@ -1,5 +1,5 @@
 //! The engine: one event of the core for each holding of its lock.
-ghost use Rattle.std.specs.Prelude.{◌≡◌, ◌<◌, is_ok, false, length, None, IfOk, IfErr};
+ghost use Rattle.std.specs.Prelude.{◌≡◌, ◌+◌, ◌<◌, ◌≤◌, is_ok, false, length, None, IfOk, IfErr, OnOk, OnErr};
 ghost use Rattle.kv_model.specs.declared.refusal.Refusal.TheVariants.{Memory, NoPlace, NoWatch};
 ghost use Rattle.kv_model.specs.Follows.Outcome.{said};
 ghost use Rattle.kv_model.specs.Wire.{WireTold};
@@ -38,8 +38,9 @@ const PAUSES: u64 = 20;
 /// How often it is asked for then, with other threads let run between, before a thread sleeps.
 const TURNS: u64 = 200;
 
-/// A core that any number of threads share. Clauses see of it by which ids it answers. The roster of
-/// its clients stands outside the lock: no call by `&` makes a client, for its own use or another's.
+/// A core that any number of threads share. Clauses see of it by which ids it answers, and how many
+/// clients it made: the roster of these stands outside the lock, so no call by `&` makes one, for its
+/// own use or another's.
 #[derive(Drop)]
 pub struct Engine<L: EngineName> {
     alloc: Global,
@@ -56,11 +57,11 @@ pub struct Engine<L: EngineName> {
 
 impl<L: EngineName> Model for Engine<L> {
     ghost use Rattle.std.specs.Prelude.{◌≡◌};
-    ghost use Rattle.kv_model.specs.declared.ids.Ids.{Ids as IdsOf};
+    ghost use Rattle.engine_lock.specs.Locked.{EngineState};
 
-    ghost Value = { IdsOf };
+    ghost Value = { EngineState };
 
-    ghost view = { λ e. e.ids };
+    ghost view = { λ e. record { ids = e.ids; clients = e.roster.made } };
 
     ghost invariant = { λ e. (e.ids ≡ L.ListName.ids) × (e.is_recorded ≡ L.recorded) };
 }
@@ -89,7 +90,7 @@ impl<L: EngineName> Engine<L> {
         requires book { opening.book ≡ L.ListName.book }
         requires ids { ids ≡ L.ListName.ids }
         requires recorded { L.recorded ≡ false }
-        ensures { result ≡ ids }
+        ensures { result ≡ record { ids = ids; clients = 0 } }
     {
         Engine::opened(alloc, opening, ids, false)
     }
@@ -101,7 +102,7 @@ impl<L: EngineName> Engine<L> {
         requires book { opening.book ≡ L.ListName.book }
         requires ids { ids ≡ L.ListName.ids }
         requires recorded { is_recorded ≡ L.recorded }
-        ensures { result ≡ ids }
+        ensures { result ≡ record { ids = ids; clients = 0 } }
     {
         let (state, roster) = State::new(alloc, opening, is_recorded);
         let taken = state.taken();
@@ -109,7 +110,7 @@ impl<L: EngineName> Engine<L> {
             alloc,
             ids,
             is_recorded,
-            roster: Kept::new(roster),
+            roster: Kept::of(roster),
             state: Mutex::new(state),
             taken: Mutex::new(taken),
             news: News::none(),
@@ -118,7 +119,7 @@ impl<L: EngineName> Engine<L> {
 
     /// The ids that it answers by. Waits for nobody.
     pub fn ids(&self) -> &Ids
-        ensures { result.now ≡ self.now }
+        ensures { result.now ≡ self.now.ids }
     {
         &self.ids
     }
@@ -130,13 +131,16 @@ impl<L: EngineName> Engine<L> {
         self.is_recorded
     }
 
-    /// A client that made no event and has seen and read nothing yet. `NoPlace` comes once 64 were
-    /// made, however many of them are still there, and where the feed has no place for one more
-    /// reader. Takes no memory.
+    /// A client that made no event and has seen and read nothing yet, and no other one. Its number is
+    /// how many were made before. `NoPlace` comes once 64 were made, however many of them are still
+    /// there, and where the feed has no place for one more reader. Takes no memory.
     pub fn client<R: Wait>(&mut self, rt: &R) -> Result<Client<L>, Refusal>
         ensures new { IfOk result IsNew }
+        ensures number { IfOk result (λ c. c.holder.number ≡ self.old.clients) }
+        ensures made { OnOk result
+            (self.new ≡ record self.old { clients = self.old.clients + 1 }) }
         ensures full { IfErr result (λ e. e ≡ NoPlace) }
-        ensures ids { self.new ≡ self.old }
+        ensures unmade { OnErr result (self.new ≡ self.old) }
     {
         let Ok(reader) = locked(rt, &self.state).reader() else {
             return Err(Refusal::NoPlace);
@@ -172,7 +176,7 @@ impl<L: EngineName> Engine<L> {
         now: u64,
         command: &Command,
     ) -> Submitted
-        ensures { Submits self.now client.old now
+        ensures { Submits self.now.ids client.old now
             (record { command = command.now; request = None }) result client.new }
     {
         self.submit_request(rt, client, now, &Asked::of(command))
@@ -189,7 +193,7 @@ impl<L: EngineName> Engine<L> {
     /// Constant time under the lock, but where something has to be published: then the cost is that
     /// of `Feed::publish`, which waits for readings, too.
     pub fn catch_up<R: Wait>(&self, rt: &R, client: &mut Client<L>, now: u64) -> bool
-        ensures { CatchesUp self.now client.old now result client.new }
+        ensures { CatchesUp self.now.ids client.old now result client.new }
     {
         client.leave();
         locked(rt, &self.state).catch_up(rt, client, now)
@@ -205,7 +209,7 @@ impl<L: EngineName> Engine<L> {
         client: &mut Client<L>,
         number: u64,
     ) -> Result<Message, AllocError>
-        ensures { EntersAlone self.now client.old (Event.delivery number) (delivery_outcome result)
+        ensures { EntersAlone self.now.ids client.old (Event.delivery number) (delivery_outcome result)
             client.new }
     {
         client.leave();
@@ -220,7 +224,7 @@ impl<L: EngineName> Engine<L> {
         client: &mut Client<L>,
         number: u64,
     ) -> Result<(), Refusal>
-        ensures ends { EntersAlone self.now client.old (Event.ending number)
+        ensures ends { EntersAlone self.now.ids client.old (Event.ending number)
             (said (WireTold.closed (is_ok result))) client.new }
         ensures missing { IfErr result (λ e. e ≡ NoWatch) }
     {
@@ -235,7 +239,7 @@ impl<L: EngineName> Engine<L> {
     /// What was appended is published where the step says Done, and after 100 steps that were not
     /// told of; that waits for readings, as [`Engine::submit`] does.
     pub fn trim_once<R: Wait>(&self, rt: &R, client: &mut Client<L>) -> Result<Trim, Refusal>
-        ensures trims { MayTrim self.now client.old result client.new }
+        ensures trims { MayTrim self.now.ids client.old result client.new }
         ensures refused { IfErr result (λ e. e ≡ Memory) }
     {
         client.leave();
@@ -253,7 +257,7 @@ impl<L: EngineName> Engine<L> {
         client: &mut Client<L>,
         now: u64,
     ) -> Result<Expiry, Refusal>
-        ensures { SubmitsExpiry self.now client.old now result client.new }
+        ensures { SubmitsExpiry self.now.ids client.old now result client.new }
     {
         client.leave();
         let mut state = locked(rt, &self.state);
@@ -266,14 +270,15 @@ impl<L: EngineName> Engine<L> {
     /// of all events is a history, the core stands for the world that it leads to, each event is of one
     /// of the clients, and the core's revision is 1 plus the sum of their shares (`Closes`).
     ///
-    /// `CloseFault` is Missing: some client did not come, so there are fewer than 64. Takes no
+    /// `CloseFault` is Missing: fewer clients came than the engine made. Takes no
     /// memory. What readers were shown is let go, which waits for their readings; those of the
     /// clients that came are left first.
     pub fn close<R: Wait>(self, rt: &R, clients: Vec<Client<L>>) -> Result<Core, CloseFault<L>>
-        ensures closes { IfOk result (λ core. Closes self core clients.items) }
-        ensures missing { IfErr result (λ f. length clients.items < 64) }
+        ensures closes { IfOk result (λ core. Closes self.ids core clients.items) }
+        ensures all { OnOk result (self.clients ≤ length clients.items) }
+        ensures missing { IfErr result (λ f. length clients.items < self.clients) }
         ensures clients { IfErr result (λ f. f.clients ≡ clients) }
-        ensures ids { IfErr result (λ f. f.engine ≡ self) }
+        ensures engine { IfErr result (λ f. f.engine ≡ self) }
     {
         let Engine {
             alloc,
@@ -284,13 +289,13 @@ impl<L: EngineName> Engine<L> {
             taken,
             news,
         } = self;
-        let roster = roster.into_roster();
+        let roster = roster.into_roster(rt);
         if clients.len() < roster.holders() {
             let engine = Engine {
                 alloc,
                 ids,
                 is_recorded,
-                roster: Kept::new(roster),
+                roster: Kept::of(roster),
                 state,
                 taken,
                 news,

@@ -50,7 +50,7 @@ fn make_trim_step<L: EngineName, G: Gate, R: Wait>(
     client: &mut Client<L>,
 ) -> bool
     ensures { (step : Result TrimOf RefusalOf)
-        × MayTrim events.now.engine.now client.old step client.new × (result ≡ is_last step) }
+        × MayTrim events.now.engine.now.ids client.old step client.new × (result ≡ is_last step) }
 {
     ends_round(events.trim(client))
 }
@@ -97,7 +97,7 @@ fn make_expiry_step<L: EngineName, G: Gate, C: Clock, R: Wait>(
     client: &mut Client<L>,
 ) -> bool
     ensures { (now : ℕ) × C.Tells clock.now now × (step : Result ExpiryOf RefusalOf)
-        × SubmitsExpiry events.now.engine.now client.old now step client.new × (result ≡ has_ended step) }
+        × SubmitsExpiry events.now.engine.now.ids client.old now step client.new × (result ≡ has_ended step) }
 {
     ended_lease(events.expire(client, clock.now()))
 }

@@ -1,5 +1,5 @@
 //! What a server begins with.
-ghost use Rattle.std.specs.Prelude.{◌≡◌, IfOk, IfErr};
+ghost use Rattle.std.specs.Prelude.{◌≡◌, ◌+◌, IfOk, IfErr};
 ghost use Rattle.engine_lock.specs.Locked.{IsNew};
 ghost use Rattle.http_front.specs.Ends.{IsOfServer};
 
@@ -28,7 +28,8 @@ impl<L: EngineName> Begun<L> {
     /// An engine, and a client that is made of it, which made no event yet. Fails with
     /// `Front::Unclosed` where it has no place for one.
     pub fn new<R: Wait>(rt: &R, engine: Engine<L>) -> Result<Self, Front>
-        ensures engine { IfOk result (λ begun. begun.engine ≡ engine) }
+        ensures engine { IfOk result
+            (λ begun. begun.engine ≡ record engine { clients = engine.clients + 1 }) }
         ensures client { IfOk result (λ begun. IsNew begun.client) }
         ensures fault { IfErr result IsOfServer }
     {

@@ -36,9 +36,9 @@ pub(crate) fn looked<L: EngineName, G: Gate, C: Clock, R: Wait>(
     command: &Command,
 ) -> Option<Outcome>
     requires { C.Tells clock.now now }
-    ensures looks { IfSome result (λ o. Looks events.now.engine.now L.recorded (C.Tells clock.now)
+    ensures looks { IfSome result (λ o. Looks events.now.engine.now.ids L.recorded (C.Tells clock.now)
         client.old command.now o client.new) }
-    ensures none { IfNone result (Starts events.now.engine.now (C.Tells clock.now) command.now
+    ensures none { IfNone result (Starts events.now.engine.now.ids (C.Tells clock.now) command.now
         client.old client.new) }
 {
     match range_of(command) {
@@ -67,10 +67,10 @@ fn looked_up<L: EngineName, G: Gate, C: Clock, R: Wait>(
     query: &RangeQuery,
 ) -> Option<Outcome>
     requires { C.Tells clock.now now }
-    ensures looks { IfSome result (λ o. LooksUp events.now.engine.now L.recorded (C.Tells clock.now)
+    ensures looks { IfSome result (λ o. LooksUp events.now.engine.now.ids L.recorded (C.Tells clock.now)
         client.old query.now o client.new) }
     ensures none { IfNone result
-        (Stays events.now.engine.now (C.Tells clock.now) client.old client.new) }
+        (Stays events.now.engine.now.ids (C.Tells clock.now) client.old client.new) }
 {
     if !may_begin(events, clock, client, now, query) {
         return None;
@@ -88,9 +88,9 @@ fn may_begin<L: EngineName, G: Gate, C: Clock, R: Wait>(
     query: &RangeQuery,
 ) -> bool
     requires { C.Tells clock.now now }
-    ensures { MatchBool result (Begins events.now.engine.now L.recorded (C.Tells clock.now)
+    ensures { MatchBool result (Begins events.now.engine.now.ids L.recorded (C.Tells clock.now)
         query.now.serializable client.old client.new)
-        (Stays events.now.engine.now (C.Tells clock.now) client.old client.new) }
+        (Stays events.now.engine.now.ids (C.Tells clock.now) client.old client.new) }
 {
     query.serializable || is_caught_up(events, clock, client, now)
 }
@@ -105,8 +105,8 @@ fn is_caught_up<L: EngineName, G: Gate, C: Clock, R: Wait>(
 ) -> bool
     requires { C.Tells clock.now now }
     ensures { MatchBool result ((L.recorded ≡ false)
-        × CatchesUp events.now.engine.now (C.Tells clock.now) true client.old client.new)
-        (Stays events.now.engine.now (C.Tells clock.now) client.old client.new) }
+        × CatchesUp events.now.engine.now.ids (C.Tells clock.now) true client.old client.new)
+        (Stays events.now.engine.now.ids (C.Tells clock.now) client.old client.new) }
 {
     let _ = clock;
     if events.is_recorded() {

@@ -39,11 +39,11 @@ where
     C: Clock,
     R: Wait + time::Clock,
 {
-    ghost Answers = { λ by. engines.Answers by.events.engine.now L.recorded (C.Tells by.clock.now) };
+    ghost Answers = { λ by. engines.Answers by.events.engine.now.ids L.recorded (C.Tells by.clock.now) };
 
-    ghost Tells = { λ by. engines.Tells by.events.engine.now (G.Left by.events.gate.now by.call) };
+    ghost Tells = { λ by. engines.Tells by.events.engine.now.ids (G.Left by.events.gate.now by.call) };
 
-    ghost Finishes = { λ by. engines.Finishes by.events.engine.now };
+    ghost Finishes = { λ by. engines.Finishes by.events.engine.now.ids };
 
     fn awaits(&self) {
         self.events.gate.awaits(self.call);
@@ -92,8 +92,8 @@ fn told_next<L: EngineName, G: Gate, R: Wait>(
     client: &mut Client<L>,
     number: u64,
 ) -> Option<Told>
-    ensures { MatchOption result (IsQuiet events.now.engine.now number client.old client.new)
-        (λ t. Says events.now.engine.now number client.old t client.new) }
+    ensures { MatchOption result (IsQuiet events.now.engine.now.ids number client.old client.new)
+        (λ t. Says events.now.engine.now.ids number client.old t client.new) }
 {
     match events.deliver(client, number) {
         Ok(Message::Text(text)) => Some(Told::Text(text)),
@@ -128,8 +128,8 @@ fn done<L: EngineName, G: Gate, C: Clock, R: Wait>(
     asked: &Asked<'_>,
 ) -> Outcome
     requires { C.Tells clock.now now }
-    ensures { Submits events.now.engine.now (C.Tells clock.now) client.old asked.now result client.new
-        ⊎ Looks events.now.engine.now L.recorded (C.Tells clock.now) client.old asked.now.command
+    ensures { Submits events.now.engine.now.ids (C.Tells clock.now) client.old asked.now result client.new
+        ⊎ Looks events.now.engine.now.ids L.recorded (C.Tells clock.now) client.old asked.now.command
         result client.new }
 {
     if let Some(outcome) = looked(events, clock, alloc, client, now, asked.command()) {
@@ -148,7 +148,7 @@ pub fn post<L: EngineName, G: Gate, R: Wait>(
     path: &[u8],
     body: &[u8],
 ) -> Outcome
-    ensures { Posts events.now.engine.now client.old path.now body.now result client.new }
+    ensures { Posts events.now.engine.now.ids client.old path.now body.now result client.new }
 {
     match read(alloc, path, body) {
         Ok(command) => {
@@ -169,7 +169,7 @@ fn performed<L: EngineName, G: Gate, C: Clock, R: Wait>(
     asked: &Asked<'_>,
 ) -> Outcome
     requires { C.Tells clock.now now }
-    ensures { Does events.now.engine.now (C.Tells clock.now) client.old asked.now result client.new }
+    ensures { Does events.now.engine.now.ids (C.Tells clock.now) client.old asked.now result client.new }
 {
     let _ = clock;
     let submitted = events.submit(client, now, asked);
@@ -182,7 +182,7 @@ fn awaited<L: EngineName, G: Gate, R: Wait>(
     client: &mut Client<L>,
     submitted: Submitted,
 ) -> Outcome
-    ensures { Awaits events.now.engine.now submitted result client.old client.new }
+    ensures { Awaits events.now.engine.now.ids submitted result client.old client.new }
 {
     if submitted.outcome.waits {
         if trim_all(events, client) {
@@ -212,7 +212,7 @@ fn trim_all<L: EngineName, G: Gate, R: Wait>(
     events: &Recorded<'_, L, G, R>,
     client: &mut Client<L>,
 ) -> bool
-    ensures { AreTrimmed events.now.engine.now result client.old client.new }
+    ensures { AreTrimmed events.now.engine.now.ids result client.old client.new }
 {
     let mut refusals = 0;
     for _ in events.rt.forever() {

@@ -59,11 +59,11 @@ where
     C: Clock,
     R: Wait + time::Clock,
 {
-    ghost Answers = { λ w. handing.Answers w.by.events.engine.now L.recorded (C.Tells w.by.clock.now) };
+    ghost Answers = { λ w. handing.Answers w.by.events.engine.now.ids L.recorded (C.Tells w.by.clock.now) };
 
     ghost Tells = { λ w. handing.Tells };
 
-    ghost Finishes = { λ w. handing.Finishes w.by.events.engine.now };
+    ghost Finishes = { λ w. handing.Finishes w.by.events.engine.now.ids };
 
     fn awaits(&self) {
         Answering::<Client<L>>::awaits(&self.by);

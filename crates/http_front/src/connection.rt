@@ -64,8 +64,8 @@ where
     Out: Write,
     ensures serves { NotBegun (naming client.old call) client.new
         (Out.contents (inner_of w.old)) (Out.contents (inner_of w.new)) result
-        ⊎ Serves Caller (IsAnswered Caller (Answers engine.now L.recorded (C.Tells clock.now)) (Tells engine.now (G.Left gate.now call))
-        (Finishes engine.now)) 18446744073709551615
+        ⊎ Serves Caller (IsAnswered Caller (Answers engine.now.ids L.recorded (C.Tells clock.now)) (Tells engine.now.ids (G.Left gate.now call))
+        (Finishes engine.now.ids)) 18446744073709551615
         (progress (naming client.old call) (In.remaining (inner_of r.old)) [] (Out.contents (inner_of w.old)))
         (Out.contents (inner_of w.new)) client.new result }
     ensures gives { Gets (naming client.old call) client.new }
@@ -106,7 +106,7 @@ where
     Out: Write,
     ensures serves { NotBegun (handing.naming serving.old call) serving.new
         (Out.contents (inner_of w.old)) (Out.contents (inner_of w.new)) result
-        ⊎ Serves Hands (IsAnswered Hands (handing.Answers engine.now L.recorded (C.Tells clock.now)) handing.Tells (handing.Finishes engine.now))
+        ⊎ Serves Hands (IsAnswered Hands (handing.Answers engine.now.ids L.recorded (C.Tells clock.now)) handing.Tells (handing.Finishes engine.now.ids))
         18446744073709551615
         (progress (handing.naming serving.old call) (In.remaining (inner_of r.old)) [] (Out.contents (inner_of w.old)))
         (Out.contents (inner_of w.new)) serving.new result }

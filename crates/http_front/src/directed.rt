@@ -82,7 +82,7 @@ where
     G: Gate + Sync,
     D: Directing<L>,
     R: Wait + Threads + time::Clock + Net + Sync,
-    ensures closed { IfOk result (λ core. IsClosed begun.engine core) }
+    ensures closed { IfOk result (λ core. IsClosed begun.engine.ids core) }
     ensures fault { IfErr result IsOfServer }
 {
     let Begun { engine, client } = begun;

@@ -1,5 +1,5 @@
 //! The threads of a server.
-ghost use Rattle.std.specs.Prelude.{◌≡◌, length, None, Err, IfOk, IfErr, IfSome};
+ghost use Rattle.std.specs.Prelude.{◌≡◌, ◌+◌, length, None, Err, IfOk, IfErr, IfSome, OnOk, OnErr};
 ghost use Rattle.engine_lock.specs.Entering.{Closes};
 ghost use Rattle.engine_lock.specs.Locked.{IsNew};
 ghost use Rattle.http_front.specs.Closed.{IsClosed};
@@ -62,7 +62,7 @@ where
     G: Gate + Sync,
     C: Clock + Sync,
     R: Wait + Threads + time::Clock + Net + Sync,
-    ensures closed { IfOk result (λ core. IsClosed engine core) }
+    ensures closed { IfOk result (λ core. IsClosed engine.ids core) }
     ensures fault { IfErr result IsOfServer }
 {
     let limits = Limits {
@@ -90,7 +90,7 @@ where
     G: Gate + Sync,
     C: Clock + Sync,
     R: Wait + Threads + time::Clock + Net + Sync,
-    ensures closed { IfOk result (λ core. IsClosed begun.engine core) }
+    ensures closed { IfOk result (λ core. IsClosed begun.engine.ids core) }
     ensures fault { IfErr result IsOfServer }
 {
     let Begun {
@@ -142,8 +142,9 @@ pub(crate) fn keeping_of<L: EngineName, R: Wait + Net>(
     alloc: Global,
     engine: &mut Engine<L>,
 ) -> Result<(Keeping<L>, Handing), Front>
+    ensures made { OnOk result (engine.new ≡ record engine.old { clients = engine.old.clients + 1 }) }
     ensures fault { IfErr result IsOfServer }
-    ensures engine { engine.new ≡ engine.old }
+    ensures ids { engine.new.ids ≡ engine.old.ids }
 {
     let client = match client_of(rt, engine) {
         Ok(client) => client,
@@ -181,8 +182,9 @@ fn front_of(trouble: Trouble) -> Front
 /// A client.
 fn client_of<L: EngineName, R: Wait>(rt: &R, engine: &mut Engine<L>) -> Result<Client<L>, Front>
     ensures new { IfOk result IsNew }
+    ensures made { OnOk result (engine.new ≡ record engine.old { clients = engine.old.clients + 1 }) }
+    ensures unmade { OnErr result (engine.new ≡ engine.old) }
     ensures fault { IfErr result IsOfServer }
-    ensures engine { engine.new ≡ engine.old }
 {
     match engine.client(rt) {
         Ok(client) => Ok(client),
@@ -190,7 +192,7 @@ fn client_of<L: EngineName, R: Wait>(rt: &R, engine: &mut Engine<L>) -> Result<C
     }
 }
 
-/// So many clients.
+/// So many clients, and no others.
 pub(crate) fn clients_of<L: EngineName, R: Wait>(
     rt: &R,
     alloc: Global,
@@ -198,8 +200,10 @@ pub(crate) fn clients_of<L: EngineName, R: Wait>(
     count: u64,
 ) -> Result<Vec<Client<L>>, Front>
     ensures count { IfOk result (λ clients. length clients.items ≡ count) }
+    ensures made { OnOk result
+        (engine.new ≡ record engine.old { clients = engine.old.clients + count }) }
     ensures fault { IfErr result IsOfServer }
-    ensures engine { engine.new ≡ engine.old }
+    ensures ids { engine.new.ids ≡ engine.old.ids }
 {
     let mut clients = Vec::new(alloc);
     for _ in 0..count {
@@ -222,8 +226,8 @@ pub(crate) fn closed<L: EngineName, R: Wait>(
     clients: Vec<Client<L>>,
     trouble: Option<Trouble>,
 ) -> Result<Core, Front>
-    ensures closed { IfOk result (λ core. IsClosed engine core) }
-    ensures closes { IfOk result (λ core. Closes engine core clients.items) }
+    ensures closed { IfOk result (λ core. IsClosed engine.ids core) }
+    ensures closes { IfOk result (λ core. Closes engine.ids core clients.items) }
     ensures told { IfSome trouble (λ t. result ≡ Err (fault_of t)) }
     ensures fault { IfErr result IsOfServer }
 {

@@ -31,7 +31,7 @@ impl<'e, L: EngineName, G, R: Wait> Takes for Recorded<'e, L, G, R> {
     ghost use Rattle.event_script.specs.Scripts.{Taken};
     ghost use Rattle.engine_lock.specs.Takings.{TakesLines};
 
-    ghost Gives = { λ r text all. (old : Taken) × (new : Taken) × TakesLines r.engine.now old new text all };
+    ghost Gives = { λ r text all. (old : Taken) × (new : Taken) × TakesLines r.engine.now.ids old new text all };
 
     fn take(&self, text: &mut Vec<u8>) -> bool {
         let mut taken = locked(self.rt, self.engine.taken());
@@ -49,7 +49,7 @@ impl<'e, L: EngineName, G: Gate, R: Wait> Recorded<'e, L, G, R> {
 
     /// [`Engine::submit_request`].
     pub fn submit(&self, client: &mut Client<L>, now: u64, asked: &Asked<'_>) -> Submitted
-        ensures { Submits self.now.engine.now client.old now asked.now result client.new }
+        ensures { Submits self.now.engine.now.ids client.old now asked.now result client.new }
     {
         let submitted = self.engine.submit_request(self.rt, client, now, asked);
         self.gate.recorded(self);
@@ -66,7 +66,7 @@ impl<'e, L: EngineName, G: Gate, R: Wait> Recorded<'e, L, G, R> {
 
     /// [`Engine::deliver`].
     pub fn deliver(&self, client: &mut Client<L>, number: u64) -> Result<Message, AllocError>
-        ensures { EntersAlone self.now.engine.now client.old (Event.delivery number)
+        ensures { EntersAlone self.now.engine.now.ids client.old (Event.delivery number)
             (delivery_outcome result) client.new }
     {
         let told = self.engine.deliver(self.rt, client, number);
@@ -76,7 +76,7 @@ impl<'e, L: EngineName, G: Gate, R: Wait> Recorded<'e, L, G, R> {
 
     /// [`Engine::drop_watch`].
     pub fn drop_watch(&self, client: &mut Client<L>, number: u64) -> Result<(), Refusal>
-        ensures ends { EntersAlone self.now.engine.now client.old (Event.ending number)
+        ensures ends { EntersAlone self.now.engine.now.ids client.old (Event.ending number)
             (said (WireTold.closed (is_ok result))) client.new }
         ensures missing { IfErr result (λ e. e ≡ NoWatch) }
     {
@@ -87,7 +87,7 @@ impl<'e, L: EngineName, G: Gate, R: Wait> Recorded<'e, L, G, R> {
 
     /// [`Engine::trim_once`].
     pub fn trim(&self, client: &mut Client<L>) -> Result<Trim, Refusal>
-        ensures trims { MayTrim self.now.engine.now client.old result client.new }
+        ensures trims { MayTrim self.now.engine.now.ids client.old result client.new }
         ensures refused { IfErr result (λ e. e ≡ Memory) }
     {
         let step = self.engine.trim_once(self.rt, client);
@@ -97,7 +97,7 @@ impl<'e, L: EngineName, G: Gate, R: Wait> Recorded<'e, L, G, R> {
 
     /// [`Engine::expire_once`].
     pub fn expire(&self, client: &mut Client<L>, now: u64) -> Result<Expiry, Refusal>
-        ensures { SubmitsExpiry self.now.engine.now client.old now result client.new }
+        ensures { SubmitsExpiry self.now.engine.now.ids client.old now result client.new }
     {
         let step = self.engine.expire_once(self.rt, client, now);
         self.gate.recorded(self);
@@ -107,7 +107,7 @@ impl<'e, L: EngineName, G: Gate, R: Wait> Recorded<'e, L, G, R> {
 
     /// [`Engine::moment`], which is never written down before another event comes.
     pub fn moment(&self, client: &mut Client<L>, now: u64) -> u64
-        ensures { Makes self.now.engine.now client.old (Event.moment now)
+        ensures { Makes self.now.engine.now.ids client.old (Event.moment now)
             (events.WireEvent.moment now) (said (WireTold.clock result)) client.new }
     {
         self.engine.moment(self.rt, client, now)
@@ -115,7 +115,7 @@ impl<'e, L: EngineName, G: Gate, R: Wait> Recorded<'e, L, G, R> {
 
     /// [`Engine::trim_checked`].
     pub fn trim_checked(&self, client: &mut Client<L>) -> Result<Trimmed, Refusal>
-        ensures makes { MatchResult result (λ t. Makes self.now.engine.now client.old Event.trimming
+        ensures makes { MatchResult result (λ t. Makes self.now.engine.now.ids client.old Event.trimming
             events.WireEvent.trim (said (trimmed_view t)) client.new)
             (λ e. ShowsTo client.old client.new) }
         ensures refused { IfErr result (λ e. e ≡ Memory) }
@@ -127,7 +127,7 @@ impl<'e, L: EngineName, G: Gate, R: Wait> Recorded<'e, L, G, R> {
 
     /// [`Engine::certificate`], which has no line.
     pub fn certificate(&self, client: &mut Client<L>) -> Result<Certified, AllocError>
-        ensures { Makes self.now.engine.now client.old Event.certificate events.WireEvent.certify
+        ensures { Makes self.now.engine.now.ids client.old Event.certificate events.WireEvent.certify
             (certified_outcome result) client.new }
     {
         self.engine.certificate(self.rt, client)

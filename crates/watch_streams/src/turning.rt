@@ -57,7 +57,7 @@ pub fn take_turn<L: EngineName, G: Gate, R: Wait, W: Write>(
     client: &mut Client<L>,
     line: &mut Line<W>,
 ) -> Turn
-    ensures turned { Turned events.now.engine.now client.old line.old result client.new line.new }
+    ensures turned { Turned events.now.engine.now.ids client.old line.old result client.new line.new }
     ensures exact { is_cut result ≡ false → IsExact client.old line.old client.new line.new }
 {
     for _ in 0..MOST_STEPS {
@@ -75,7 +75,7 @@ fn step<L: EngineName, G: Gate, R: Wait, W: Write>(
     client: &mut Client<L>,
     line: &mut Line<W>,
 ) -> Option<Turn>
-    ensures { Steps events.now.engine.now client.old line.old result client.new line.new }
+    ensures { Steps events.now.engine.now.ids client.old line.old result client.new line.new }
 {
     match tell(events, client, line) {
         Next::Told | Next::Ended => None,

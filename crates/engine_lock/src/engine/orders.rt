@@ -20,7 +20,7 @@ impl<L: EngineName> Engine<L> {
     /// Hands in the moment `now`, in milliseconds, and tells the clock: the greatest moment so far,
     /// at most 2^62. One before the clock leaves it. Takes no memory. The client's reading is left.
     pub fn moment<R: Wait>(&self, rt: &R, client: &mut Client<L>, now: u64) -> u64
-        ensures { Makes self.now client.old (Event.moment now) (events.WireEvent.moment now)
+        ensures { Makes self.now.ids client.old (Event.moment now) (events.WireEvent.moment now)
             (said (WireTold.clock result)) client.new }
     {
         client.leave();
@@ -39,7 +39,7 @@ impl<L: EngineName> Engine<L> {
         rt: &R,
         client: &mut Client<L>,
     ) -> Result<Certified, AllocError>
-        ensures { Makes self.now client.old Event.certificate events.WireEvent.certify
+        ensures { Makes self.now.ids client.old Event.certificate events.WireEvent.certify
             (certified_outcome result) client.new }
     {
         client.leave();
@@ -51,7 +51,7 @@ impl<L: EngineName> Engine<L> {
     /// for the step, and then nothing has changed; where the certificate finds none, the step tells
     /// none. The client's reading is left.
     pub fn trim_checked<R: Wait>(&self, rt: &R, client: &mut Client<L>) -> Result<Trimmed, Refusal>
-        ensures makes { MatchResult result (λ t. Makes self.now client.old Event.trimming
+        ensures makes { MatchResult result (λ t. Makes self.now.ids client.old Event.trimming
             events.WireEvent.trim (said (trimmed_view t)) client.new)
             (λ e. ShowsTo client.old client.new) }
         ensures refused { IfErr result (λ e. e ≡ Memory) }

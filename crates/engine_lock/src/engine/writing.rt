@@ -27,7 +27,7 @@ impl<L: EngineName> Engine<L> {
         requires book { opening.book ≡ L.ListName.book }
         requires ids { ids ≡ L.ListName.ids }
         requires recorded { L.recorded ≡ true }
-        ensures { result ≡ ids }
+        ensures { result ≡ record { ids = ids; clients = 0 } }
     {
         Engine::opened(alloc, opening, ids, true)
     }
@@ -41,7 +41,7 @@ impl<L: EngineName> Engine<L> {
         now: u64,
         asked: &Asked<'_>,
     ) -> Submitted
-        ensures { Submits self.now client.old now asked.now result client.new }
+        ensures { Submits self.now.ids client.old now asked.now result client.new }
     {
         client.leave();
         let mut state = locked(rt, &self.state);
@@ -64,7 +64,7 @@ impl<L: EngineName> Engine<L> {
     /// of the list of all events up to the one that `taken` tells from then on, or, where lines are
     /// missing, of a beginning of it (`TakesLines`). Constant time under the lock.
     pub fn take_lines<R: Wait>(&self, rt: &R, taken: &mut Taken<L>, text: &mut Vec<u8>) -> bool
-        ensures { TakesLines self.now taken.old taken.new text.new.items result }
+        ensures { TakesLines self.now.ids taken.old taken.new text.new.items result }
     {
         locked(rt, &self.state).take_lines(rt, taken, text)
     }

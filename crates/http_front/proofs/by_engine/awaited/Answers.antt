@@ -7,7 +7,7 @@ pub returns-then-trim_all : goal.returns-then-trim_all
 returns-then-trim_all g c = Awaits.behind c.if-submitted.true c.if-trim_all.ensures
 
 pub returns-then-submitted : goal.returns-then-submitted
-returns-then-submitted g c = subst (λ (x : Outcome). Awaits c.args.events.now.engine.now c.args.submitted x c.args.client.now c.trim_all.new.client)
+returns-then-submitted g c = subst (λ (x : Outcome). Awaits c.args.events.now.engine.now.ids c.args.submitted x c.args.client.now c.trim_all.new.client)
     (sym c.lost.ensures) (Awaits.lost c.if-submitted.true c.if-trim_all.ensures)
 
 pub returns : goal.returns

@@ -6,4 +6,4 @@ use Rattle.http_front.proofs.connection.work.Goals as goal
 
 pub returns-clause-gives : goal.returns-clause-gives
 returns-clause-gives g c = subst (λ (x : Caller). Gets x c.serve_all.new.state) c.set_about.ensures
-    (served c.args.engine.now g.L.EngineName.recorded _ _ _ [] 18446744073709551615 _ _ _ _ _ c.serve_all.ensures.serves)
+    (served c.args.engine.now.ids g.L.EngineName.recorded _ _ _ [] 18446744073709551615 _ _ _ _ _ c.serve_all.ensures.serves)

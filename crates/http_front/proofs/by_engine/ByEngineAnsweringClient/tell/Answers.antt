@@ -11,8 +11,8 @@ pub returns-in-Some-told_next : goal.returns-in-Some-told_next
 returns-in-Some-told_next g c = inl (
   c.loop.state,
   c.loop.invariant,
-  subst (λ (r : Option Told). MatchOption r (IsQuiet c.args.self.now.events.engine.now c.args.number c.loop.state c.told_next.new.client)
-      (λ t. Says c.args.self.now.events.engine.now c.args.number c.loop.state t c.told_next.new.client)) c.in-Some-told_next.is c.told_next.ensures,
+  subst (λ (r : Option Told). MatchOption r (IsQuiet c.args.self.now.events.engine.now.ids c.args.number c.loop.state c.told_next.new.client)
+      (λ t. Says c.args.self.now.events.engine.now.ids c.args.number c.loop.state t c.told_next.new.client)) c.in-Some-told_next.is c.told_next.ensures,
 )
 
 pub loop-preserved : goal.loop-preserved

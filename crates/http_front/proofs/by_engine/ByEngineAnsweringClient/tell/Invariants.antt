@@ -3,4 +3,4 @@ use Rattle.http_front.proofs.by_engine.ByEngineAnsweringClient.tell.Given as goa
 
 -- whatever has told nothing so far
 abbrev pub invariant-loop : goal.invariant-loop
-invariant-loop g l = AreQuiet l.self.events.engine.now l.number l.initial.state l.state
+invariant-loop g l = AreQuiet l.self.events.engine.now.ids l.number l.initial.state l.state
