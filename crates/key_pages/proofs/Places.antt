@@ -1,5 +1,5 @@
 -- Where in ascending pairs a key stands, or has its place.
-use Rattle.std.proofs.Common.{◌≡◌, ℕ, zero, suc, ◌<◌, ◌≤◌, List, [], ◌∷◌, ◌++◌, length, get_or, set, take, drop, Bool, true, false, cond}
+use Rattle.std.proofs.Common.{◌≡◌, ℕ, zero, suc, ◌<◌, ◌≤◌, List, [], ◌∷◌, ◌++◌, length, get_or, set, take, drop, Bool, true, false, not, cond}
 use Rattle.std.proofs.Common.{Option, None, Some, is_some, Result, Ok, Err, OnOk, refl, sym, ◌∙◌, ap, subst, arith}
 use Rattle.std.specs.List.{AllByRecursion, slice_get, insert, remove}
 use Rattle.std.specs.List.Sorted.{IsPartitionedBy}
@@ -12,11 +12,15 @@ use Rattle.kv_model.specs.Keys.{key_cmp}
 use Rattle.store_laws.specs.Rising.{count_while, newest}
 use Rattle.store_laws.proofs.Rising.{each-at, newest-cons}
 use Rattle.key_pages.specs.Pairs.{IsAscending, cut_by, cut_in, found, inserted, put_by, put_in, told_by, with_value, without, from_key}
-use Rattle.key_pages.specs.Paged.{is_below, is_below_or_none, count_below, cut_at, is_pair_of, is_there, ends_below, value_if}
+use Rattle.key_pages.specs.Paged.{is_below, is_below_at, is_place_behind, is_below_or_none, count_below, cut_at, is_pair_of, is_there, ends_below, value_if}
 use Rattle.key_pages.proofs.Pairs.{AreBelow, AreAbove, above-trans, found-above, from-above, turn-greater, turn-less, greater}
 
 no-pair : false ≡ true → ⊥
 no-pair e = cc
+
+pub not-true : (b : Bool) → not b ≡ true → b ≡ false
+not-true true h = cc
+not-true false h = refl
 
 module _ {X : Type 0} where
   length-set : (x : X) (i : ℕ) (es : List X) → length (set es i x) ≡ length es
@@ -41,6 +45,23 @@ module _ {X : Type 0} (k : List ℕ) where
       below-through e (get_or es j d) (each-at (λ (f : List ℕ × X). key_cmp e.0 f.0 ≡ Less) es j d r.0 (omega arith)) h
   below-partitioned (e ∷ es) r (suc i) zero d l m h = absurd (omega arith)
   below-partitioned (e ∷ es) r (suc i) (suc j) d l m h = below-partitioned es r.1 i j d (omega arith) (omega arith) h
+
+  -- a key that has one below it before an index is above the first, too
+  below-first : (e : List ℕ × X) (es : List (List ℕ × X)) → AllByRecursion (λ f. key_cmp e.0 f.0 ≡ Less) es → (n : ℕ)
+      → is_below_at k n es ≡ true → is_below k e ≡ true
+  below-first e [] a n h = cc
+  below-first e (f ∷ es) a zero h = below-through e f a.0 h
+  below-first e (f ∷ es) a (suc n) h = below-first e es a.1 n h
+
+  -- where the key before is below it, and the one there is not, there is its place
+  pub place : (es : List (List ℕ × X)) → IsAscending es → (n : ℕ) → is_place_behind k n es ≡ true → is_below_at k n es ≡ false
+      → n ≡ count_below k es
+  place [] r zero a b = refl
+  place [] r (suc n) a b = cc
+  place (e ∷ es) r zero a b = sym (ap (λ t. cond t (suc (count_below k es)) zero) b)
+  place (e ∷ es) r (suc zero) a b = ap suc (place es r.1 zero refl b) ∙ sym (ap (λ t. cond t (suc (count_below k es)) zero) a)
+  place (e ∷ es) r (suc (suc n)) a b =
+      ap suc (place es r.1 (suc n) a b) ∙ sym (ap (λ t. cond t (suc (count_below k es)) zero) (below-first e es r.0 n a))
 
   pub found-place : (es : List (List ℕ × X)) → IsAscending es → found k es ≡ value_if k (slice_get es (count_below k es))
   found-place [] r = refl

@@ -43,6 +43,19 @@ module _ {X : Type 0} where
   abbrev pub is_there : List ℕ → ℕ → List (List ℕ × X) → Bool
   is_there k i es = is_pair_of k (slice_get es i)
 
+  abbrev pub is_below_pair : List ℕ → Option (List ℕ × X) → Bool
+  is_below_pair k None = false
+  is_below_pair k (Some e) = is_below k e
+
+  -- there is a key at an index that is below another
+  abbrev pub is_below_at : List ℕ → ℕ → List (List ℕ × X) → Bool
+  is_below_at k i es = is_below_pair k (slice_get es i)
+
+  -- the key before an index, if it is not the first, is below another
+  abbrev pub is_place_behind : List ℕ → ℕ → List (List ℕ × X) → Bool
+  is_place_behind k zero es = true
+  is_place_behind k (suc i) es = is_below_at k i es
+
   -- the first key of a page, if it has one, is not above another
   abbrev pub starts_up_to : List ℕ → List (List ℕ × X) → Bool
   starts_up_to k [] = true

@@ -46,7 +46,7 @@ fn push_page<V: Drop>(
 }
 
 /// Splits the page at an index, which is full, in half. The error is want of memory.
-fn split_page<V: Drop>(pages: &mut Vec<Page<V>>, index: usize) -> Result<(), AllocError>
+fn split_page<V: Drop>(pages: &mut Vec<Page<V>>, alloc: Global, index: usize) -> Result<(), AllocError>
     requires pages { ArePages pages.old.items }
     requires inside { index < length pages.old.items }
     requires full { (d : List (List ℕ × V)) → 64 ≤ length (get_or pages.old.items index d) }
@@ -55,7 +55,7 @@ fn split_page<V: Drop>(pages: &mut Vec<Page<V>>, index: usize) -> Result<(), All
     ensures some { 0 < length pages.new.items }
 {
     pages.reserve(1)?;
-    let upper = pages[index].split()?;
+    let upper = pages[index].split(alloc)?;
     pages.insert(index + 1, upper)?;
     Ok(())
 }
@@ -127,7 +127,7 @@ fn put_beside<V: Drop, G: Growth<V>>(
     if is_behind(pages, key) {
         return push_page(pages, alloc, key, growth.first());
     }
-    if let Err(error) = split_page(pages, index) {
+    if let Err(error) = split_page(pages, alloc, index) {
         return Err(error);
     }
     let index = page_index(pages, key);

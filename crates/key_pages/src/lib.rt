@@ -12,6 +12,7 @@
 mod change;
 mod changes;
 mod comparing;
+mod heads;
 mod look_up;
 mod map;
 mod page;

@@ -6,11 +6,12 @@ ghost use Rattle.std.specs.List.{insert, remove, slice_get};
 ghost use Rattle.kv_model.specs.Lists.{is_empty};
 ghost use Rattle.store_laws.specs.Rising.{newest};
 ghost use Rattle.key_pages.specs.Pairs.{IsAscending, cut_in, found, put_in, told_by};
-ghost use Rattle.key_pages.specs.Paged.{count_below, cut_at, ends_below, is_below, is_there};
+ghost use Rattle.key_pages.specs.Paged.{count_below, cut_at, ends_below, is_below, is_below_at, is_place_behind, is_there};
 ghost use Rattle.key_pages.specs.Paged.{starts_up_to, value_if};
 
 use crate::change::{Cut, Growth};
 use crate::comparing::order;
+use crate::heads::Heads;
 use bytes::Bytes;
 use std::alloc::{AllocError, Global};
 use std::marker::Model;
@@ -21,9 +22,10 @@ const PLACES: usize = 64;
 /// How many keys stay on a page that is split.
 const HALF: usize = 32;
 
-/// Keys in order, each with its value.
+/// Keys in order, each with its value, and hints of where each stands.
 #[derive(Drop)]
 pub(crate) struct Page<V> {
+    heads: Heads,
     pairs: Vec<(Bytes, V)>,
 }
 
@@ -42,9 +44,11 @@ impl<V> Page<V> {
         V: Drop,
         ensures { IfOk result (λ p. p ≡ (key.now, value) ∷ []) }
     {
+        let mut heads = Heads::of(alloc, 1)?;
         let mut pairs = Vec::new(alloc);
         pairs.push((key.clone()?, value))?;
-        Ok(Page { pairs })
+        heads.renew(pairs.as_slice());
+        Ok(Page { heads, pairs })
     }
 
     /// The keys with their values, lent.
@@ -98,8 +102,63 @@ impl<V> Page<V> {
         self.pairs.last()
     }
 
-    /// How many keys are below a key. It halves.
+    /// How many keys are below a key. It goes by the hints where they are right, which two looks at
+    /// keys tell, and else halves.
     pub(crate) fn count_below(&self, key: &Bytes) -> usize
+        requires { IsAscending self.now }
+        ensures value { result ≡ count_below key.now self.now }
+        ensures bound { result ≤ length self.now }
+    {
+        let hint = self.hint(key);
+        if self.is_place(hint, key) {
+            hint
+        } else {
+            self.halved(key)
+        }
+    }
+
+    /// Where a key has its place, as far as the hints tell: among keys of equal hints it halves.
+    fn hint(&self, key: &Bytes) -> usize {
+        let (low, high) = self.heads.bounds(key.as_slice());
+        if low >= high {
+            return low;
+        }
+        match self.pairs.get(low..high) {
+            Some(pairs) => low.saturating_add(pairs.partition_point(|pair| is_below(key, pair))),
+            None => low,
+        }
+    }
+
+    /// Whether a key has its place at an index: the key before is below it, and the key there is not.
+    fn is_place(&self, index: usize, key: &Bytes) -> bool
+        requires { IsAscending self.now }
+        ensures { IsTrue result → index ≡ count_below key.now self.now }
+    {
+        self.is_behind(index, key) && !self.is_below_at(index, key)
+    }
+
+    /// Whether the key before an index, if it is not the first, is below another.
+    fn is_behind(&self, index: usize, key: &Bytes) -> bool
+        ensures { result ≡ is_place_behind key.now index self.now }
+    {
+        match index.checked_sub(1) {
+            Some(before) => self.is_below_at(before, key),
+            None => true,
+        }
+    }
+
+    /// Whether there is a key at an index that is below another.
+    fn is_below_at(&self, index: usize, key: &Bytes) -> bool
+        ensures { result ≡ is_below_at key.now index self.now }
+    {
+        match self.pair_at(index) {
+            Some(pair) => is_below(key, pair),
+            None => false,
+        }
+    }
+
+    /// How many keys are below a key. It halves.
+    fn halved(&self, key: &Bytes) -> usize
         requires { IsAscending self.now }
         ensures value { result ≡ count_below key.now self.now }
         ensures bound { result ≤ length self.now }
@@ -220,8 +279,25 @@ impl<V> Page<V> {
         ensures ok { OnOk result (self.new ≡ insert self.old index (key.now, value)) }
         ensures err { OnErr result (self.new ≡ self.old) }
     {
-        self.pairs.insert(index, (key.clone()?, value))?;
+        let owned = key.clone()?;
+        self.pairs.reserve(1)?;
+        self.heads.insert(index, key.as_slice())?;
+        self.pairs.insert(index, (owned, value))?;
+        self.note(key);
         Ok(())
+    }
+
+    /// Makes the hints anew where a key that came begins otherwise than the others.
+    fn note(&mut self, key: &Bytes)
+        ensures { self.new ≡ self.old }
+    {
+        let fits = match self.pairs.first() {
+            Some(first) => self.heads.fits(key.as_slice(), first.0.as_slice()),
+            None => true,
+        };
+        if !fits {
+            self.heads.renew(self.pairs.as_slice());
+        }
     }
 
     /// Takes from the value of a key, where it is there, and the key out where nothing is left.
@@ -273,6 +349,7 @@ impl<V> Page<V> {
         ensures { self.new ≡ remove self.old index }
     {
         let _ = self.pairs.remove(index);
+        self.heads.remove(index);
         self.lighten();
     }
 
@@ -283,18 +360,23 @@ impl<V> Page<V> {
     {
         if self.pairs.len() <= self.pairs.capacity() / 8 {
             self.pairs.shrink_to(self.pairs.len() * 2);
+            self.heads.shrink_to(self.pairs.len() * 2);
         }
     }
 
     /// Takes the upper half off. The error is want of memory.
-    pub(crate) fn split(&mut self) -> Result<Page<V>, AllocError>
+    pub(crate) fn split(&mut self, alloc: Global) -> Result<Page<V>, AllocError>
         requires { 64 ≤ length self.old }
         ensures lower { OnOk result (self.new ≡ take 32 self.old) }
         ensures upper { IfOk result (λ p. p ≡ drop 32 self.old) }
         ensures err { OnErr result (self.new ≡ self.old) }
     {
+        let mut heads = Heads::of(alloc, self.pairs.len() - HALF)?;
         let pairs = self.pairs.split_off(HALF)?;
-        Ok(Page { pairs })
+        heads.renew(pairs.as_slice());
+        self.heads.truncate(HALF);
+        self.heads.renew(self.pairs.as_slice());
+        Ok(Page { heads, pairs })
     }
 }
 

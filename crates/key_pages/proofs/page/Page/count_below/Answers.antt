@@ -1,17 +1,9 @@
--- Halving finds the first key that is not below the key.
-use Rattle.std.proofs.Common.{◌≡◌, sym, ◌∙◌, ap, subst, rules}
-use Rattle.std.proofs.lemmas.List.Sorted.{IsPartitionPoint-from_clause}
-use Rattle.store_laws.proofs.Rising.{count_while-point}
-use Rattle.key_pages.specs.Pairs.{IsAscending}
-use Rattle.key_pages.specs.Paged.{count_below, is_below}
-use Rattle.key_pages.proofs.Places.{below-partitioned}
+-- A place that was looked at is how many are below.
+use Rattle.std.proofs.Common.{◌≤◌, length, sym, subst}
+use Rattle.store_laws.proofs.Rising.{count_while-le}
+use Rattle.key_pages.specs.Paged.{is_below}
 use Rattle.key_pages.proofs.page.Page.count_below.Goals as goal
 
-pub returns-clause-value : goal.returns-clause-value
-returns-clause-value g c =
-    let same : c.deref.result.now ≡ c.args.self.now = c.deref.ensures.value ∙ c.self.view_is in
-    let point = IsPartitionPoint-from_clause (is_below c.args.key.now) c.deref.result.now c.partition_point.result c.partition_point.ensures.partitioned
-    (below-partitioned c.args.key.now c.deref.result.now (subst IsAscending (sym same) c.requires))
-    (λ a r q k. search rules) in
-    count_while-point (is_below c.args.key.now) c.deref.result.now c.partition_point.result c.partition_point.ensures.bound point
-    ∙ ap (count_below c.args.key.now) same
+pub returns-then-is_place-clause-bound : goal.returns-then-is_place-clause-bound
+returns-then-is_place-clause-bound g c =
+    subst (λ n. n ≤ length c.args.self.now) (sym (c.is_place.ensures c.if-is_place.true)) (count_while-le (is_below c.args.key.now) c.args.self.now)
