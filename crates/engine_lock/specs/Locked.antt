@@ -1,5 +1,5 @@
 -- What clauses see of an engine: its clients, and what stands under its lock.
-use Rattle.std.specs.Prelude.{◌≡◌, ℕ, List, [], false}
+use Rattle.std.specs.Prelude.{◌≡◌, ℕ, List, [], Bool, false}
 use Rattle.kv_model.specs.declared.ids.Ids.{Ids}
 use Rattle.snapshot_feed.specs.Seats.{Reads}
 use Rattle.snapshot_feed.specs.States.{FeedState}
@@ -9,10 +9,11 @@ use Rattle.event_book.specs.Callers as list
 use Rattle.event_book.specs.Events.{Entry}
 use Rattle.event_script.specs.Scripts.{Taken}
 
--- of an engine: by which ids it answers, and how many clients it made
+-- of an engine: by which ids it answers, how many clients it made, and whether its events are written down
 pub record EngineState : Type 0 where
   pub ids : Ids
   pub clients : ℕ
+  pub recorded : Bool
 
 -- of a client: its number in the list of events, with what it has seen of that; what its next events are about; and its
 -- reader beside the writers

@@ -38,9 +38,9 @@ const PAUSES: u64 = 20;
 /// How often it is asked for then, with other threads let run between, before a thread sleeps.
 const TURNS: u64 = 200;
 
-/// A core that any number of threads share. Clauses see of it by which ids it answers, and how many
-/// clients it made: the roster of these stands outside the lock, so no call by `&` makes one, for its
-/// own use or another's.
+/// A core that any number of threads share. Clauses see of it by which ids it answers, how many
+/// clients it made, and whether its events are written down. The roster of its clients stands outside
+/// the lock, so no call by `&` makes one, for its own use or another's.
 #[derive(Drop)]
 pub struct Engine<L: EngineName> {
     alloc: Global,
@@ -61,7 +61,11 @@ impl<L: EngineName> Model for Engine<L> {
 
     ghost Value = { EngineState };
 
-    ghost view = { λ e. record { ids = e.ids; clients = e.roster.made } };
+    ghost view = { λ e. record {
+        ids = e.ids;
+        clients = e.roster.made;
+        recorded = e.is_recorded;
+    } };
 
     ghost invariant = { λ e. (e.ids ≡ L.ListName.ids) × (e.is_recorded ≡ L.recorded) };
 }
@@ -90,7 +94,7 @@ impl<L: EngineName> Engine<L> {
         requires book { opening.book ≡ L.ListName.book }
         requires ids { ids ≡ L.ListName.ids }
         requires recorded { L.recorded ≡ false }
-        ensures { result ≡ record { ids = ids; clients = 0 } }
+        ensures { result ≡ record { ids = ids; clients = 0; recorded = false } }
     {
         Engine::opened(alloc, opening, ids, false)
     }
@@ -102,7 +106,7 @@ impl<L: EngineName> Engine<L> {
         requires book { opening.book ≡ L.ListName.book }
         requires ids { ids ≡ L.ListName.ids }
         requires recorded { is_recorded ≡ L.recorded }
-        ensures { result ≡ record { ids = ids; clients = 0 } }
+        ensures { result ≡ record { ids = ids; clients = 0; recorded = is_recorded } }
     {
         let (state, roster) = State::new(alloc, opening, is_recorded);
         let taken = state.taken();

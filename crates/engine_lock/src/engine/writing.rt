@@ -27,7 +27,7 @@ impl<L: EngineName> Engine<L> {
         requires book { opening.book ≡ L.ListName.book }
         requires ids { ids ≡ L.ListName.ids }
         requires recorded { L.recorded ≡ true }
-        ensures { result ≡ record { ids = ids; clients = 0 } }
+        ensures { result ≡ record { ids = ids; clients = 0; recorded = true } }
     {
         Engine::opened(alloc, opening, ids, true)
     }
