@@ -249,6 +249,7 @@ pub(crate) fn engine_of<L: EngineName>(
     requires recorded { is_recorded ≡ L.recorded }
     requires ids { ids_in serve.now ≡ L.ListName.ids }
     ensures ids { result.ids ≡ ids_in serve.now }
+    ensures recorded { result.recorded ≡ is_recorded }
 {
     let ids = ids_of(serve);
     if is_recorded {
