@@ -62,9 +62,9 @@ impl<L: EngineName> Model for Engine<L> {
     ghost Value = { EngineState };
 
     ghost view = { λ e. record {
-        ids = e.ids;
-        clients = e.roster.made;
-        recorded = e.is_recorded;
+      ids = e.ids;
+      clients = e.roster.made;
+      recorded = e.is_recorded;
     } };
 
     ghost invariant = { λ e. (e.ids ≡ L.ListName.ids) × (e.is_recorded ≡ L.recorded) };

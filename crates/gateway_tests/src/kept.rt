@@ -30,10 +30,7 @@ const BODIES: [(&str, Option<&[u8]>); 9] = [
 ];
 
 /// The first body that is read otherwise than beside it.
-fn first_other(
-    alloc: Global,
-    cases: &[(&'static str, Option<&[u8]>)],
-) -> Option<&'static str> {
+fn first_other(alloc: Global, cases: &[(&'static str, Option<&[u8]>)]) -> Option<&'static str> {
     let mut reading = Reading::new(alloc);
     for (body, expected) in cases.iter().copied() {
         if !is_read(alloc, &mut reading, body, expected) {

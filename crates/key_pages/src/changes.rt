@@ -46,7 +46,11 @@ fn push_page<V: Drop>(
 }
 
 /// Splits the page at an index, which is full, in half. The error is want of memory.
-fn split_page<V: Drop>(pages: &mut Vec<Page<V>>, alloc: Global, index: usize) -> Result<(), AllocError>
+fn split_page<V: Drop>(
+    pages: &mut Vec<Page<V>>,
+    alloc: Global,
+    index: usize,
+) -> Result<(), AllocError>
     requires pages { ArePages pages.old.items }
     requires inside { index < length pages.old.items }
     requires full { (d : List (List ℕ × V)) → 64 ≤ length (get_or pages.old.items index d) }

@@ -55,7 +55,10 @@ impl Heads {
 
     /// Whether a key begins as all others do, of which this is the first.
     pub(crate) fn fits(&self, key: &[u8], first: &[u8]) -> bool {
-        match (key.split_at_checked(self.skip), first.split_at_checked(self.skip)) {
+        match (
+            key.split_at_checked(self.skip),
+            first.split_at_checked(self.skip),
+        ) {
             (Some((start, _)), Some((other, _))) => start == other,
             _ => false,
         }
