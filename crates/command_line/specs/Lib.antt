@@ -1,4 +1,3 @@
-pub mod Histories
 pub mod Serving
 pub mod Controls
 pub mod ReadBack

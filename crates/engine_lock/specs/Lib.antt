@@ -1,7 +1,12 @@
-pub mod Entering
+pub mod Asking
 pub mod Fits
 pub mod Lending
 pub mod Locked
-pub mod Makings
+pub mod Notes
+pub mod Orders
+pub mod PastViews
+pub mod Pasts
+pub mod Reached
 pub mod Readings
 pub mod Takings
+pub mod Written

@@ -1,5 +1,5 @@
 //! The calls of an engine, each by itself.
-ghost use Rattle.std.specs.Prelude.{◌≡◌, false};
+ghost use Rattle.std.specs.Prelude.{◌≡◌};
 
 use crate::lock_replies::ONES;
 use crate::texts::{GRANT, PUT, WATCH};
@@ -18,11 +18,9 @@ fn made<L: EngineName, R: Wait>(
 ) -> (usize, Option<Refusal>, bool)
     requires name { opening.name ≡ L.Ledger.name }
     requires parts { opening.parts ≡ L.Ledger.parts }
-    requires book { opening.book ≡ L.ListName.book }
-    requires recorded { L.recorded ≡ false }
-    requires ids { L.ListName.ids ≡ record { cluster = 1; member = 1 } }
+    requires book { opening.book ≡ L.book }
 {
-    let mut engine = Engine::<L>::new(alloc, opening, ONES);
+    let engine = Engine::<L>::new(alloc, opening, ONES);
     let mut clients = Vec::new(alloc);
     let mut refused = None;
     for _ in 0..=MOST_CLIENTS {
@@ -101,47 +99,60 @@ fn begin<L: EngineName, R: Wait>(
 
 fn call_each<L: EngineName, R: Wait>(rt: &R, engine: &Engine<L>, client: &mut Client<L>) -> Said {
     Said {
-        is_told: matches!(&engine.deliver(rt, client, 1), Ok(Message::Text(_))),
-        is_quiet: matches!(&engine.deliver(rt, client, 1), Ok(Message::Nothing)),
-        ends: (
-            engine.drop_watch(rt, client, 1),
-            engine.drop_watch(rt, client, 1),
-        ),
-        trims: engine.trim_once(rt, client),
+        is_told: matches!(&engine.deliver(rt, 1), Ok(Message::Text(_))),
+        is_quiet: matches!(&engine.deliver(rt, 1), Ok(Message::Nothing)),
+        ends: (engine.drop_watch(rt, 1), engine.drop_watch(rt, 1)),
+        trims: engine.trim_once(rt),
         expires: engine.expire_once(rt, client, 2000),
         share: client.share(),
     }
 }
 
-/// What each call says on a new engine to the client that posted the beginning, or to another one,
-/// which goes on with what that one began.
+fn call_each_for<L: EngineName, R: Wait>(
+    rt: &R,
+    engine: &Engine<L>,
+    client: &mut Client<L>,
+) -> Said {
+    Said {
+        is_told: matches!(&engine.deliver_for(rt, client, 1), Ok(Message::Text(_))),
+        is_quiet: matches!(&engine.deliver_for(rt, client, 1), Ok(Message::Nothing)),
+        ends: (
+            engine.drop_watch_for(rt, client, 1),
+            engine.drop_watch_for(rt, client, 1),
+        ),
+        trims: engine.trim_once_for(rt, client),
+        expires: engine.expire_once(rt, client, 2000),
+        share: client.share(),
+    }
+}
+
+/// What each call says on a new engine: the calls for a client, or those for nobody.
 fn each_call<L: EngineName, R: Wait>(
     rt: &R,
     alloc: Global,
     opening: Opening,
-    by_another: bool,
+    for_client: bool,
 ) -> Option<Said>
     requires name { opening.name ≡ L.Ledger.name }
     requires parts { opening.parts ≡ L.Ledger.parts }
-    requires book { opening.book ≡ L.ListName.book }
-    requires recorded { L.recorded ≡ false }
-    requires ids { L.ListName.ids ≡ record { cluster = 1; member = 1 } }
+    requires book { opening.book ≡ L.book }
 {
-    let mut engine = Engine::<L>::new(alloc, opening, ONES);
+    let engine = Engine::<L>::new(alloc, opening, ONES);
     let mut client = engine.client(rt).ok()?;
-    let mut other = engine.client(rt).ok()?;
     begin(rt, alloc, &engine, &mut client);
-    let next = if by_another { &mut other } else { &mut client };
-    Some(call_each(rt, &engine, next))
+    if for_client {
+        Some(call_each_for(rt, &engine, &mut client))
+    } else {
+        Some(call_each(rt, &engine, &mut client))
+    }
 }
 
-fn run_each_call<R: Wait>(rt: &R, alloc: Global, by_another: bool) -> Option<Said> {
+fn run_each_call<R: Wait>(rt: &R, alloc: Global, for_client: bool) -> Option<Said> {
     let opening = Opening::new(alloc, rt).ok()?;
-    each_call::<Brand, R>(rt, alloc, opening, by_another)
+    each_call::<Brand, R>(rt, alloc, opening, for_client)
 }
 
-/// What each call says, to a client with this share behind them.
-fn said_of_each_call(share: u64) -> Said {
+fn said_of_each_call() -> Said {
     Said {
         is_told: true,
         is_quiet: true,
@@ -152,7 +163,7 @@ fn said_of_each_call(share: u64) -> Said {
             revision: 4,
             raised: true,
         }),
-        share,
+        share: 3,
     }
 }
 
@@ -160,15 +171,15 @@ fn said_of_each_call(share: u64) -> Said {
 fn each_call_of_an_engine(rt: HostRuntime) {
     assert_eq!(rt;
         run_each_call(&rt, rt.alloc(), false),
-        Some(said_of_each_call(3))
+        Some(said_of_each_call())
     );
 }
 
 #[test]
-fn each_call_by_another_client(rt: HostRuntime) {
+fn each_call_for_a_client(rt: HostRuntime) {
     assert_eq!(rt;
         run_each_call(&rt, rt.alloc(), true),
-        Some(said_of_each_call(1))
+        Some(said_of_each_call())
     );
 }
 
@@ -188,13 +199,10 @@ fn order_each<L: EngineName, R: Wait>(
     reader: &mut Client<L>,
 ) -> Ordered {
     Ordered {
-        clocks: (
-            engine.moment(rt, reader, 5000),
-            engine.moment(rt, reader, 4000),
-        ),
+        clocks: (engine.moment(rt, 5000), engine.moment(rt, 4000)),
         is_caught_up: engine.catch_up(rt, reader, 6000),
-        done: done_of(engine.trim_checked(rt, reader)),
-        kept: kept_of(rt, engine, reader),
+        done: done_of(engine.trim_checked(rt)),
+        kept: kept_of(rt, engine),
     }
 }
 
@@ -207,12 +215,8 @@ fn done_of(step: Result<Trimmed, Refusal>) -> Option<(u64, bool)> {
 }
 
 /// Of what is kept: the compaction, the revision, how many versions and how many needs.
-fn kept_of<L: EngineName, R: Wait>(
-    rt: &R,
-    engine: &Engine<L>,
-    client: &mut Client<L>,
-) -> Option<(u64, u64, usize, usize)> {
-    let shown = engine.certificate(rt, client).ok()?;
+fn kept_of<L: EngineName, R: Wait>(rt: &R, engine: &Engine<L>) -> Option<(u64, u64, usize, usize)> {
+    let shown = engine.certificate(rt).ok()?;
     let dump = &shown.dump;
     let needs = shown.certificate.claims.len();
     Some((dump.floor, dump.revision, dump.versions.len(), needs))
@@ -222,7 +226,7 @@ fn kept_of<L: EngineName, R: Wait>(
 fn order_by_two<L: EngineName, R: Wait>(
     rt: &R,
     alloc: Global,
-    engine: &mut Engine<L>,
+    engine: &Engine<L>,
 ) -> Option<Ordered> {
     let mut writer = engine.client(rt).ok()?;
     begin(rt, alloc, engine, &mut writer);
@@ -233,12 +237,10 @@ fn order_by_two<L: EngineName, R: Wait>(
 fn each_order<L: EngineName, R: Wait>(rt: &R, alloc: Global, opening: Opening) -> Option<Ordered>
     requires name { opening.name ≡ L.Ledger.name }
     requires parts { opening.parts ≡ L.Ledger.parts }
-    requires book { opening.book ≡ L.ListName.book }
-    requires recorded { L.recorded ≡ false }
-    requires ids { L.ListName.ids ≡ record { cluster = 1; member = 1 } }
+    requires book { opening.book ≡ L.book }
 {
-    let mut engine = Engine::<L>::new(alloc, opening, ONES);
-    order_by_two(rt, alloc, &mut engine)
+    let engine = Engine::<L>::new(alloc, opening, ONES);
+    order_by_two(rt, alloc, &engine)
 }
 
 fn run_each_order<R: Wait>(rt: &R, alloc: Global) -> Option<Ordered> {
@@ -268,11 +270,9 @@ fn closed_twice<L: EngineName, R: Wait>(
 ) -> Option<(u8, usize, u64)>
     requires name { opening.name ≡ L.Ledger.name }
     requires parts { opening.parts ≡ L.Ledger.parts }
-    requires book { opening.book ≡ L.ListName.book }
-    requires recorded { L.recorded ≡ false }
-    requires ids { L.ListName.ids ≡ record { cluster = 1; member = 1 } }
+    requires book { opening.book ≡ L.book }
 {
-    let mut engine = Engine::<L>::new(alloc, opening, ONES);
+    let engine = Engine::<L>::new(alloc, opening, ONES);
     match engine.client(rt) {
         Ok(first) => closed_after_a_put(rt, alloc, engine, first),
         Err(_) => None,
@@ -286,7 +286,6 @@ fn closed_after_a_put<L: EngineName, R: Wait>(
     engine: Engine<L>,
     first: Client<L>,
 ) -> Option<(u8, usize, u64)> {
-    let mut engine = engine;
     match engine.client(rt) {
         Ok(mut second) => {
             let put = "{\"key\":\"YQ==\"}";

@@ -10,8 +10,6 @@ mod lock_replies;
 #[cfg(test)]
 mod many_clients;
 #[cfg(test)]
-mod one_list;
-#[cfg(test)]
 mod read_back;
 #[cfg(test)]
 mod readers;

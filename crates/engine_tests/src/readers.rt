@@ -1,9 +1,9 @@
 //! Writers, readers beside them, and a thread that trims and compacts, on one engine: no reader goes
 //! back, each of its replies is that of the history at its revision, and the shares add up.
-ghost use Rattle.std.specs.Prelude.{◌≡◌, false};
+ghost use Rattle.std.specs.Prelude.{◌≡◌};
 
 use crate::lock_replies::ONES;
-use crate::many_clients::{joined, made_clients, sum_of};
+use crate::many_clients::{joined, sum_of};
 use crate::texts::{PUT, RANGE};
 use engine_lock::{Client, Engine, EngineName, Opening};
 use json_gateway::read;
@@ -20,7 +20,7 @@ use std::thread::{JoinHandle, Scope, Threads};
 const CALLS: u64 = 2000;
 
 /// How many readers there are.
-const READERS: usize = 8;
+const READERS: u64 = 8;
 
 /// How many writers there are, each with a key of its own.
 const WRITERS: usize = 4;
@@ -161,7 +161,7 @@ fn trim_until<L: EngineName, R: Wait>(
             break;
         }
         for _ in 0..STEPS {
-            let _ = engine.trim_once(rt, client);
+            let _ = engine.trim_once(rt);
         }
         let compact = Command::Compact {
             revision,
@@ -269,68 +269,47 @@ fn start_writers<'s, E, L, R>(
     rt: &'s R,
     alloc: Global,
     engine: &'s Engine<L>,
-    clients: Vec<Client<L>>,
 ) -> Vec<JoinHandle<Wrote<L>>>
 where
     L: EngineName + Send + Sync + 's,
     R: Wait + Sync + 's,
 {
     let mut handles = Vec::new(alloc);
-    let mut writer = 0usize;
-    for client in clients {
-        let wrote = Wrote {
-            client,
-            writer,
-            revisions: Vec::new(alloc),
-        };
-        if let Some(handle) = start_writer(scope, rt, alloc, engine, wrote) {
-            let _ = handles.push(handle);
+    for writer in 0..WRITERS {
+        if let Ok(client) = engine.client(rt) {
+            let wrote = Wrote {
+                client,
+                writer,
+                revisions: Vec::new(alloc),
+            };
+            if let Some(handle) = start_writer(scope, rt, alloc, engine, wrote) {
+                let _ = handles.push(handle);
+            }
         }
-        writer = writer.saturating_add(1);
     }
     handles
 }
 
 /// Starts the readers.
-fn start_readers<'s, E, L>(
+fn start_readers<'s, E, L, R>(
     scope: &Scope<'s, E>,
+    rt: &'s R,
     alloc: Global,
-    clients: Vec<Client<L>>,
+    engine: &'s Engine<L>,
 ) -> Vec<JoinHandle<Saw<L>>>
 where
     L: EngineName + Send + Sync + 's,
+    R: Wait + Sync + 's,
 {
     let mut handles = Vec::new(alloc);
-    for client in clients {
-        if let Some(handle) = start_reader(scope, alloc, client) {
-            let _ = handles.push(handle);
+    for _ in 0..READERS {
+        if let Ok(client) = engine.client(rt) {
+            if let Some(handle) = start_reader(scope, alloc, client) {
+                let _ = handles.push(handle);
+            }
         }
     }
     handles
-}
-
-/// The clients that the threads are given.
-#[derive(Drop)]
-struct Given<L: EngineName> {
-    trimmer: Client<L>,
-    writers: Vec<Client<L>>,
-    readers: Vec<Client<L>>,
-}
-
-/// Makes the clients of all threads.
-fn make_given<L: EngineName, R: Wait>(
-    rt: &R,
-    alloc: Global,
-    engine: &mut Engine<L>,
-) -> Option<Given<L>> {
-    match engine.client(rt) {
-        Ok(trimmer) => Some(Given {
-            trimmer,
-            writers: made_clients(rt, alloc, engine, WRITERS),
-            readers: made_clients(rt, alloc, engine, READERS),
-        }),
-        Err(_) => None,
-    }
 }
 
 /// Starts all threads, and joins them.
@@ -339,21 +318,15 @@ fn run_all<'s, E, L, R>(
     rt: &'s R,
     alloc: Global,
     engine: &'s Engine<L>,
-    given: Given<L>,
     ended: &'s AtomicBool,
 ) -> Option<All<L>>
 where
     L: EngineName + Send + Sync + 's,
     R: Wait + Threads + Sync + 's,
 {
-    let Given {
-        trimmer,
-        writers,
-        readers,
-    } = given;
-    let trimmer = start_trimmer(scope, rt, engine, trimmer, ended)?;
-    let writing = start_writers(scope, rt, alloc, engine, writers);
-    let reading = start_readers(scope, alloc, readers);
+    let trimmer = start_trimmer(scope, rt, engine, engine.client(rt).ok()?, ended)?;
+    let writing = start_writers(scope, rt, alloc, engine);
+    let reading = start_readers(scope, rt, alloc, engine);
     let writers = joined(rt, alloc, writing);
     let readers = joined(rt, alloc, reading);
     ended.store(true, Ordering::SeqCst);
@@ -412,19 +385,13 @@ fn judged<L: EngineName, R: Wait>(
 }
 
 /// Runs all threads on an engine.
-fn served<L, R>(
-    rt: &R,
-    alloc: Global,
-    engine: &Engine<L>,
-    given: Given<L>,
-    ended: &AtomicBool,
-) -> Option<All<L>>
+fn served<L, R>(rt: &R, alloc: Global, engine: &Engine<L>, ended: &AtomicBool) -> Option<All<L>>
 where
     L: EngineName + Send + Sync,
     R: Wait + Threads + Sync,
 {
     thread::scope(thread::scope_env(), rt, move |scope| {
-        run_all(scope, rt, alloc, engine, given, ended)
+        run_all(scope, rt, alloc, engine, ended)
     })
 }
 
@@ -435,14 +402,11 @@ fn run<L: EngineName + Send + Sync, R: Wait + Threads + Sync>(
 ) -> Option<(usize, u64, u64, u64)>
     requires name { opening.name ≡ L.Ledger.name }
     requires parts { opening.parts ≡ L.Ledger.parts }
-    requires book { opening.book ≡ L.ListName.book }
-    requires recorded { L.recorded ≡ false }
-    requires ids { L.ListName.ids ≡ record { cluster = 1; member = 1 } }
+    requires book { opening.book ≡ L.book }
 {
-    let mut engine = Engine::<L>::new(alloc, opening, ONES);
+    let engine = Engine::<L>::new(alloc, opening, ONES);
     let ended = AtomicBool::new(false);
-    let given = make_given(rt, alloc, &mut engine);
-    let all = served(rt, alloc, &engine, given?, &ended);
+    let all = served(rt, alloc, &engine, &ended);
     judged(rt, alloc, engine, all?)
 }
 

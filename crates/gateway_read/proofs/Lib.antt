@@ -1,4 +1,3 @@
-pub mod Bodies
 pub mod Each
 pub mod Enums
 pub mod Integers
@@ -9,5 +8,4 @@ pub mod Signs
 pub mod Spellings
 pub mod Steps
 pub mod Transactions
-pub mod Values
 pub mod Watches

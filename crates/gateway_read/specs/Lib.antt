@@ -1,4 +1,3 @@
-pub mod Bodies
 pub mod Compares
 pub mod Decoding
 pub mod Fields
@@ -9,5 +8,4 @@ pub mod Parts
 pub mod Reading
 pub mod Signs
 pub mod Transactions
-pub mod Values
 pub mod Watches

@@ -1,3 +1,5 @@
 pub mod Crossing
-pub mod Giving
+pub mod Handed
 pub mod Readings
+pub mod Shares
+pub mod Trimmed

@@ -1,4 +1,3 @@
-pub mod Closed
 pub mod Ends
 pub mod Engines
 pub mod Handing

@@ -3,4 +3,3 @@ pub mod Index
 pub mod Agrees
 pub mod Lent
 pub mod Held
-pub mod Taken

@@ -1,5 +1,4 @@
 pub mod Entries
-pub mod Showing
 pub mod Shown
 pub mod States
 pub mod Seats

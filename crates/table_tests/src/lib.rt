@@ -19,8 +19,6 @@ mod leases;
 #[cfg(test)]
 mod pages;
 #[cfg(test)]
-mod sorted_map;
-#[cfg(test)]
 mod spans;
 #[cfg(test)]
 mod table;

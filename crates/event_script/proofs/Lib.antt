@@ -1,4 +1,0 @@
-pub mod Clocks
-pub mod Growing
-pub mod Writing
-pub mod Leading

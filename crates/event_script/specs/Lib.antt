@@ -1,5 +1,0 @@
-pub mod Scripts
-pub mod Taking
-pub mod Notes
-pub mod Leading
-pub mod Writing
