@@ -2,13 +2,13 @@
 use Rattle.std.proofs.Common.{◌≡◌, ◌∙◌, ℕ, List, [], ◌∷◌, ◌++◌, map, None, Some, Bool, true, false, Option, Result, Ok, Err, OnOk, IfErr, IfOk, MatchResult, refl, sym, ap, subst, is_ok, true≢false}
 use Rattle.kv_model.specs.declared.ids.Ids.{Ids}
 use Rattle.kv_model.specs.Wire.{WireEvent}
-use Rattle.engine_lock.specs.Locked.{Caller}
+use Rattle.engine_lock.specs.Locked.{Caller, IsNew}
 use Rattle.commands.specs.declared.fault.Fault.{Fault}
 use Rattle.commands.specs.declared.fault.Fault.TheVariants as fault
 use Rattle.commands.specs.Faults.{is_write}
 use Rattle.commands.specs.Playing.{PlaysLines, StopsPlaying}
-use Rattle.command_line.specs.From.{IsBegun, IsNew, IsPlayed, StopsBeginning}
-use Rattle.command_line.specs.Serving.{IsOfRun, IsOfServerAlone, StopsServing}
+use Rattle.command_line.specs.From.{IsBegun, IsPlayed, StopsBeginning, StopsServing}
+use Rattle.command_line.specs.Serving.{IsOfRun, IsOfServerAlone}
 
 pub on_ok : {T E P : Type 0} (r : Result T E) → P → OnOk r P
 on_ok (Ok x) p = p

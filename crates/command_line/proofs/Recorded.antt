@@ -1,6 +1,7 @@
--- What an engine writes down are events whose lines are read.
+-- What an engine writes down of a list of events is read as events that lead to its world.
 use Rattle.std.proofs.Common.{◌≡◌, ℕ, suc, ◌+◌, ◌≤◌, List, [], ◌∷◌, ◌++◌, map, length, Bool, true, false, not, ◌&&◌, ◌||◌, nat_le, nat_lt}
 use Rattle.std.proofs.Common.{Option, None, Some, Ok, Err, is_some, option_and_then, refl, sym, ap, ◌∙◌, subst, cond, codes, IsOk, arith, true≢false}
+use Rattle.std.specs.Prelude.{All}
 use Rattle.std.specs.List.{list_all, concat}
 use Rattle.std.proofs.lemmas.Bool.{leb-true, ltb-false}
 use Rattle.std.proofs.lemmas.Bool.Decides.{nat_tests}
@@ -13,8 +14,9 @@ use Rattle.kv_model.specs.Requests.{Bad, Read, body_or_empty, json_of, longest_b
 use Rattle.kv_model.specs.Requests.{paths, request_of, some_or, too_long, ◌>>=◌}
 use Rattle.kv_model.specs.Wire.{WireEvent}
 use Rattle.store_laws.proofs.HistoryLaws.{same_key-eq}
-use Rattle.recording.specs.Lines.{line_of, within_line}
-use Rattle.engine_lock.specs.Written.{HasLine}
+use Rattle.recording.specs.Lines.{all_of, line_of, within_line}
+use Rattle.event_script.specs.Leading.{HasLine}
+use Rattle.event_script.proofs.Leading.{written_leads}
 use Rattle.commands.specs.Script.{is, line_events}
 use Rattle.command_line.specs.ReadBack.{IsOfPath, IsRecordable, IsRecordingReadBack, IsRecordingScript, as_read}
 use Rattle.command_line.proofs.ReadBack.{read_back}
@@ -94,11 +96,22 @@ recordable WireEvent.expire h = h
 recordable WireEvent.trim h = h
 recordable WireEvent.certify h = h
 
+-- the lines of events are read as those events
+lines_read : (text : List ℕ) (events : List WireEvent) → All HasLine events → text ≡ concat (map line_of events)
+    → line_events text ≡ map (λ e. Some (as_read e)) events
+lines_read text events each is =
+    ap line_events (is ∙ sym (append-nil (concat (map line_of events))))
+    ∙ read_back events [] (All-weaker HasLine IsRecordable recordable events each)
+    ∙ append-nil (map (λ e. Some (as_read e)) events)
+
+-- ---- what was written
+
 pub recording_read_back : IsRecordingReadBack
-recording_read_back l core w =
-    ap line_events (w.lines ∙ sym (append-nil (concat (map line_of w.events))))
-    ∙ read_back w.events [] (All-weaker HasLine IsRecordable recordable w.events w.each)
-    ∙ append-nil (map (λ e. Some (as_read e)) w.events)
+recording_read_back ids l t log w h =
+    let led = written_leads ids l t log w h in
+    (led, lines_read (all_of l) led.leads.events led.leads.each (led.lines ∙ led.leads.lines))
 
 pub recording_is_script : IsRecordingScript
-recording_is_script l core w = (map as_read w.events, recording_read_back l core w ∙ sym (map-map Some as_read w.events))
+recording_is_script ids l t log w h =
+    let read = recording_read_back ids l t log w h in
+    (map as_read read.0.leads.events, read.1 ∙ sym (map-map Some as_read read.0.leads.events))

@@ -1,3 +1,4 @@
+pub mod Histories
 pub mod Serving
 pub mod Controls
 pub mod ReadBack

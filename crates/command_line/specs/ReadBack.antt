@@ -1,10 +1,12 @@
 -- Laws of a recording: what is written down of events is read as those events.
 use Rattle.std.specs.Prelude.{◌≡◌, ◌≢◌, ⊤, ℕ, ◌+◌, ◌^◌, ◌<◌, ◌≤◌, List, ◌++◌, All, map, length, Some}
 use Rattle.std.specs.List.{before_first, concat}
+use Rattle.kv_model.specs.declared.ids.Ids.{Ids}
 use Rattle.kv_model.specs.Wire.{WireEvent}
-use Rattle.request_core.specs.State.{CoreState}
 use Rattle.recording.specs.Lines.{Written, all_of, within_line, line_of}
-use Rattle.engine_lock.specs.Written.{IsWritten}
+use Rattle.event_book.specs.Events.{Entry, IsHistory}
+use Rattle.event_script.specs.Leading.{LeadsBy}
+use Rattle.event_script.specs.Scripts.{IsWritten, Taken}
 use Rattle.commands.specs.Playing.{AreAllEvents}
 use Rattle.commands.specs.Script.{longest_line, is, event_of, line_events}
 
@@ -35,11 +37,13 @@ abbrev pub AreReadBack : Type 0
 AreReadBack = (events : List WireEvent) (rest : List ℕ) → All IsRecordable events
     → line_events (concat (map line_of events) ++ rest) ≡ map (λ e. Some (as_read e)) events ++ line_events rest
 
--- all that an engine has written down is read as the events that led to its core
+-- What an engine has written down of the list of its events is read as events that lead where a beginning of the list leads:
+-- the whole list, where no line was lost.
 abbrev pub IsRecordingReadBack : Type 0
-IsRecordingReadBack = (l : Written) (core : CoreState) (w : IsWritten l core)
-    → line_events (all_of l) ≡ map (λ e. Some (as_read e)) w.events
+IsRecordingReadBack = (ids : Ids) (l : Written) (t : Taken) (log : List Entry) → IsWritten l t log → IsHistory ids log
+    → (led : LeadsBy l log) × (line_events (all_of l) ≡ map (λ e. Some (as_read e)) led.leads.events)
 
--- so each line of it asks for an event: a server goes on from it
+-- Each line of it asks for an event: a server goes on from it.
 abbrev pub IsRecordingScript : Type 0
-IsRecordingScript = (l : Written) (core : CoreState) → IsWritten l core → AreAllEvents (line_events (all_of l))
+IsRecordingScript = (ids : Ids) (l : Written) (t : Taken) (log : List Entry) → IsWritten l t log → IsHistory ids log
+    → AreAllEvents (line_events (all_of l))

@@ -1,11 +1,7 @@
 -- A server: how it answers, and what it writes when it has ended.
-use Rattle.std.specs.Prelude.{◌≡◌, ⊤, ℕ, ◌-◌, ◌^◌, List, [], ◌∷◌, ◌++◌, Bool, true, false, ◌==◌, if◌then◌else◌, codes, decimal}
-use Rattle.std.specs.Prelude.{Option}
+use Rattle.std.specs.Prelude.{⊤, ℕ, ◌-◌, ◌^◌, List, [], ◌∷◌, ◌++◌, Bool, true, false, ◌==◌, if◌then◌else◌, codes, decimal}
 use Rattle.kv_model.specs.declared.ids.Ids.{Ids}
-use Rattle.kv_model.specs.Wire.{WireEvent}
-use Rattle.engine_lock.specs.Fits.{IsStanding}
 use Rattle.http_front.specs.Ends.{IsOfServer}
-use Rattle.command_line.specs.From.{StopsBeginning}
 use Rattle.commands.specs.declared.fault.Fault.{Fault}
 use Rattle.commands.specs.declared.fault.Fault.TheVariants as fault
 use Rattle.command_words.specs.declared.words.Args.{Args}
@@ -25,10 +21,6 @@ connections_of s = if s.connections == 0 then 2 ^ 63 - 1 else s.connections
 abbrev pub closing_line : ℕ → List ℕ
 closing_line revision = codes "closed at revision " ++ decimal revision ++ 10 ∷ []
 
--- it is the revision of a core that stands for some world
-abbrev pub IsOfCore : ℕ → Type 0
-IsOfCore revision = (core : _) × IsStanding core × (revision ≡ core.store.revision)
-
 -- by which ids it answers
 abbrev pub ids_in : Serve → Ids
 ids_in s = record { cluster = s.cluster; member = s.member }
@@ -43,11 +35,6 @@ abbrev pub IsOfRun : Fault → Type 0
 IsOfRun fault.Memory = ⊤
 IsOfRun (fault.Server front) = IsOfServer front
 IsOfRun _ = ⊥
-
--- or not every line of the script that it goes on from was played
-abbrev pub StopsServing : Ids → List (Option WireEvent) → Fault → Type 0
-StopsServing ids lines fault.Memory = ⊤
-StopsServing ids lines f = StopsBeginning ids lines f
 
 -- it began, and ended by a fault of the server
 abbrev pub IsOfServerAlone : Fault → Type 0

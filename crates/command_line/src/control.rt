@@ -1,15 +1,13 @@
 //! `serve --control`: the store over HTTP, whose time, expiry and trimming somebody else decides.
-ghost use Rattle.std.specs.Prelude.{◌≡◌, false, true, is_ok, Err, IfOk, OnOk, ◌⊎◌};
+ghost use Rattle.std.specs.Prelude.{◌≡◌, false, Ok, Err, IfOk, OnOk};
 ghost use Rattle.std.specs.Io.KnownBytes.{Appends};
-ghost use Rattle.kv_model.specs.Follows as follows;
 ghost use Rattle.kv_model.specs.Wire as wire;
 ghost use Rattle.json_gateway.specs.Runs.{outcome_view};
 ghost use Rattle.commands.specs.Controlling.{made_view};
-ghost use Rattle.engine_lock.specs.Orders.{Makes};
-ghost use Rattle.engine_lock.specs.Fits.{IsStanding};
+ghost use Rattle.command_line.specs.Histories.{IsOfHistory};
 ghost use Rattle.command_line.specs.Controls.{IsMade};
 ghost use Rattle.command_line.specs.From.{IsBegun};
-ghost use Rattle.command_line.specs.Serving.{IsOfCore, asks_to_serve, closing_line, ids_in, ids_of};
+ghost use Rattle.command_line.specs.Serving.{asks_to_serve, closing_line, ids_in, ids_of};
 ghost use Rattle.commands.specs.Script.{line_events};
 
 use crate::from::{Start, Starts, begin};
@@ -35,16 +33,14 @@ pub(crate) struct Orders<'e, L: EngineName, G, R> {
 }
 
 impl<'e, L: EngineName, G: Gate, R: Wait> Controlling<Client<L>> for Orders<'e, L, G, R> {
-    ghost Makes = { λ by. IsMade by.events.engine.now };
+    ghost Makes = { λ by. IsMade by.events.engine.now.ids };
 
     fn make(&self, state: &mut Client<L>, order: Order) -> Result<WireOutcome, AllocError> {
         match order {
-            Order::Moment(now) => Ok(WireOutcome::Clock(self.events.moment(now))),
+            Order::Moment(now) => Ok(WireOutcome::Clock(self.events.moment(state, now))),
             Order::Expire => Ok(expired(&self.events, state)),
-            Order::Trim => trimmed(&self.events),
-            Order::Certify => Ok(WireOutcome::Certified(
-                self.events.engine.certificate(self.events.rt),
-            )),
+            Order::Trim => trimmed(&self.events, state),
+            Order::Certify => Ok(WireOutcome::Certified(self.events.certificate(state))),
         }
     }
 }
@@ -54,7 +50,8 @@ fn expired<L: EngineName, G: Gate, R: Wait>(
     events: &Recorded<'_, L, G, R>,
     client: &mut Client<L>,
 ) -> WireOutcome
-    ensures { Makes events.now.engine.now wire.WireEvent.expire (outcome_view result) }
+    ensures { IsMade events.now.engine.now.ids client.old wire.WireEvent.expire (outcome_view result)
+        client.new }
 {
     match events.expire(client, 0) {
         Ok(expiry) => WireOutcome::Expiry(Ok(expiry)),
@@ -66,11 +63,12 @@ fn expired<L: EngineName, G: Gate, R: Wait>(
 /// memory, and then it was not made.
 fn trimmed<L: EngineName, G: Gate, R: Wait>(
     events: &Recorded<'_, L, G, R>,
+    client: &mut Client<L>,
 ) -> Result<WireOutcome, AllocError>
-    ensures { Makes events.now.engine.now wire.WireEvent.trim (made_view result)
-        ⊎ (made_view result ≡ follows.Outcome.memory) }
+    ensures { IsMade events.now.engine.now.ids client.old wire.WireEvent.trim (made_view result)
+        client.new }
 {
-    match events.trim_checked() {
+    match events.trim_checked(client) {
         Ok(trimmed) => Ok(WireOutcome::Trimmed(trimmed)),
         Err(_) => Err(AllocError),
     }
@@ -130,8 +128,8 @@ pub fn serve_controlled<T: Starts, G: Gate + Sync, R, In: BufRead, W: Write>(
 ) -> Result<(), Fault>
 where
     R: Wait + Threads + time::Clock + Net + Sync,
-    ensures ok { OnOk result ((between : W) × ((core : _) × IsStanding core × Appends
-        (W.contents between) (W.contents w.new) (closing_line core.store.revision))) }
+    ensures ok { OnOk result ((between : W) × ((n : _) × IsOfHistory (ids_of args.now) n × Appends
+        (W.contents between) (W.contents w.new) (closing_line n))) }
     ensures begins { OnOk result (IsBegun (ids_of args.now) (line_events start.entry.script.items)) }
     ensures unasked { asks_to_serve args.now ≡ false → (result ≡ Err Fault.Arguments) × (w.new ≡ w.old) }
 {
@@ -154,11 +152,10 @@ where
     }
 }
 
-/// Writes the last line of a server that has ended at a revision of a core.
+/// Writes the last line of a server that has ended at a revision.
 fn close<W: Write>(w: &mut W, revision: u64) -> Result<(), Fault>
-    requires { IsOfCore revision }
-    ensures { OnOk result ((core : _) × IsStanding core
-        × Appends (W.contents w.old) (W.contents w.new) (closing_line core.store.revision)) }
+    ensures { OnOk result
+        (Appends (W.contents w.old) (W.contents w.new) (closing_line revision)) }
 {
     match write_closing(w, revision) {
         Ok(()) => Ok(()),
@@ -176,12 +173,19 @@ fn run_controlled<T: Starts, G: Gate + Sync, R, In: BufRead, W: Write>(
 ) -> Result<u64, Fault>
 where
     R: Wait + Threads + time::Clock + Net + Sync,
-    ensures revision { IfOk result IsOfCore }
+    ensures revision { IfOk result (IsOfHistory (ids_in serve.now)) }
     ensures begins { OnOk result (IsBegun (ids_in serve.now) (line_events start.entry.script.items)) }
 {
+    let is_recorded = lines.gate.is_recorded();
     match Opening::for_clients(alloc, rt, clients_of(serve)) {
         Ok(opening) => controlled_revision::<Brand, T, G, R, In, W>(
-            rt, alloc, opening, start, serve, lines,
+            rt,
+            alloc,
+            opening,
+            is_recorded,
+            start,
+            serve,
+            lines,
         ),
         Err(_) => Err(Fault::Memory),
     }
@@ -189,9 +193,8 @@ where
 
 /// The revision that a server ended at, where its lines ended in order, too.
 fn both(ended: Result<u64, Fault>, told: Result<(), Fault>) -> Result<u64, Fault>
-    requires { IfOk ended IsOfCore }
-    ensures revision { IfOk result IsOfCore }
-    ensures ended { OnOk result (is_ok ended ≡ true) }
+    ensures ended { IfOk result (λ revision. ended ≡ Ok revision) }
+    ensures told { OnOk result (told ≡ Ok tt) }
 {
     match (ended, told) {
         (Ok(revision), Ok(())) => Ok(revision),
@@ -211,6 +214,7 @@ fn controlled_revision<
     rt: &R,
     alloc: Global,
     opening: Opening,
+    is_recorded: bool,
     start: Start<'_, T>,
     serve: &Serve<'_>,
     lines: &mut ByLines<'_, '_, '_, G, R, In, W>,
@@ -219,12 +223,14 @@ where
     R: Wait + Threads + time::Clock + Net + Sync,
     requires name { opening.name ≡ L.Ledger.name }
     requires parts { opening.parts ≡ L.Ledger.parts }
-    requires book { opening.book ≡ L.book }
-    ensures revision { IfOk result IsOfCore }
+    requires book { opening.book ≡ L.ListName.book }
+    requires recorded { is_recorded ≡ L.recorded }
+    requires ids { ids_in serve.now ≡ L.ListName.ids }
+    ensures revision { IfOk result (IsOfHistory (ids_in serve.now)) }
     ensures begins { OnOk result (IsBegun (ids_in serve.now) (line_events start.entry.script.items)) }
 {
     let gate = lines.gate;
-    let engine = engine_of::<L>(alloc, opening, serve, gate.is_recorded());
+    let engine = engine_of::<L>(alloc, opening, serve, is_recorded);
     let Start {
         listener,
         script,

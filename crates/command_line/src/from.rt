@@ -1,6 +1,7 @@
 //! `serve --from`: a server that goes on from a script, whose events are made before it lets a
 //! connection in.
 ghost use Rattle.std.specs.Prelude.{◌≡◌, [], IfOk, IfErr, OnOk};
+ghost use Rattle.engine_lock.specs.Locked.{IsNew};
 ghost use Rattle.commands.specs.Playing.{PlaysLines, StopsPlaying};
 ghost use Rattle.commands.specs.Script.{line_events};
 ghost use Rattle.command_line.specs.From.{IsBegun, IsPlayed, StopsBeginning};
@@ -60,7 +61,7 @@ struct Script<'e, L: EngineName, G, R> {
 }
 
 impl<'e, L: EngineName, G: Gate, R: Wait> Playing<Client<L>> for Script<'e, L, G, R> {
-    ghost Makes = { λ by. IsPlayed by.orders.events.engine.now };
+    ghost Makes = { λ by. IsPlayed by.orders.events.engine.now.ids };
 
     fn make(&self, state: &mut Client<L>, event: WireEvent<'_>) -> Result<WireOutcome, AllocError> {
         let events = &self.orders.events;
@@ -81,8 +82,8 @@ impl<'e, L: EngineName, G: Gate, R: Wait> Playing<Client<L>> for Script<'e, L, G
 }
 
 /// The engine of a server once the events of its script were made on it, line by line, on behalf of
-/// one client, with which the server goes on: each is an event of the engine, as an event of a running
-/// server is, and has its line where those are written down. The script is let go then.
+/// one client, with which the server goes on: each is an event of the list of all events, as an event
+/// of a running server is, and has its line where those are written down. The script is let go then.
 ///
 /// Fails with `Fault::Server` where the engine has no place for the client, and as [`play`] does.
 pub(crate) fn begin<L: EngineName, G: Gate, R: Wait>(
@@ -92,9 +93,9 @@ pub(crate) fn begin<L: EngineName, G: Gate, R: Wait>(
     gate: &G,
     script: Vec<u8>,
 ) -> Result<Begun<L>, Fault>
-    ensures ids { IfOk result (λ begun. begun.engine ≡ engine) }
-    ensures begins { OnOk result (IsBegun engine (line_events script.items)) }
-    ensures fault { IfErr result (StopsBeginning engine (line_events script.items)) }
+    ensures ids { IfOk result (λ begun. begun.engine.ids ≡ engine.ids) }
+    ensures begins { OnOk result (IsBegun engine.ids (line_events script.items)) }
+    ensures fault { IfErr result (StopsBeginning engine.ids (line_events script.items)) }
 {
     match Begun::new(rt, engine) {
         Ok(begun) => went_on(rt, alloc, begun, gate, script.as_slice()),
@@ -110,11 +111,10 @@ fn went_on<L: EngineName, G: Gate, R: Wait>(
     gate: &G,
     script: &[u8],
 ) -> Result<Begun<L>, Fault>
-    requires made { begun.client.made ≡ 0 }
-    requires given { begun.client.given ≡ [] }
+    requires { IsNew begun.client }
     ensures ids { IfOk result (λ b. b.engine ≡ begun.engine) }
-    ensures begins { OnOk result (IsBegun begun.engine (line_events script.now)) }
-    ensures fault { IfErr result (StopsBeginning begun.engine (line_events script.now)) }
+    ensures begins { OnOk result (IsBegun begun.engine.ids (line_events script.now)) }
+    ensures fault { IfErr result (StopsBeginning begun.engine.ids (line_events script.now)) }
 {
     let Begun { engine, client } = begun;
     let mut client = client;
@@ -134,8 +134,8 @@ fn play_on<L: EngineName, G: Gate, R: Wait>(
     script: &[u8],
 ) -> Result<(), Fault>
     ensures ok { OnOk result
-        (PlaysLines (IsPlayed engine.now) (line_events script.now) client.old client.new) }
-    ensures fault { IfErr result (λ fault. StopsPlaying (IsPlayed engine.now)
+        (PlaysLines (IsPlayed engine.now.ids) (line_events script.now) client.old client.new) }
+    ensures fault { IfErr result (λ fault. StopsPlaying (IsPlayed engine.now.ids)
         (line_events script.now) client.old fault client.new) }
 {
     let events = Recorded { rt, engine, gate };

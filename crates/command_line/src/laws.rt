@@ -13,13 +13,14 @@ pub fn text_read_back()
     ensures { AreReadBack }
 {}
 
-/// All that an engine has written down under its lock, read as a script, asks for the very events
-/// that led to its core, in order: `IsWritten` of `engine_lock` says which these are.
+/// All that an engine has written down of the list of its events, read as a script, asks for events
+/// that lead to the world of that list, in order; where a line was lost, to that of a beginning of it.
+/// `IsWritten` of `event_script` says what is written down.
 pub fn recording_read_back()
     ensures { IsRecordingReadBack }
 {}
 
-/// So each line of it asks for an event: a server goes on from what another one has written down.
+/// Each line of it asks for an event: a server goes on from what another one has written down.
 pub fn recording_is_script()
     ensures { IsRecordingScript }
 {}

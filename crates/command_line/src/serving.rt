@@ -4,12 +4,12 @@ ghost use Rattle.std.specs.Prelude.{MatchResult};
 ghost use Rattle.std.specs.Time.{instant_nanos};
 ghost use Rattle.std.specs.Io.KnownBytes.{Appends};
 ghost use Rattle.commands.specs.Faults.{is_write};
-ghost use Rattle.command_line.specs.From.{IsBegun};
-ghost use Rattle.command_line.specs.Serving.{IsOfCore, IsOfRun, IsOfServerAlone, StopsServing, asks_to_serve};
+ghost use Rattle.command_line.specs.From.{IsBegun, StopsServing};
+ghost use Rattle.command_line.specs.Serving.{IsOfRun, IsOfServerAlone, asks_to_serve};
 ghost use Rattle.command_line.specs.Serving.{closing_line, connections_of, ids_in, ids_of};
 ghost use Rattle.commands.specs.Script.{line_events};
 ghost use Rattle.commands.specs.Writes.{AppendsFront, Writes};
-ghost use Rattle.engine_lock.specs.Fits.{IsStanding};
+ghost use Rattle.command_line.specs.Histories.{IsOfHistory};
 
 use crate::from::{Start, Starts, Unheard, begin};
 use command_words::{Args, Serve};
@@ -60,6 +60,7 @@ fn millis_between(start: Instant, now: Instant) -> u64
 
 /// Serves the connections that come in at a listener, as the arguments ask, and writes the line
 /// `closed at revision` and the revision of the store when it has ended. It begins with an empty store.
+/// That revision is of the world which the one history of all that was done leads to (`IsOfHistory`).
 ///
 /// The moments by which leases end are milliseconds since its start. Nothing is written before it
 /// has ended.
@@ -75,11 +76,11 @@ pub fn serve_on<R: Wait + Threads + time::Clock + Net + Sync, W: Write>(
     args: &Args<'_>,
     w: &mut W,
 ) -> Result<(), Fault>
-    ensures ok { OnOk result ((core : _) × IsStanding core
-        × Appends (W.contents w.old) (W.contents w.new) (closing_line core.store.revision)) }
+    ensures ok { OnOk result ((n : _) × IsOfHistory (ids_of args.now) n
+        × Appends (W.contents w.old) (W.contents w.new) (closing_line n)) }
     ensures unwritten { IfErr result (λ fault. is_write fault ≡ false → w.new ≡ w.old) }
-    ensures cut { IfErr result (λ fault. is_write fault ≡ true → (core : _) × IsStanding core
-        × AppendsFront (W.contents w.old) (W.contents w.new) (closing_line core.store.revision)) }
+    ensures cut { IfErr result (λ fault. is_write fault ≡ true → (n : _) × IsOfHistory (ids_of args.now) n
+        × AppendsFront (W.contents w.old) (W.contents w.new) (closing_line n)) }
     ensures fault { IfErr result (λ fault. asks_to_serve args.now ≡ true
         → is_write fault ≡ false → IsOfRun fault) }
     ensures unasked { asks_to_serve args.now ≡ false → result ≡ Err Fault.Arguments }
@@ -111,11 +112,11 @@ pub fn serve_by<T: Starts, G, R, W: Write>(
 where
     G: Gate + Sync,
     R: Wait + Threads + time::Clock + Net + Sync,
-    ensures ok { OnOk result ((core : _) × IsStanding core
-        × Appends (W.contents w.old) (W.contents w.new) (closing_line core.store.revision)) }
+    ensures ok { OnOk result ((n : _) × IsOfHistory (ids_of args.now) n
+        × Appends (W.contents w.old) (W.contents w.new) (closing_line n)) }
     ensures unwritten { IfErr result (λ fault. is_write fault ≡ false → w.new ≡ w.old) }
-    ensures cut { IfErr result (λ fault. is_write fault ≡ true → (core : _) × IsStanding core
-        × AppendsFront (W.contents w.old) (W.contents w.new) (closing_line core.store.revision)) }
+    ensures cut { IfErr result (λ fault. is_write fault ≡ true → (n : _) × IsOfHistory (ids_of args.now) n
+        × AppendsFront (W.contents w.old) (W.contents w.new) (closing_line n)) }
     ensures begins { OnOk result (IsBegun (ids_of args.now) (line_events start.entry.script.items)) }
     ensures fault { IfErr result (λ fault. asks_to_serve args.now ≡ true → is_write fault ≡ false
         → StopsServing (ids_of args.now) (line_events start.entry.script.items) fault) }
@@ -171,29 +172,38 @@ fn run_server<T: Starts, G: Gate + Sync, R: Wait + Threads + time::Clock + Net +
     serve: &Serve<'_>,
     gate: &G,
 ) -> Result<u64, Fault>
-    ensures revision { IfOk result IsOfCore }
+    ensures revision { IfOk result (IsOfHistory (ids_in serve.now)) }
     ensures begins { OnOk result (IsBegun (ids_in serve.now) (line_events start.entry.script.items)) }
     ensures fault { IfErr result (λ fault. is_write fault ≡ false) }
     ensures kind { IfErr result (StopsServing (ids_in serve.now) (line_events start.entry.script.items)) }
 {
     match Opening::for_clients(alloc, rt, clients_of(serve)) {
-        Ok(opening) => closed_revision::<Brand, T, G, R>(rt, alloc, opening, start, serve, gate),
+        Ok(opening) => closed_revision::<Brand, T, G, R>(
+            rt,
+            alloc,
+            opening,
+            gate.is_recorded(),
+            start,
+            serve,
+            gate,
+        ),
         Err(_) => Err(Fault::Memory),
     }
 }
 
 /// How many clients a server has: one for each worker, one for the leases that end or for the lines
-/// that control it, and one for the streams of watches.
+/// that control it, one for the streams of watches, and one for trimming.
 pub(crate) fn clients_of(serve: &Serve<'_>) -> u64
-    ensures { result ≡ min (serve.now.workers + 2) (2 ^ 64 - 1) }
+    ensures { result ≡ min (serve.now.workers + 3) (2 ^ 64 - 1) }
 {
-    serve.workers.saturating_add(2)
+    serve.workers.saturating_add(3)
 }
 
 fn closed_revision<L: EngineName + Send + Sync, T: Starts, G: Gate + Sync, R>(
     rt: &R,
     alloc: Global,
     opening: Opening,
+    is_recorded: bool,
     start: Start<'_, T>,
     serve: &Serve<'_>,
     gate: &G,
@@ -202,13 +212,15 @@ where
     R: Wait + Threads + time::Clock + Net + Sync,
     requires name { opening.name ≡ L.Ledger.name }
     requires parts { opening.parts ≡ L.Ledger.parts }
-    requires book { opening.book ≡ L.book }
-    ensures revision { IfOk result IsOfCore }
+    requires book { opening.book ≡ L.ListName.book }
+    requires recorded { is_recorded ≡ L.recorded }
+    requires ids { ids_in serve.now ≡ L.ListName.ids }
+    ensures revision { IfOk result (IsOfHistory (ids_in serve.now)) }
     ensures begins { OnOk result (IsBegun (ids_in serve.now) (line_events start.entry.script.items)) }
     ensures fault { IfErr result (λ fault. is_write fault ≡ false) }
     ensures kind { IfErr result (StopsServing (ids_in serve.now) (line_events start.entry.script.items)) }
 {
-    let engine = engine_of::<L>(alloc, opening, serve, gate.is_recorded());
+    let engine = engine_of::<L>(alloc, opening, serve, is_recorded);
     let Start {
         listener,
         script,
@@ -233,8 +245,11 @@ pub(crate) fn engine_of<L: EngineName>(
 ) -> Engine<L>
     requires name { opening.name ≡ L.Ledger.name }
     requires parts { opening.parts ≡ L.Ledger.parts }
-    requires book { opening.book ≡ L.book }
-    ensures ids { result ≡ ids_in serve.now }
+    requires book { opening.book ≡ L.ListName.book }
+    requires recorded { is_recorded ≡ L.recorded }
+    requires ids { ids_in serve.now ≡ L.ListName.ids }
+    ensures ids { result.ids ≡ ids_in serve.now }
+    ensures recorded { result.recorded ≡ is_recorded }
 {
     let ids = ids_of(serve);
     if is_recorded {
@@ -286,15 +301,18 @@ fn run_pool<L: EngineName + Send + Sync, G: Gate + Sync, R>(
 ) -> Result<u64, Fault>
 where
     R: Wait + Threads + time::Clock + Net + Sync,
-    requires { begun.engine ≡ ids_in serve.now }
-    ensures revision { IfOk result IsOfCore }
+    requires { begun.engine.ids ≡ ids_in serve.now }
+    ensures revision { IfOk result (IsOfHistory (ids_in serve.now)) }
     ensures fault { IfErr result IsOfServerAlone }
 {
+    let Begun { engine, client } = begun;
+    let mut client = client;
     let clock = SinceStart {
         rt,
-        from: begun.engine.moment(rt, 0),
+        from: engine.moment(rt, &mut client, 0),
         start: Instant::now(rt).ok(),
     };
+    let begun = Begun { engine, client };
     let limits = limits_of(serve);
     ended(pool_begun(rt, alloc, begun, gate, &clock, listener, limits))
 }

@@ -1,4 +1,4 @@
--- What a client's list is kept in owns nothing, so a client goes from thread to thread, whatever names its engine; its reader and the feed own plain memory alone.
+-- A client goes from thread to thread, whatever names its engine: what it has seen owns nothing, and its reader owns plain memory alone; so it is with what stands under the lock, and with the engine.
 use mathlib.Core.List.{List, [], ◌∷◌}
 use Prim.Native.Nat.{ℕ}
 use mir.Syntax.{Sym, Ty}
@@ -10,12 +10,9 @@ use denote.Param.SendFields.{FieldsHave, as_row_send, declared_send}
 use denote.Struct.Declared.{shape}
 use denote.Struct.Field.{row_field}
 use denote.Struct.Tuple.{TupleAt, parts, type_at}
-use Rattle.std.specs.contracts.snapshot.Snapshot as Snapshot
 use Rattle.std.specs.declared.sync.ledger.Ledger as ledger
 use Rattle.std.proofs.Crossing.{crosses}
 use Rattle.std.proofs.alloc.Global.TheSendSync as heap
-use Rattle.std.proofs.sync.ledger.Book.TheSendSync as book
-use Rattle.std.proofs.sync.ledger.Share.TheSendSync as share
 use Rattle.lease_book.proofs.tree.Tree.TheLaws.TheKnot as tree
 use Rattle.range_view.proofs.tables.Tables.TheSendSync as tables
 use Rattle.watch_hub.proofs.hub.WatchHub.TheSendSync as hub
@@ -26,26 +23,19 @@ use Rattle.request_core.specs.contracts.store.Core.TheInside as inside
 use Rattle.snapshot_feed.proofs.feed.Feed.TheSendSync as feed
 use Rattle.snapshot_feed.proofs.reader.SnapReader.TheSendSync as reader
 use Rattle.recording.proofs.Crossing.{lines_send}
+use Rattle.event_book.specs.declared.naming.ListName as lists
+use Rattle.event_book.proofs.holder.Holder.TheSendSync as holder
+use Rattle.event_book.proofs.listing.Listing.TheSendSync as listing
+use Rattle.event_book.proofs.roster.Roster.TheSendSync as roster
+use Rattle.engine_lock.proofs.taken.Taken.TheSendSync as taken
 use Rattle.engine_lock.specs.declared.opening.EngineName as names
 use Rattle.engine_lock.specs.contracts.client.Client as Client
 use Rattle.engine_lock.specs.contracts.engine.Engine as Engine
 use Rattle.engine_lock.specs.contracts.state.State as State
 use Rattle.engine_lock.specs.contracts.state.State.TheInside as under
-use Rattle.engine_lock.specs.contracts.past.Entry as Entry
-use Rattle.engine_lock.specs.contracts.past.Past as Past
-use Rattle.engine_lock.proofs.past.Past.TheLaws.TheKnot as past
 
-snapshot_send : (Y : RattleType) → IsSend (Snapshot.the_row Y)
-snapshot_send Y = search crosses
-
-entry_send : IsSend Entry.the_row
-entry_send = search (sendable, crosses) depth 40
-
-past_send : IsSend Past.the_row
-past_send = past.send-Past (λ Y _. snapshot_send Y) entry_send
-
-pub client_send : (T : RattleType) (n : names.Ghosts T.Denot) (g : ledger.Ghosts T.Denot) → IsSend (Client.the_row T n g)
-client_send T n g = search (sendable, share.the_send, past_send, reader.the_send) depth 40
+pub client_send : (T : RattleType) (n : names.Ghosts T.Denot) (b : lists.Ghosts T.Denot) (g : ledger.Ghosts T.Denot) → IsSend (Client.the_row T n b g)
+client_send T n b g = search (sendable, holder.the_send, reader.the_send) depth 40
 
 -- ---- an engine, whose core owns plain memory alone
 book_send : IsSend LeaseBook.the_row
@@ -55,25 +45,13 @@ core_send : IsSend Core.the_row
 core_send = view_send inside.the_row _ _ _ _ (recorded_send (inside.the_field).row _ _ (inside.the_type).to_one (struct_send (shape inside.the_type)
     (heap.the_field_send, (tables.the_send, (book_send, (keys.the_send, (hub.the_send, (plain_send _ _ _ _ _, tt))))))))
 
-module _ (T : RattleType) (n : names.Ghosts T.Denot) (g : ledger.Ghosts T.Denot) where
-  state_send : IsSend (State.the_row T n g)
-  state_send = view_send (under.the_row T n g) _ _ _ _ (recorded_send (under.the_field T n g).row _ _ (under.the_type T n g).to_one
-      (struct_send (shape (under.the_type T n g)) (
-        core_send,
-        (
-          book.the_send T g,
-          (
-            share.the_send T g,
-            (
-              plain_send _ _ _ _ _,
-              (plain_send _ _ _ _ _, (feed.the_send, (lines_send, tt))),
-            ),
-          ),
-        ),
-      )))
+module _ (T : RattleType) (n : names.Ghosts T.Denot) (b : lists.Ghosts T.Denot) (g : ledger.Ghosts T.Denot) where
+  state_send : IsSend (State.the_row T n b g)
+  state_send = view_send (under.the_row T n b g) _ _ _ _ (recorded_send (under.the_field T n b g).row _ _ (under.the_type T n b g).to_one
+      (struct_send (shape (under.the_type T n b g)) (core_send, (listing.the_send T b g, (plain_send _ _ _ _ _, (feed.the_send, (lines_send, (taken.the_send T n b g, tt))))))))
 
-  pub engine_sync : IsSync (Engine.the_row T n g)
-  engine_sync = search (sendable, crosses, state_send) depth 60
+  pub engine_sync : IsSync (Engine.the_row T n b g)
+  engine_sync = search (sendable, crosses, state_send, roster.the_send, taken.the_send) depth 60
 
 -- ---- what a thread is started with
 fields_send : (Ts : List RattleType) → AllSend Ts → FieldsHave IsSend (parts Ts)

@@ -1,47 +1,39 @@
--- What readers beside the writer are told of, and the core that it fits.
-use Rattle.std.specs.Prelude.{◌≡◌, ◌+◌, ℕ, List, [], Result, Ok, Err, if◌then◌else◌}
-use Rattle.kv_model.specs.declared.refusal.Refusal.{Refusal}
-use Rattle.kv_model.specs.Calls.{Call}
+-- What the lock keeps: the core stands for the world that the list of all events leads to.
+use Rattle.std.specs.Prelude.{◌≡◌, ◌++◌, List, fold}
+use Rattle.kv_model.specs.declared.ids.Ids.{Ids}
 use Rattle.kv_model.specs.Feed.{Published}
+use Rattle.kv_model.specs.Wire.{WireEvent, WireOutcome}
 use Rattle.kv_model.specs.World.{World}
-use Rattle.store_laws.specs.Changes.{change_of, change_of_expiry, untrimmed}
-use Rattle.store_laws.specs.Snapshots.{store_of, untrimmed_of}
+use Rattle.store_laws.specs.Snapshots.{absorb, store_of}
 use Rattle.store_laws.specs.Stands.{StandsFor}
-use Rattle.request_core.specs.declared.answer.Expiry.{Expiry}
 use Rattle.request_core.specs.State.{CoreState, tables_of}
-use Rattle.json_gateway.specs.declared.outcome.Settled.{Settled}
-use Rattle.json_gateway.specs.Outcomes.{is_accepted}
+use Rattle.json_gateway.specs.Steps.{Steps}
 use Rattle.recording.specs.Lines.{Written}
-use Rattle.engine_lock.specs.Reached.{IsReached}
-use Rattle.engine_lock.specs.Written.{IsWritten}
+use Rattle.event_book.specs.Events.{Answers, Entry, Event, led_to, left_by}
+use Rattle.event_book.specs.Publishing.{change_by, published_by}
+use Rattle.event_script.specs.Scripts.{IsWritten, Taken}
 
--- the core stands for some world to which events lead from the opening one
-pub record IsStanding (core : CoreState) : Type 0 where
-  pub world : World
-  pub stands : StandsFor core.store world
-  pub reached : IsReached world
+-- the core stands for the world that the events lead to; readers are told of just what these publish, which makes of the
+-- empty tables what the core keeps
+pub record Fits (core : CoreState) (log : List Entry) (fed : List Published) : Type 0 where
+  pub stands : StandsFor core.store (led_to log)
+  pub told : fed ≡ published_by log
+  pub stored : store_of fed ≡ tables_of core
 
--- besides, the operations say what that world is but for its leases and watches, and what they make of the empty tables
--- is what the core keeps
-pub record Fits (core : CoreState) (log : List Published) : Type 0 where
-  pub world : World
-  pub stands : StandsFor core.store world
-  pub reached : IsReached world
-  pub said : untrimmed_of log ≡ untrimmed world
-  pub stored : store_of log ≡ tables_of core
+-- whenever the lock is free: besides, what was written down is the script of the events
+pub record IsLocked (core : CoreState) (log : List Entry) (fed : List Published) (lines : Written) (taken : Taken) : Type 0 where
+  pub fits : Fits core log fed
+  pub written : IsWritten lines taken log
 
--- whenever the lock is free: besides, the revision is 1 plus the changes that all clients made, and what was written down of
--- the events leads to the core
-pub record IsLocked (core : CoreState) (log : List Published) (total : ℕ) (lines : Written) : Type 0 where
-  pub fits : Fits core log
-  pub counted : core.store.revision ≡ 1 + total
-  pub written : IsWritten lines core
+-- An event was made on a core and told to the feed beside it: in each world that the core stood for, at the moment of the
+-- event, its outcome is the model's, the core then stands for the model's world after it, and readers are told of just the
+-- model's change, which makes of what the core kept what it keeps.
+pub record MakesOn (ids : Ids) (e : Event) (o : WireOutcome) (old new : CoreState) (fed more : List Published) : Type 0 where
+  pub answers : (w : World) → StandsFor old.store w → Answers ids w e o
+  pub stands : (w : World) → StandsFor old.store w → StandsFor new.store (left_by w e o)
+  pub told : (w : World) → StandsFor old.store w → more ≡ fed ++ change_by w e o
+  pub stored : (w : World) → StandsFor old.store w → tables_of new ≡ fold absorb (tables_of old) (change_by w e o)
 
--- what readers are told of a command that settled so: the model's change where it was accepted, and else nothing
-abbrev pub change_by : Settled → World → Call → List Published
-change_by s w call = if is_accepted s then change_of w call else []
-
--- and of a step of expiry
-abbrev pub change_by_expiry : Result Expiry Refusal → World → List Published
-change_by_expiry (Ok e) w = change_of_expiry w
-change_by_expiry (Err e) w = []
+-- and in each world that the core stood for it is an event of a run: what is kept is as a run has to keep it
+abbrev pub StepsIn : Ids → WireEvent → WireOutcome → CoreState → CoreState → Type 0
+StepsIn ids event o old new = (w : World) → StandsFor old.store w → Steps ids w event o old new

@@ -1,12 +1,7 @@
-pub mod Asking
+pub mod Entering
 pub mod Fits
 pub mod Lending
 pub mod Locked
-pub mod Notes
-pub mod Orders
-pub mod PastViews
-pub mod Pasts
-pub mod Reached
+pub mod Makings
 pub mod Readings
 pub mod Takings
-pub mod Written

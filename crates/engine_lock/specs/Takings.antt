@@ -1,13 +1,11 @@
 -- What is taken of the lines under the lock.
-use Rattle.std.specs.Prelude.{◌≡◌, ℕ, List, Bool, true, false, MatchBool}
-use Rattle.request_core.specs.State.{CoreState}
-use Rattle.recording.specs.Lines.{Written}
-use Rattle.engine_lock.specs.Written.{IsWritten}
+use Rattle.std.specs.Prelude.{ℕ, List, Bool}
+use Rattle.kv_model.specs.declared.ids.Ids.{Ids}
+use Rattle.event_book.specs.Events.{IsHistory}
+use Rattle.event_script.specs.Scripts.{Taken}
+use Rattle.event_script.specs.Taking.{Takes}
 
--- the text is what no one had taken of the lines that lead to some core, and this says whether all of its events have one
-pub record Takes (text : List ℕ) (all : Bool) : Type 0 where
-  pub lines : Written
-  pub core : CoreState
-  pub written : IsWritten lines core
-  pub taken : text ≡ lines.text
-  pub whole : MatchBool all (lines.is_lost ≡ false) (lines.is_lost ≡ true)
+-- the text goes on in the script of the list of all events, which is a history
+pub record TakesLines (ids : Ids) (old new : Taken) (text : List ℕ) (all : Bool) : Type 0 where
+  pub takes : Takes old new text all
+  pub history : IsHistory ids new.front

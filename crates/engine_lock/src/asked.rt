@@ -3,7 +3,7 @@ ghost use Rattle.std.specs.Prelude.{◌≡◌, Ok, None, Some};
 ghost use Rattle.kv_model.specs.Commands.{call_of};
 ghost use Rattle.kv_model.specs.Requests.{request_of};
 ghost use Rattle.kv_model.specs.Wire as events;
-ghost use Rattle.engine_lock.specs.Asking.{IsAsked};
+ghost use Rattle.event_book.specs.Asking.{IsAsked};
 
 use json_gateway::WireEvent;
 use kv_model::call::Command;
@@ -22,7 +22,7 @@ impl<'a> Model for Asked<'a> {
     ghost use Rattle.std.specs.Coded.{codes};
     ghost use Rattle.kv_model.specs.contracts.call.Command as commands;
     ghost use Rattle.json_gateway.specs.Runs.{event_view};
-    ghost use Rattle.engine_lock.specs.Asking.{Asking, IsAsked};
+    ghost use Rattle.event_book.specs.Asking.{Asking, IsAsked};
 
     ghost Value = { Asking };
 

@@ -1,61 +1,60 @@
-//! A client of an engine, its share of the changes, what it was given, and its reader.
-ghost use Rattle.std.specs.Prelude.{◌≡◌, [], true, OnOk, OnErr, IfOk, IfErr};
+//! A client of an engine, what it has seen of the list of all events, and its reader.
+ghost use Rattle.std.specs.Prelude.{◌≡◌, ◌++◌, ◌∷◌, [], cond, true, MatchBool, OnOk, OnErr, IfOk, IfErr};
 ghost use mathlib.Core.List.{IsPrefix};
 ghost use Rattle.kv_model.specs.declared.refusal.Refusal.TheVariants.{NoPlace};
-ghost use Rattle.store_laws.specs.Snapshots.{untrimmed_of};
-ghost use Rattle.feed_book.specs.Feeds.{IsFeed};
+ghost use Rattle.store_laws.specs.Changes.{untrimmed};
 ghost use Rattle.snapshot_feed.specs.Answers.{AnswersOf};
-ghost use Rattle.snapshot_feed.specs.States.{appended};
-ghost use Rattle.engine_lock.specs.Fits.{Fits};
-ghost use Rattle.engine_lock.specs.Locked.{IsTold, StaysOut, is_quiet, left, plus, told_to};
-ghost use Rattle.engine_lock.specs.declared.past.Given.TheVariants as given;
+ghost use Rattle.snapshot_feed.specs.Showing.{IsShown};
+ghost use Rattle.snapshot_feed.specs.States.{appended, tried};
+ghost use Rattle.event_book.specs.Callers.{Adds, Shows};
+ghost use Rattle.event_book.specs.Events.{Answers, IsAskedFor, clocked, entry, led_to};
+ghost use Rattle.event_book.specs.Publishing.{published_by};
+ghost use Rattle.event_book.specs.Raising.{rise_of};
+ghost use Rattle.engine_lock.specs.Entering.{Learns, StaysOut, made_by};
+ghost use Rattle.engine_lock.specs.Locked.{IsNew, left, naming};
+ghost use Rattle.engine_lock.specs.Makings.{event_made, outcome_made};
 
+use crate::making::{Made, Making, Makings};
 use crate::opening::EngineName;
-use crate::past::{Entry, Past};
-use json_gateway::{Expiry, Message, Outcome, Refusal, Trim};
-use kv_model::call::{Command, RangeQuery};
+use event_book::{Front, Holder, Listing};
+use json_gateway::Refusal;
+use kv_model::call::RangeQuery;
 use range_view::RangeReply;
-use request_core::store::Core;
 use snapshot_feed::{Feed, SnapReader};
-use std::alloc::{AllocError, Global};
+use std::alloc::Global;
 use std::marker::Model;
-use std::snapshot::Snapshot;
 use std::sync::Wait;
-use std::sync::ledger::Share;
 
-/// A client of the engine `L`: how many changes it made there, its reader beside the writers, and
-/// all that the engine gave it, which takes no memory, since only clauses read it. It goes from
-/// thread to thread, and one thread at a time submits by it.
+/// A client of the engine `L`: what it has seen of the list of all events, how many changes it made,
+/// and its reader beside the writers. It goes from thread to thread, and one thread at a time makes
+/// events by it.
 ///
 /// [`Client::enter`] begins a reading and [`Client::leave`] ends it; so does each call of the engine
 /// that is given the client, before it asks for the lock. While a reading lasts, the second
 /// publication after it began waits for it, under the lock: so leave it before anything else waits.
 #[derive(Drop)]
 pub struct Client<L: EngineName> {
-    pub(crate) share: Share<L>,
+    pub(crate) holder: Holder<L>,
+    pub(crate) about: u64,
     pub(crate) made: u64,
-    pub(crate) past: Past,
     pub(crate) reader: SnapReader,
 }
 
 impl<L: EngineName> Model for Client<L> {
-    ghost use Rattle.std.specs.Prelude.{◌≡◌, refl};
-    ghost use Rattle.std.specs.Coded.{code_by, coded_list, coded×, coded_ℕ};
-    ghost use Rattle.engine_lock.specs.contracts.past.Given as given;
+    ghost use Rattle.std.specs.Prelude.{◌≡◌};
+    ghost use Rattle.std.specs.Coded.{codes};
+    ghost use Rattle.kv_model.specs.contracts.call.Command as commands;
     ghost use Rattle.snapshot_feed.specs.contracts.reader.SnapReader as reads;
+    ghost use Rattle.event_book.specs.Raising.{raises};
     ghost use Rattle.engine_lock.specs.Locked.{Caller};
 
     ghost Value = { Caller };
 
-    ghost coded = { code_by _
-        (coded× coded_ℕ (coded× (coded_list given.the_row.coded) reads.the_row.coded))
-        (λ c. (c.made, (c.given, record { reads = c.reader; looks = 0 })))
-        (λ p. record { made = p.0; given = p.1.0; reader = p.1.1.reads }) (λ _. refl) };
+    ghost coded = { Prim.hlevel (codes, commands.the_row.coded, reads.the_row.coded) };
 
-    ghost view = { λ c. record { made = c.made; given = c.past; reader = c.reader.reads } };
+    ghost view = { λ c. record { holder = c.holder; about = c.about; reader = c.reader.reads } };
 
-    ghost invariant = { λ c. (c.share.parts ≡ 1) × (c.made ≡ c.share.amount)
-        × (c.reader.reads.book ≡ L.book) };
+    ghost invariant = { λ c. (c.made ≡ raises c.holder) × (c.reader.reads.book ≡ L.ListName.book) };
 }
 
 impl<L: EngineName> Client<L> {
@@ -63,27 +62,75 @@ impl<L: EngineName> Client<L> {
     ghost use Rattle.engine_lock.specs.Lending.{LendsReading};
     ghost use Rattle.engine_lock.specs.Readings.{Enters, ReadsOrNot};
 
-    /// A client of this share of one part, that made no change yet, and reads by this reader.
-    pub(crate) fn of(share: Share<L>, reader: SnapReader) -> Self
-        requires parts { share.parts ≡ 1 }
-        requires amount { share.amount ≡ 0 }
-        requires book { reader.reads.book ≡ L.book }
-        ensures { result ≡ record { made = 0; given = []; reader = reader.reads } }
+    /// A client that has seen nothing, and reads by this reader.
+    pub(crate) fn of(holder: Holder<L>, reader: SnapReader) -> Self
+        requires front { holder.front ≡ [] }
+        requires book { reader.reads.book ≡ L.ListName.book }
+        ensures { result ≡ record { holder = holder; about = 0; reader = reader.reads } }
     {
         Client {
-            share,
+            holder,
+            about: 0,
             made: 0,
-            past: Past::new(),
             reader,
         }
     }
 
-    /// How many changes the client made: the commands by [`crate::Engine::submit`] and the steps
-    /// by [`crate::Engine::expire_once`] that raised the revision. Takes no memory.
+    /// How many changes the client made: by how much its events raised the revision. Takes no memory.
     pub fn share(&self) -> u64
-        ensures { result ≡ self.now.made }
+        ensures { result ≡ made_by self.now }
     {
         self.made
+    }
+
+    /// What its next events are about, in the list of all events: a number of the caller's own, as that
+    /// of a connection. It is 0 at first. Takes no memory.
+    pub fn set_about(&mut self, about: u64)
+        ensures { self.new ≡ naming self.old about }
+    {
+        self.about = about;
+    }
+
+    /// Enters an event that this client made, which has raised the revision by one or not at all.
+    pub(crate) fn note<R: Wait>(
+        &mut self,
+        rt: &R,
+        listing: &mut Listing<L>,
+        made: Made<'_>,
+        raised: bool,
+    )
+        requires answers { Answers L.ListName.ids (clocked (led_to listing.old) (event_made made))
+            (event_made made) (outcome_made made) }
+        requires asked { IsAskedFor (event_made made) }
+        requires rises { rise_of (led_to listing.old) (entry self.old.holder.number self.old.about
+            (event_made made) (outcome_made made)) ≡ cond raised 1 0 }
+        ensures log { listing.new ≡ listing.old ++ entry self.old.holder.number self.old.about
+            (event_made made.entry) (outcome_made made.entry) ∷ [] }
+        ensures adds { Adds L.ListName.ids self.old.holder self.old.about (event_made made.entry)
+            (outcome_made made.entry) self.new.holder }
+        ensures front { self.new.holder.front ≡ listing.new }
+        ensures same { self.new ≡ record self.old { holder = self.new.holder } }
+    {
+        let making = Making {
+            by: self.holder.number(),
+            about: self.about,
+            made,
+        };
+        listing.enter::<R, Making<'_>, Makings>(rt, &mut self.holder, &making);
+        if raised {
+            // It made at most as many changes as events, whose number has 64 bits.
+            let _events = self.holder.made();
+            self.made += 1;
+        }
+    }
+
+    /// Shows the client the list of all events, of which none is its own.
+    pub(crate) fn see<R: Wait>(&mut self, rt: &R, listing: &Listing<L>)
+        ensures shows { Shows self.old.holder self.new.holder }
+        ensures front { self.new.holder.front ≡ listing.now }
+        ensures same { self.new ≡ record self.old { holder = self.new.holder } }
+    {
+        listing.show(rt, &mut self.holder);
     }
 
     /// Begins a reading of what is published now, and ends the one before it. It shows all that
@@ -96,8 +143,8 @@ impl<L: EngineName> Client<L> {
         ensures ok { OnOk result (self.new.reader.inside ≡ true) }
         ensures begins { IsPrefix self.old.reader.known self.new.reader.known }
         ensures book { self.new.reader.book ≡ self.old.reader.book }
-        ensures engine { self.new.reader.book ≡ L.book }
-        ensures feed { OnOk result (IsFeed self.new.reader.known) }
+        ensures engine { self.new.reader.book ≡ L.ListName.book }
+        ensures shown { OnOk result (IsShown self.new.reader.known) }
         ensures others { self.new ≡ record self.old { reader = self.new.reader } }
         ensures err { OnErr result (self.new ≡ left self.old) }
         ensures refusal { IfErr result (λ e. e ≡ NoPlace) }
@@ -112,28 +159,29 @@ impl<L: EngineName> Client<L> {
         self.reader.leave();
     }
 
-    /// The answer to a Range, lent from what the reading shows: that of the whole history which
-    /// the operations say that the client knows of, of which nothing is trimmed, with its
-    /// compaction and its revision.
+    /// The answer to a Range, lent from what the reading shows: the model's in the world that the
+    /// front leads to at which the client reads, of which nothing is trimmed, with its compaction and
+    /// its revision.
     ///
     /// The refusals are those of the model, and `Memory` where the list of what is found, or a
     /// sort, found none. The cost is that of `range_view`'s `View::range`. Waits for nobody.
     pub fn range(&self, alloc: Global, query: &RangeQuery) -> Result<RangeReply<'_>, Refusal>
         requires { self.now.reader.inside ≡ true }
-        ensures { AnswersOf (untrimmed_of self.now.reader.known) query.now result }
+        ensures { AnswersOf (untrimmed (led_to self.now.reader.known)) query.now result }
     {
         self.reader.range(alloc, query)
     }
 
     /// [`Client::enter`], and lends the client to be read by [`Client::range`]. Once what was lent is
     /// gone, the client is in the reading that was read, and knows of the front of this engine's
-    /// publications that was shown there. The refusal is that of [`Client::enter`].
+    /// events that was shown there. The refusal is that of [`Client::enter`].
     pub fn read(&mut self) -> Result<&Client<L>, Refusal>
-        ensures* after { sem 𝓛 (LendsReading L.row (record { book = L.book })
+        ensures* after { sem 𝓛 (LendsReading L.row (record { recorded = L.recorded })
+            (record { book = L.ListName.book; ids = L.ListName.ids })
             (record { name = L.Ledger.name; parts = L.Ledger.parts }) self.entry result) }
         ensures enters { IfOk result (λ c. Enters self.old c.now) }
-        ensures engine { IfOk result (λ c. c.now.reader.book ≡ L.book) }
-        ensures feed { IfOk result (λ c. IsFeed c.now.reader.known) }
+        ensures engine { IfOk result (λ c. c.now.reader.book ≡ L.ListName.book) }
+        ensures shown { IfOk result (λ c. IsShown c.now.reader.known) }
         ensures refusal { IfErr result (λ e. e ≡ NoPlace) }
     {
         match self.enter() {
@@ -142,16 +190,17 @@ impl<L: EngineName> Client<L> {
         }
     }
 
-    /// [`Client::read`] and [`Client::range`]: the answer of what the client knows of once it has
-    /// entered, which begins with all that it has read and was told of. The client is borrowed while
-    /// the reply lives, and the reading lasts until it is left; what the client knows of afterwards
-    /// is known where the two are called apart. The refusals are those of the two.
+    /// [`Client::read`] and [`Client::range`]: the model's answer in the world that the front leads to
+    /// which the client has entered; it begins with all that the client has read and was told of. The
+    /// client is borrowed while the reply lives, and the reading lasts until it is left; what the
+    /// client knows of afterwards is known where the two are called apart. The refusals are those of
+    /// the two.
     pub fn range_serializable(
         &mut self,
         alloc: Global,
         query: &RangeQuery,
     ) -> Result<RangeReply<'_>, Refusal>
-        ensures { ReadsOrNot L.book self.old query.now result }
+        ensures { ReadsOrNot L.ListName.book self.old query.now result }
     {
         match self.read() {
             Ok(client) => client.range(alloc, query),
@@ -159,17 +208,21 @@ impl<L: EngineName> Client<L> {
         }
     }
 
-    /// Makes all that was appended visible to readers, and takes note of it; says whether it did.
-    /// The client has to have left its reading, since the publication waits for readings.
-    pub(crate) fn publish<R: Wait>(&mut self, rt: &R, core: &Core, feed: &mut Feed) -> bool
-        requires fits { Fits core.now (appended feed.old) }
-        requires book { feed.old.book ≡ L.book }
-        ensures told { IsTold result (appended feed.old) self.old self.new }
+    /// Makes all that was appended visible to readers, at this front of the list, and takes note of it;
+    /// says whether it did. The client has to have left its reading, since the publication waits for
+    /// readings.
+    pub(crate) fn publish<R: Wait>(&mut self, rt: &R, feed: &mut Feed, front: &Front) -> bool
+        requires shown { IsShown front.now.list }
+        requires all { published_by front.now.list ≡ appended feed.old }
+        requires front { front.now.book ≡ feed.old.book }
+        requires book { feed.old.book ≡ L.ListName.book }
+        ensures told { Learns result (appended feed.old) self.old self.new }
         ensures others { self.new ≡ record self.old { reader = self.new.reader } }
         ensures out { StaysOut self.old self.new }
         ensures feed { (appended feed.new ≡ appended feed.old) × (feed.new.book ≡ feed.old.book) }
+        ensures tried { feed.new.attempts ≡ (tried feed.old).attempts }
     {
-        if !published(rt, core, feed) {
+        if !published(rt, feed, front) {
             return false;
         }
         self.learn(feed)
@@ -177,8 +230,8 @@ impl<L: EngineName> Client<L> {
 
     /// Takes note of all that was appended, where readers see all of it; says whether it did.
     pub(crate) fn learn(&mut self, feed: &Feed) -> bool
-        requires { feed.now.book ≡ L.book }
-        ensures told { IsTold result (appended feed.now) self.old self.new }
+        requires { feed.now.book ≡ L.ListName.book }
+        ensures told { Learns result (appended feed.now) self.old self.new }
         ensures others { self.new ≡ record self.old { reader = self.new.reader } }
         ensures out { StaysOut self.old self.new }
     {
@@ -187,74 +240,16 @@ impl<L: EngineName> Client<L> {
         }
         self.reader.learn(&feed.told())
     }
-
-    /// It was given this outcome of a command. Does nothing.
-    pub(crate) fn note_done(&mut self, command: &Command, now: u64, outcome: &Outcome)
-        ensures { self.new ≡ plus self.old (given.Done command.now now outcome.now) }
-    {
-        self.past.add(Entry::Done(
-            Snapshot::of(command),
-            Snapshot::of(&now),
-            Snapshot::of(outcome),
-        ));
-    }
-
-    /// It was given what a delivery came to. Does nothing.
-    pub(crate) fn note_told(&mut self, number: u64, told: &Result<Message, AllocError>)
-        ensures { self.new ≡ told_to self.old number told.now }
-    {
-        if let Ok(message) = told {
-            if !tells_nothing(message) {
-                self.past
-                    .add(Entry::Told(Snapshot::of(&number), Snapshot::of(message)));
-            }
-        }
-    }
-
-    /// It had a watch ended. Does nothing.
-    pub(crate) fn note_dropped(&mut self, number: u64, stood: bool)
-        ensures { self.new ≡ plus self.old (given.Dropped number stood) }
-    {
-        self.past.add(Entry::Dropped(Snapshot::of(&number), Snapshot::of(&stood)));
-    }
-
-    /// It had a trimming step made. Does nothing.
-    pub(crate) fn note_trimmed(&mut self, step: &Trim)
-        ensures { self.new ≡ plus self.old (given.Trimmed step.now) }
-    {
-        self.past.add(Entry::Trimmed(Snapshot::of(step)));
-    }
-
-    /// It had a trimming step refused. Does nothing.
-    pub(crate) fn note_untrimmed(&mut self)
-        ensures { self.new ≡ plus self.old given.Untrimmed }
-    {
-        self.past.add(Entry::Untrimmed);
-    }
-
-    /// It had a step of expiry made. Does nothing.
-    pub(crate) fn note_expired(&mut self, now: u64, step: &Result<Expiry, Refusal>)
-        ensures { self.new ≡ plus self.old (given.Expired now step.now) }
-    {
-        self.past
-            .add(Entry::Expired(Snapshot::of(&now), Snapshot::of(step)));
-    }
 }
 
-/// Makes all that was appended visible to readers; says whether it did.
-pub(crate) fn published<R: Wait>(rt: &R, core: &Core, feed: &mut Feed) -> bool
-    requires { Fits core.now (appended feed.old) }
+/// Makes all that was appended visible to readers, at this front of the list; says whether it did.
+pub(crate) fn published<R: Wait>(rt: &R, feed: &mut Feed, front: &Front) -> bool
+    requires shown { IsShown front.now.list }
+    requires all { published_by front.now.list ≡ appended feed.old }
+    requires book { front.now.book ≡ feed.old.book }
     ensures same { (appended feed.new ≡ appended feed.old) × (feed.new.book ≡ feed.old.book) }
+    ensures tried { feed.new.attempts ≡ (tried feed.old).attempts }
 {
-    let _ = core;
-    feed.commit();
-    let done = feed.publish(rt);
+    let done = feed.publish(rt, front);
     done.is_ok()
-}
-
-/// Whether a message tells nothing.
-fn tells_nothing(message: &Message) -> bool
-    ensures { result ≡ is_quiet message.now }
-{
-    matches!(message, Message::Nothing)
 }

@@ -1,13 +1,12 @@
 //! The engine: one event of the core for each holding of its lock.
-ghost use Rattle.std.specs.Prelude.{◌≡◌, ◌+◌, ◌<◌, is_ok, map, sum, length, IfOk, IfErr};
-ghost use Rattle.std.specs.Prelude.{[], ◌∷◌, ◌++◌, MatchBool, None, ⊤};
+ghost use Rattle.std.specs.Prelude.{◌≡◌, ◌+◌, ◌<◌, ◌≤◌, is_ok, false, length, None, IfOk, IfErr, OnOk, OnErr};
 ghost use Rattle.kv_model.specs.declared.refusal.Refusal.TheVariants.{Memory, NoPlace, NoWatch};
-ghost use Rattle.engine_lock.specs.Fits.{IsStanding};
-ghost use Rattle.engine_lock.specs.Locked.{Drops, Submits, SubmitsExpiry, Tells, Trims};
-ghost use Rattle.engine_lock.specs.Locked.{DropsFor, TellsTo, TrimsFor};
-ghost use Rattle.engine_lock.specs.Locked.{CatchesUp, knowing};
-ghost use Rattle.engine_lock.specs.Locked.{left, plus, rise, rise_of_expiry, told_to, trimmed_to, with_done};
-ghost use Rattle.engine_lock.specs.declared.past.Given.TheVariants as given;
+ghost use Rattle.kv_model.specs.Follows.Outcome.{said};
+ghost use Rattle.kv_model.specs.Wire.{WireTold};
+ghost use Rattle.json_gateway.specs.Runs.{delivery_outcome};
+ghost use Rattle.event_book.specs.Events.{Event};
+ghost use Rattle.engine_lock.specs.Entering.{CatchesUp, Closes, EntersAlone, MayTrim, Submits, SubmitsExpiry};
+ghost use Rattle.engine_lock.specs.Locked.{IsNew};
 
 mod orders;
 mod watching;
@@ -17,15 +16,16 @@ use crate::asked::Asked;
 use crate::client::Client;
 use crate::closing::CloseFault;
 use crate::engine::watching::News;
+use crate::kept::Kept;
 use crate::opening::{EngineName, Opening};
 use crate::state::State;
+use crate::taken::Taken;
 use json_gateway::{Expiry, Ids, Message, Outcome, Refusal, Trim};
 use kv_model::call::Command;
 use request_core::store::Core;
 use std::alloc::{AllocError, Global};
 use std::hint::spin_loop;
 use std::marker::Model;
-use std::sync::ledger::Ledger;
 use std::sync::{Mutex, MutexGuard, Wait};
 use std::thread::yield_now;
 
@@ -38,22 +38,36 @@ const PAUSES: u64 = 20;
 /// How often it is asked for then, with other threads let run between, before a thread sleeps.
 const TURNS: u64 = 200;
 
-/// A core that any number of threads share. Clauses see of it by which ids it answers.
+/// A core that any number of threads share. Clauses see of it by which ids it answers, how many
+/// clients it made, and whether its events are written down. The roster of its clients stands outside
+/// the lock, so no call by `&` makes one, for its own use or another's.
 #[derive(Drop)]
 pub struct Engine<L: EngineName> {
     alloc: Global,
     ids: Ids,
+    /// Whether its events are written down.
+    is_recorded: bool,
+    roster: Kept<L>,
     state: Mutex<State<L>>,
+    /// Up to which event lines were taken.
+    taken: Mutex<Taken<L>>,
     /// Whether a watch fell behind since somebody asked.
     news: News,
 }
 
 impl<L: EngineName> Model for Engine<L> {
-    ghost use Rattle.kv_model.specs.declared.ids.Ids.{Ids as IdsOf};
+    ghost use Rattle.std.specs.Prelude.{◌≡◌};
+    ghost use Rattle.engine_lock.specs.Locked.{EngineState};
 
-    ghost Value = { IdsOf };
+    ghost Value = { EngineState };
 
-    ghost view = { λ e. e.ids };
+    ghost view = { λ e. record {
+      ids = e.ids;
+      clients = e.roster.made;
+      recorded = e.is_recorded;
+    } };
+
+    ghost invariant = { λ e. (e.ids ≡ L.ListName.ids) × (e.is_recorded ≡ L.recorded) };
 }
 
 /// What a command came to.
@@ -71,51 +85,86 @@ impl<L: EngineName> Engine<L> {
     /// An engine over a new core, that answers by these ids. No client is made yet. The opening has
     /// all the memory that it takes. Its events are not written down ([`Engine::recorded`]).
     ///
-    /// `L` is the name that the opening has: where the function that is generic in it is called
-    /// with `Brand`, the pick of its ghost members is the opening's `name`, `parts` and `book`.
+    /// `L` is the name that the opening has, with the ids: where the function that is generic in it is
+    /// called with `Brand`, the pick of its ghost members is the opening's `name`, `parts` and `book`, the
+    /// ids, and that its events are not written down.
     pub fn new(alloc: Global, opening: Opening, ids: Ids) -> Self
         requires name { opening.name ≡ L.Ledger.name }
         requires parts { opening.parts ≡ L.Ledger.parts }
-        requires book { opening.book ≡ L.book }
-        ensures { result ≡ ids }
+        requires book { opening.book ≡ L.ListName.book }
+        requires ids { ids ≡ L.ListName.ids }
+        requires recorded { L.recorded ≡ false }
+        ensures { result ≡ record { ids = ids; clients = 0; recorded = false } }
     {
+        Engine::opened(alloc, opening, ids, false)
+    }
+
+    /// An engine over a new core, whose events are written down where `is_recorded` says so.
+    fn opened(alloc: Global, opening: Opening, ids: Ids, is_recorded: bool) -> Self
+        requires name { opening.name ≡ L.Ledger.name }
+        requires parts { opening.parts ≡ L.Ledger.parts }
+        requires book { opening.book ≡ L.ListName.book }
+        requires ids { ids ≡ L.ListName.ids }
+        requires recorded { is_recorded ≡ L.recorded }
+        ensures { result ≡ record { ids = ids; clients = 0; recorded = is_recorded } }
+    {
+        let (state, roster) = State::new(alloc, opening, is_recorded);
+        let taken = state.taken();
         Engine {
             alloc,
             ids,
-            state: Mutex::new(State::new(alloc, opening, false)),
+            is_recorded,
+            roster: Kept::of(roster),
+            state: Mutex::new(state),
+            taken: Mutex::new(taken),
             news: News::none(),
         }
     }
 
     /// The ids that it answers by. Waits for nobody.
     pub fn ids(&self) -> &Ids
-        ensures { result.now ≡ self.now }
+        ensures { result.now ≡ self.now.ids }
     {
         &self.ids
     }
 
-    /// A client that made no change and was given nothing yet, which has read nothing. `NoPlace`
-    /// comes once 64 were made, however many of them are still there, and where the feed has no
-    /// place for one more reader. Takes no memory.
-    pub fn client<R: Wait>(&self, rt: &R) -> Result<Client<L>, Refusal>
-        ensures made { IfOk result (λ c. c.made ≡ 0) }
-        ensures given { IfOk result (λ c. c.given ≡ []) }
-        ensures full { IfErr result (λ e. e ≡ NoPlace) }
+    /// Whether its events are written down. Waits for nobody.
+    pub fn is_recorded(&self) -> bool
+        ensures { result ≡ L.recorded }
     {
-        locked(rt, &self.state).client()
+        self.is_recorded
+    }
+
+    /// A client that made no event and has seen and read nothing yet, and no other one. Its number is
+    /// how many were made before. `NoPlace` comes once 64 were made, however many of them are still
+    /// there, and where the feed has no place for one more reader. Takes no memory.
+    pub fn client<R: Wait>(&mut self, rt: &R) -> Result<Client<L>, Refusal>
+        ensures new { IfOk result IsNew }
+        ensures number { IfOk result (λ c. c.holder.number ≡ self.old.clients) }
+        ensures made { OnOk result
+            (self.new ≡ record self.old { clients = self.old.clients + 1 }) }
+        ensures full { IfErr result (λ e. e ≡ NoPlace) }
+        ensures unmade { OnErr result (self.new ≡ self.old) }
+    {
+        let Ok(reader) = locked(rt, &self.state).reader() else {
+            return Err(Refusal::NoPlace);
+        };
+        match self.roster.holder(rt) {
+            Some(holder) => Ok(Client::of(holder, reader)),
+            None => Err(Refusal::NoPlace),
+        }
     }
 
     /// Hands in the moment `now`, in milliseconds, and then does a command, in one holding. The
     /// moment stands where the command is refused, too; one before the clock leaves it.
     ///
-    /// The outcome is `json_gateway::perform`'s, on a core that stood for a world to which events
-    /// lead from the opening one, and that had all changes that the client had made. Where the
-    /// result says `published`, the client was told of all that was published, which is what that
-    /// world's history says, followed by the change that the model makes there (`Submits`). Each
-    /// later reading of the client begins with it.
+    /// That is one event of the list of all events, whose outcome is `json_gateway::perform`'s in the
+    /// world that the events before it lead to (`Submits`). The client has seen the list up to it.
+    /// Where the result says `published`, the client was told for its reads of all that these events
+    /// publish: each later reading of the client begins with it.
     ///
     /// The client's share rises by one where the outcome tells a new revision, also where its
-    /// answer was lost, and else stays. It was given just that outcome, and its reading is left.
+    /// answer was lost, and else stays. Its reading is left.
     ///
     /// Where something was appended it is published, which waits for the readings that began before
     /// the last publication. Where that finds no memory `published` is false, and the next
@@ -131,11 +180,8 @@ impl<L: EngineName> Engine<L> {
         now: u64,
         command: &Command,
     ) -> Submitted
-        ensures submits { Submits self.now (left client.old) now
+        ensures { Submits self.now.ids client.old now
             (record { command = command.now; request = None }) result client.new }
-        ensures client { client.new ≡ record (with_done client.old
-            (given.Done command.now now result.outcome) (rise result.outcome.raised))
-            { reader = client.new.reader } }
     {
         self.submit_request(rt, client, now, &Asked::of(command))
     }
@@ -143,114 +189,79 @@ impl<L: EngineName> Engine<L> {
     /// Hands in the moment `now`, in milliseconds, and tells the client of all that the engine has
     /// done, in one holding: each later reading of the client begins with it (etcd: the read index
     /// of a linearizable read). So a Range that the client reads then beside the lock answers from a
-    /// state that was the engine's between this call and that reading.
+    /// state that was the engine's between this call and that reading. The moment is the event of it.
     ///
     /// Says whether the client was told. It is not where something is not published yet, as a
-    /// trimming step, and publishing it finds no memory; then nothing has changed but the moment,
-    /// and the client's reading is left, as always.
+    /// trimming step, and publishing it finds no memory. The client's reading is left.
     ///
     /// Constant time under the lock, but where something has to be published: then the cost is that
     /// of `Feed::publish`, which waits for readings, too.
     pub fn catch_up<R: Wait>(&self, rt: &R, client: &mut Client<L>, now: u64) -> bool
-        ensures catches { CatchesUp (left client.old) now result client.new }
-        ensures client { client.new ≡ knowing client.old client.new.reader.known }
-        ensures untold { MatchBool result ⊤ (client.new ≡ left client.old) }
+        ensures { CatchesUp self.now.ids client.old now result client.new }
     {
         client.leave();
         locked(rt, &self.state).catch_up(rt, client, now)
     }
 
     /// Tells the watch of a number what it is told next, and moves it past that, as
-    /// `json_gateway::message` does. `AllocError` comes where the list of the events or their text
-    /// found no memory; then nothing is changed, and the same message comes at the next call.
-    pub fn deliver<R: Wait>(&self, rt: &R, number: u64) -> Result<Message, AllocError>
-        ensures { IfOk result (λ m. Tells self.now number m) }
-    {
-        locked(rt, &self.state).deliver(self.alloc, &self.ids, number)
-    }
-
-    /// As [`Engine::deliver`], for a client: it was given just that message, and nothing where the
-    /// watch is caught up or no memory was found. The core had all changes that the client had made.
-    /// Its reading is left.
-    pub fn deliver_for<R: Wait>(
+    /// `json_gateway::message` does: one event, also where it tells nothing. `AllocError` comes where
+    /// the list of the events or their text found no memory; then nothing is changed, and the same
+    /// message comes at the next call. The client's reading is left.
+    pub fn deliver<R: Wait>(
         &self,
         rt: &R,
         client: &mut Client<L>,
         number: u64,
     ) -> Result<Message, AllocError>
-        ensures tells { IfOk result (λ m. Tells self.now number m) }
-        ensures sees { IfOk result (λ m. TellsTo self.now client.old.made number m) }
-        ensures given { client.new ≡ told_to (left client.old) number result }
+        ensures { EntersAlone self.now.ids client.old (Event.delivery number) (delivery_outcome result)
+            client.new }
     {
         client.leave();
-        locked(rt, &self.state).deliver_for(self.alloc, &self.ids, client, number)
+        locked(rt, &self.state).deliver(rt, self.alloc, &self.ids, client, number)
     }
 
     /// Ends the watch of a number. `NoWatch` comes where no watch has the number, and then nothing
-    /// changes. Takes no memory.
-    pub fn drop_watch<R: Wait>(&self, rt: &R, number: u64) -> Result<(), Refusal>
-        ensures drops { Drops number (is_ok result) }
-        ensures missing { IfErr result (λ e. e ≡ NoWatch) }
-    {
-        locked(rt, &self.state).drop_watch(number)
-    }
-
-    /// As [`Engine::drop_watch`], for a client: it was given that this watch was ended, or that
-    /// there was none, in a core that had all changes that the client had made. Its reading is left.
-    pub fn drop_watch_for<R: Wait>(
+    /// changes. Takes no memory. The client's reading is left.
+    pub fn drop_watch<R: Wait>(
         &self,
         rt: &R,
         client: &mut Client<L>,
         number: u64,
     ) -> Result<(), Refusal>
-        ensures drops { Drops number (is_ok result) }
-        ensures sees { DropsFor client.old.made number (is_ok result) }
+        ensures ends { EntersAlone self.now.ids client.old (Event.ending number)
+            (said (WireTold.closed (is_ok result))) client.new }
         ensures missing { IfErr result (λ e. e ≡ NoWatch) }
-        ensures given { client.new
-            ≡ plus (left client.old) (given.Dropped number (is_ok result)) }
     {
         client.leave();
-        locked(rt, &self.state).drop_watch_for(client, number)
+        locked(rt, &self.state).drop_watch(rt, client, number)
     }
 
     /// Makes a trimming step, as `Core::trim_step` does, of which the feed is told before it is
-    /// made. `Memory` comes where the feed finds none for that, and then nothing has changed.
+    /// made. `Memory` comes where the feed finds none for that, and then nothing has changed, and no
+    /// event was made. The client's reading is left.
     ///
     /// What was appended is published where the step says Done, and after 100 steps that were not
     /// told of; that waits for readings, as [`Engine::submit`] does.
-    pub fn trim_once<R: Wait>(&self, rt: &R) -> Result<Trim, Refusal>
-        ensures trims { IfOk result (λ t. Trims t) }
-        ensures refused { IfErr result (λ e. e ≡ Memory) }
-    {
-        locked(rt, &self.state).trim(rt)
-    }
-
-    /// As [`Engine::trim_once`], for a client: it was given just that step, of a core that had all
-    /// changes that the client had made, or that the step was refused. Its reading is left.
-    pub fn trim_once_for<R: Wait>(&self, rt: &R, client: &mut Client<L>) -> Result<Trim, Refusal>
-        ensures trims { IfOk result (λ t. Trims t) }
-        ensures sees { IfOk result (λ t. TrimsFor client.old.made t) }
-        ensures given { client.new ≡ trimmed_to (left client.old) result }
+    pub fn trim_once<R: Wait>(&self, rt: &R, client: &mut Client<L>) -> Result<Trim, Refusal>
+        ensures trims { MayTrim self.now.ids client.old result client.new }
         ensures refused { IfErr result (λ e. e ≡ Memory) }
     {
         client.leave();
-        locked(rt, &self.state).trim_for(rt, client)
+        locked(rt, &self.state).trim(rt, client)
     }
 
     /// Hands in the moment `now`, in milliseconds, and then makes a step of expiry, as
     /// `Core::expire` does, in one holding. The client's share rises by one where the step tells
-    /// that the revision rose, and else stays; it was given just that step, and its reading is left.
-    /// What the step deleted is published as by [`Engine::submit`] (`SubmitsExpiry`). Refused as
-    /// `RevisionsSpent` and as `Memory`, as there; the moment then stands.
+    /// that the revision rose, and else stays; its reading is left. What the step deleted is published
+    /// as by [`Engine::submit`]. Refused as `RevisionsSpent` and as `Memory`, as there; the moment then
+    /// stands.
     pub fn expire_once<R: Wait>(
         &self,
         rt: &R,
         client: &mut Client<L>,
         now: u64,
     ) -> Result<Expiry, Refusal>
-        ensures submits { SubmitsExpiry (left client.old) now result client.new }
-        ensures client { client.new ≡ record (with_done client.old (given.Expired now result)
-            (rise_of_expiry result)) { reader = client.new.reader } }
+        ensures { SubmitsExpiry self.now.ids client.old now result client.new }
     {
         client.leave();
         let mut state = locked(rt, &self.state);
@@ -259,37 +270,43 @@ impl<L: EngineName> Engine<L> {
         step
     }
 
-    /// Ends the engine, and gives back its core, where every client that it made came back. Then
-    /// the core's revision is 1 plus the sum of their shares.
+    /// Ends the engine, and gives back its core, where every client that it made came back: the list
+    /// of all events is a history, the core stands for the world that it leads to, each event is of one
+    /// of the clients, and the core's revision is 1 plus the sum of their shares (`Closes`).
     ///
-    /// `CloseFault` is Missing: some client did not come, so there are fewer than 64. Takes no
+    /// `CloseFault` is Missing: fewer clients came than the engine made. Takes no
     /// memory. What readers were shown is let go, which waits for their readings; those of the
     /// clients that came are left first.
     pub fn close<R: Wait>(self, rt: &R, clients: Vec<Client<L>>) -> Result<Core, CloseFault<L>>
-        ensures stands { IfOk result (λ c. IsStanding c) }
-        ensures total { IfOk result
-            (λ c. c.store.revision ≡ 1 + sum (map (λ x. x.made) clients.items)) }
-        ensures missing { IfErr result (λ f. length clients.items < 64) }
+        ensures closes { IfOk result (λ core. Closes self.ids core clients.items) }
+        ensures all { OnOk result (self.clients ≤ length clients.items) }
+        ensures missing { IfErr result (λ f. length clients.items < self.clients) }
         ensures clients { IfErr result (λ f. f.clients ≡ clients) }
-        ensures ids { IfErr result (λ f. f.engine ≡ self) }
+        ensures engine { IfErr result (λ f. f.engine ≡ self) }
     {
         let Engine {
             alloc,
             ids,
+            is_recorded,
+            roster,
             state,
+            taken,
             news,
         } = self;
-        let state = state.into_inner();
-        if state.has_all(&clients) {
-            return Ok(state.finish(rt, clients));
+        let roster = roster.into_roster(rt);
+        if clients.len() < roster.holders() {
+            let engine = Engine {
+                alloc,
+                ids,
+                is_recorded,
+                roster: Kept::of(roster),
+                state,
+                taken,
+                news,
+            };
+            return Err(CloseFault { engine, clients });
         }
-        let engine = Engine {
-            alloc,
-            ids,
-            state: Mutex::new(state),
-            news,
-        };
-        Err(CloseFault { engine, clients })
+        Ok(state.into_inner().finish(rt, roster, clients))
     }
 }
 

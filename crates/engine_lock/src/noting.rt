@@ -3,8 +3,8 @@ ghost use Rattle.std.specs.Prelude.{◌≡◌, not};
 ghost use Rattle.trim_core.specs.Told.{told_of};
 ghost use Rattle.json_gateway.specs.Endings.{is_done};
 ghost use Rattle.recording.specs.Lines.{IsTrimNoted, blank};
-ghost use Rattle.engine_lock.specs.Notes.{NotesCommand, NotesEnding, NotesExpiry, NotesMessage};
-ghost use Rattle.engine_lock.specs.Notes.{says_done};
+ghost use Rattle.event_script.specs.Notes.{NotesCommand, NotesEnding, NotesExpiry, NotesMessage};
+ghost use Rattle.event_script.specs.Notes.{says_done};
 
 use crate::asked::Asked;
 use json_gateway::{Expiry, Message, Outcome, Refusal, Settled, Trim, Trimmed, WireEvent};

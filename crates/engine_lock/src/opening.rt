@@ -1,50 +1,45 @@
-//! What an engine is opened with: the name of its ledger, and what readers will be told of.
-ghost use Rattle.std.specs.Prelude.{◌≡◌, IfOk};
-ghost use Rattle.logbook.specs.Pages.{Book};
+//! What an engine is opened with: the name of its list, and what readers will be told of.
+ghost use Rattle.std.specs.Prelude.{◌≡◌, Bool, false, IfOk};
 
 use crate::MOST_CLIENTS;
+use event_book::ListName;
 use snapshot_feed::Feed;
 use std::alloc::{AllocError, Global};
 use std::marker::{Brand, Model};
 use std::sync::Wait;
-use std::sync::ledger::{Blank, Ledger};
 
-/// Names one engine, by the ledger of its clients' shares and by the list of what its readers are
-/// told of. No type but `Brand` has it, and a call with `Brand` picks the names: so engine and
-/// clients live inside a function that is generic in it, and a client of another engine has another
-/// type.
-pub trait EngineName: Ledger {
-    /// The list of all publications.
-    ghost book: { Book };
+/// Names one engine, by the list of all its events, with the ledger of its clients' shares and the ids
+/// that it answers by ([`ListName`]), and says whether its events are written down. No type but
+/// `Brand` has it, and a call with `Brand` picks the names: so engine and clients live inside a
+/// function that is generic in it, and a client of another engine has another type.
+pub trait EngineName: ListName {
+    /// Whether its events are written down.
+    ghost recorded: { Bool };
 }
 
 impl EngineName for Brand {
-    ghost book = { record { number = 0; log_name = 0; cells_name = 0 } };
+    ghost recorded = { false };
 }
 
-/// What an engine is opened with, made before the function that is generic in its name: a ledger
-/// that no type stands for yet, cut into a part for each client, and the feed of what readers
-/// beside the writer see.
+/// What an engine is opened with, made before the function that is generic in its name: a list
+/// without an event, whose ledger no type stands for yet and is cut into a part for each client, and
+/// the feed of what readers beside the writer see.
 #[derive(Drop)]
 pub struct Opening {
-    pub(crate) blank: Blank,
+    pub(crate) list: event_book::Opening,
     pub(crate) feed: Feed,
 }
 
 impl Model for Opening {
-    ghost use Rattle.std.specs.Prelude.{◌≡◌, []};
-    ghost use Rattle.engine_lock.specs.Locked.{Opened};
+    ghost use Rattle.std.specs.Prelude.{◌≡◌};
+    ghost use Rattle.event_book.specs.Lists.{Opened};
+    ghost use Rattle.snapshot_feed.specs.States.{unused};
 
     ghost Value = { Opened };
 
-    ghost view = { λ o. record {
-      name = o.blank.name;
-      parts = o.blank.parts;
-      book = o.feed.book;
-    } };
+    ghost view = { λ o. o.list };
 
-    ghost invariant = { λ o. (o.blank.parts ≡ 64) × (o.feed.published ≡ [])
-        × (o.feed.pending ≡ []) };
+    ghost invariant = { λ o. (o.list.parts ≡ 64) × (o.feed ≡ unused o.list.book) };
 }
 
 impl Opening {
@@ -64,10 +59,8 @@ impl Opening {
     pub fn for_clients<R: Wait>(alloc: Global, rt: &R, clients: u64) -> Result<Self, AllocError>
         ensures { IfOk result (λ o. o.parts ≡ 64) }
     {
-        let feed = Feed::with_room(alloc, rt, clients as usize)?;
-        Ok(Opening {
-            blank: Blank::new(MOST_CLIENTS),
-            feed,
-        })
+        let list = event_book::Opening::new();
+        let feed = Feed::with_room(alloc, rt, clients as usize, &list.front())?;
+        Ok(Opening { list, feed })
     }
 }

@@ -57,9 +57,18 @@ fn answer<L: EngineName, R: Wait, W: Write>(
             }
         }
         Event::At(moment) => tell_number(w, client.share(), "at", moment),
-        Event::Deliver(number) => tell_message(w, client.share(), &engine.deliver(rt, number)),
-        Event::Close(number) => tell_closed(w, client.share(), engine.drop_watch(rt, number)),
-        Event::Trim => tell_trim(w, client.share(), engine.trim_once(rt)),
+        Event::Deliver(number) => {
+            let told = engine.deliver(rt, client, number);
+            tell_message(w, client.share(), &told)
+        }
+        Event::Close(number) => {
+            let ended = engine.drop_watch(rt, client, number);
+            tell_closed(w, client.share(), ended)
+        }
+        Event::Trim => {
+            let step = engine.trim_once(rt, client);
+            tell_trim(w, client.share(), step)
+        }
         Event::Expire => {
             let step = engine.expire_once(rt, client, now);
             tell_expiry(w, client.share(), step)

@@ -26,7 +26,7 @@
 //! `tests/allocations_engine` refuses each of its allocations in turn.
 #![tactic(auto)]
 
-ghost use Rattle.std.specs.Prelude.{◌≡◌};
+ghost use Rattle.std.specs.Prelude.{◌≡◌, false};
 
 mod events;
 mod lines;
@@ -86,13 +86,15 @@ fn answer_on<L: EngineName, R: Wait, W: Write>(
 ) -> io::Result<()>
     requires name { opening.name ≡ L.Ledger.name }
     requires parts { opening.parts ≡ L.Ledger.parts }
-    requires book { opening.book ≡ L.book }
+    requires book { opening.book ≡ L.ListName.book }
+    requires recorded { L.recorded ≡ false }
+    requires ids { L.ListName.ids ≡ record { cluster = 1; member = 1 } }
 {
     let mut clients = match Vec::with_capacity(alloc, 1) {
         Ok(clients) => clients,
         Err(_) => return Err(io::Error::from(ErrorKind::OutOfMemory)),
     };
-    let engine = Engine::<L>::new(alloc, opening, IDS);
+    let mut engine = Engine::<L>::new(alloc, opening, IDS);
     let Ok(mut client) = engine.client(rt) else {
         return Err(io::Error::from(ErrorKind::Other));
     };

@@ -1,5 +1,5 @@
 //! The calls of an engine, each by itself.
-ghost use Rattle.std.specs.Prelude.{◌≡◌};
+ghost use Rattle.std.specs.Prelude.{◌≡◌, false};
 
 use crate::lock_replies::ONES;
 use crate::texts::{GRANT, PUT, WATCH};
@@ -18,9 +18,11 @@ fn made<L: EngineName, R: Wait>(
 ) -> (usize, Option<Refusal>, bool)
     requires name { opening.name ≡ L.Ledger.name }
     requires parts { opening.parts ≡ L.Ledger.parts }
-    requires book { opening.book ≡ L.book }
+    requires book { opening.book ≡ L.ListName.book }
+    requires recorded { L.recorded ≡ false }
+    requires ids { L.ListName.ids ≡ record { cluster = 1; member = 1 } }
 {
-    let engine = Engine::<L>::new(alloc, opening, ONES);
+    let mut engine = Engine::<L>::new(alloc, opening, ONES);
     let mut clients = Vec::new(alloc);
     let mut refused = None;
     for _ in 0..=MOST_CLIENTS {
@@ -99,60 +101,47 @@ fn begin<L: EngineName, R: Wait>(
 
 fn call_each<L: EngineName, R: Wait>(rt: &R, engine: &Engine<L>, client: &mut Client<L>) -> Said {
     Said {
-        is_told: matches!(&engine.deliver(rt, 1), Ok(Message::Text(_))),
-        is_quiet: matches!(&engine.deliver(rt, 1), Ok(Message::Nothing)),
-        ends: (engine.drop_watch(rt, 1), engine.drop_watch(rt, 1)),
-        trims: engine.trim_once(rt),
-        expires: engine.expire_once(rt, client, 2000),
-        share: client.share(),
-    }
-}
-
-fn call_each_for<L: EngineName, R: Wait>(
-    rt: &R,
-    engine: &Engine<L>,
-    client: &mut Client<L>,
-) -> Said {
-    Said {
-        is_told: matches!(&engine.deliver_for(rt, client, 1), Ok(Message::Text(_))),
-        is_quiet: matches!(&engine.deliver_for(rt, client, 1), Ok(Message::Nothing)),
+        is_told: matches!(&engine.deliver(rt, client, 1), Ok(Message::Text(_))),
+        is_quiet: matches!(&engine.deliver(rt, client, 1), Ok(Message::Nothing)),
         ends: (
-            engine.drop_watch_for(rt, client, 1),
-            engine.drop_watch_for(rt, client, 1),
+            engine.drop_watch(rt, client, 1),
+            engine.drop_watch(rt, client, 1),
         ),
-        trims: engine.trim_once_for(rt, client),
+        trims: engine.trim_once(rt, client),
         expires: engine.expire_once(rt, client, 2000),
         share: client.share(),
     }
 }
 
-/// What each call says on a new engine: the calls for a client, or those for nobody.
+/// What each call says on a new engine to the client that posted the beginning, or to another one,
+/// which goes on with what that one began.
 fn each_call<L: EngineName, R: Wait>(
     rt: &R,
     alloc: Global,
     opening: Opening,
-    for_client: bool,
+    by_another: bool,
 ) -> Option<Said>
     requires name { opening.name ≡ L.Ledger.name }
     requires parts { opening.parts ≡ L.Ledger.parts }
-    requires book { opening.book ≡ L.book }
+    requires book { opening.book ≡ L.ListName.book }
+    requires recorded { L.recorded ≡ false }
+    requires ids { L.ListName.ids ≡ record { cluster = 1; member = 1 } }
 {
-    let engine = Engine::<L>::new(alloc, opening, ONES);
+    let mut engine = Engine::<L>::new(alloc, opening, ONES);
     let mut client = engine.client(rt).ok()?;
+    let mut other = engine.client(rt).ok()?;
     begin(rt, alloc, &engine, &mut client);
-    if for_client {
-        Some(call_each_for(rt, &engine, &mut client))
-    } else {
-        Some(call_each(rt, &engine, &mut client))
-    }
+    let next = if by_another { &mut other } else { &mut client };
+    Some(call_each(rt, &engine, next))
 }
 
-fn run_each_call<R: Wait>(rt: &R, alloc: Global, for_client: bool) -> Option<Said> {
+fn run_each_call<R: Wait>(rt: &R, alloc: Global, by_another: bool) -> Option<Said> {
     let opening = Opening::new(alloc, rt).ok()?;
-    each_call::<Brand, R>(rt, alloc, opening, for_client)
+    each_call::<Brand, R>(rt, alloc, opening, by_another)
 }
 
-fn said_of_each_call() -> Said {
+/// What each call says, to a client with this share behind them.
+fn said_of_each_call(share: u64) -> Said {
     Said {
         is_told: true,
         is_quiet: true,
@@ -163,7 +152,7 @@ fn said_of_each_call() -> Said {
             revision: 4,
             raised: true,
         }),
-        share: 3,
+        share,
     }
 }
 
@@ -171,15 +160,15 @@ fn said_of_each_call() -> Said {
 fn each_call_of_an_engine(rt: HostRuntime) {
     assert_eq!(rt;
         run_each_call(&rt, rt.alloc(), false),
-        Some(said_of_each_call())
+        Some(said_of_each_call(3))
     );
 }
 
 #[test]
-fn each_call_for_a_client(rt: HostRuntime) {
+fn each_call_by_another_client(rt: HostRuntime) {
     assert_eq!(rt;
         run_each_call(&rt, rt.alloc(), true),
-        Some(said_of_each_call())
+        Some(said_of_each_call(1))
     );
 }
 
@@ -199,10 +188,13 @@ fn order_each<L: EngineName, R: Wait>(
     reader: &mut Client<L>,
 ) -> Ordered {
     Ordered {
-        clocks: (engine.moment(rt, 5000), engine.moment(rt, 4000)),
+        clocks: (
+            engine.moment(rt, reader, 5000),
+            engine.moment(rt, reader, 4000),
+        ),
         is_caught_up: engine.catch_up(rt, reader, 6000),
-        done: done_of(engine.trim_checked(rt)),
-        kept: kept_of(rt, engine),
+        done: done_of(engine.trim_checked(rt, reader)),
+        kept: kept_of(rt, engine, reader),
     }
 }
 
@@ -215,8 +207,12 @@ fn done_of(step: Result<Trimmed, Refusal>) -> Option<(u64, bool)> {
 }
 
 /// Of what is kept: the compaction, the revision, how many versions and how many needs.
-fn kept_of<L: EngineName, R: Wait>(rt: &R, engine: &Engine<L>) -> Option<(u64, u64, usize, usize)> {
-    let shown = engine.certificate(rt).ok()?;
+fn kept_of<L: EngineName, R: Wait>(
+    rt: &R,
+    engine: &Engine<L>,
+    client: &mut Client<L>,
+) -> Option<(u64, u64, usize, usize)> {
+    let shown = engine.certificate(rt, client).ok()?;
     let dump = &shown.dump;
     let needs = shown.certificate.claims.len();
     Some((dump.floor, dump.revision, dump.versions.len(), needs))
@@ -226,7 +222,7 @@ fn kept_of<L: EngineName, R: Wait>(rt: &R, engine: &Engine<L>) -> Option<(u64, u
 fn order_by_two<L: EngineName, R: Wait>(
     rt: &R,
     alloc: Global,
-    engine: &Engine<L>,
+    engine: &mut Engine<L>,
 ) -> Option<Ordered> {
     let mut writer = engine.client(rt).ok()?;
     begin(rt, alloc, engine, &mut writer);
@@ -237,10 +233,12 @@ fn order_by_two<L: EngineName, R: Wait>(
 fn each_order<L: EngineName, R: Wait>(rt: &R, alloc: Global, opening: Opening) -> Option<Ordered>
     requires name { opening.name ≡ L.Ledger.name }
     requires parts { opening.parts ≡ L.Ledger.parts }
-    requires book { opening.book ≡ L.book }
+    requires book { opening.book ≡ L.ListName.book }
+    requires recorded { L.recorded ≡ false }
+    requires ids { L.ListName.ids ≡ record { cluster = 1; member = 1 } }
 {
-    let engine = Engine::<L>::new(alloc, opening, ONES);
-    order_by_two(rt, alloc, &engine)
+    let mut engine = Engine::<L>::new(alloc, opening, ONES);
+    order_by_two(rt, alloc, &mut engine)
 }
 
 fn run_each_order<R: Wait>(rt: &R, alloc: Global) -> Option<Ordered> {
@@ -270,9 +268,11 @@ fn closed_twice<L: EngineName, R: Wait>(
 ) -> Option<(u8, usize, u64)>
     requires name { opening.name ≡ L.Ledger.name }
     requires parts { opening.parts ≡ L.Ledger.parts }
-    requires book { opening.book ≡ L.book }
+    requires book { opening.book ≡ L.ListName.book }
+    requires recorded { L.recorded ≡ false }
+    requires ids { L.ListName.ids ≡ record { cluster = 1; member = 1 } }
 {
-    let engine = Engine::<L>::new(alloc, opening, ONES);
+    let mut engine = Engine::<L>::new(alloc, opening, ONES);
     match engine.client(rt) {
         Ok(first) => closed_after_a_put(rt, alloc, engine, first),
         Err(_) => None,
@@ -286,6 +286,7 @@ fn closed_after_a_put<L: EngineName, R: Wait>(
     engine: Engine<L>,
     first: Client<L>,
 ) -> Option<(u8, usize, u64)> {
+    let mut engine = engine;
     match engine.client(rt) {
         Ok(mut second) => {
             let put = "{\"key\":\"YQ==\"}";

@@ -10,6 +10,8 @@ mod lock_replies;
 #[cfg(test)]
 mod many_clients;
 #[cfg(test)]
+mod one_list;
+#[cfg(test)]
 mod read_back;
 #[cfg(test)]
 mod readers;

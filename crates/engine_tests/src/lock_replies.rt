@@ -1,5 +1,5 @@
 //! The worked rows through an engine: each reply, byte for byte, and what is left when it closes.
-ghost use Rattle.std.specs.Prelude.{◌≡◌};
+ghost use Rattle.std.specs.Prelude.{◌≡◌, false};
 
 use crate::rows;
 use crate::rows::{Row, Step};
@@ -34,27 +34,47 @@ fn is_replied<L: EngineName, R: Wait>(
 }
 
 /// The watch of a number is told this text.
-fn is_text<L: EngineName, R: Wait>(rt: &R, engine: &Engine<L>, number: u64, text: &str) -> bool {
-    match &engine.deliver(rt, number) {
+fn is_text<L: EngineName, R: Wait>(
+    rt: &R,
+    engine: &Engine<L>,
+    client: &mut Client<L>,
+    number: u64,
+    text: &str,
+) -> bool {
+    match &engine.deliver(rt, client, number) {
         Ok(Message::Text(told)) => told.as_slice() == text.as_bytes(),
         _ => false,
     }
 }
 
 /// The watch of a number is told nothing.
-fn is_quiet<L: EngineName, R: Wait>(rt: &R, engine: &Engine<L>, number: u64) -> bool {
-    matches!(&engine.deliver(rt, number), Ok(Message::Nothing))
+fn is_quiet<L: EngineName, R: Wait>(
+    rt: &R,
+    engine: &Engine<L>,
+    client: &mut Client<L>,
+    number: u64,
+) -> bool {
+    matches!(&engine.deliver(rt, client, number), Ok(Message::Nothing))
 }
 
 /// There is no watch of a number.
-fn is_gone<L: EngineName, R: Wait>(rt: &R, engine: &Engine<L>, number: u64) -> bool {
-    matches!(&engine.deliver(rt, number), Ok(Message::NoWatch))
+fn is_gone<L: EngineName, R: Wait>(
+    rt: &R,
+    engine: &Engine<L>,
+    client: &mut Client<L>,
+    number: u64,
+) -> bool {
+    matches!(&engine.deliver(rt, client, number), Ok(Message::NoWatch))
 }
 
 /// What a trimming step says: `r` and a main revision where it takes one out, `k` where it leaves
 /// it, `d` and the number of versions.
-fn trimmed<L: EngineName, R: Wait>(rt: &R, engine: &Engine<L>) -> (char, u64) {
-    match engine.trim_once(rt) {
+fn trimmed<L: EngineName, R: Wait>(
+    rt: &R,
+    engine: &Engine<L>,
+    client: &mut Client<L>,
+) -> (char, u64) {
+    match engine.trim_once(rt, client) {
         Ok(Trim::Removed(rev)) => ('r', rev.main),
         Ok(Trim::Kept(rev)) => ('k', rev.main),
         Ok(Trim::Done(count)) => ('d', count),
@@ -82,12 +102,12 @@ fn is_answered<L: EngineName, R: Wait>(
                 (*status, reply),
             )
         }
-        Step::Tell(number, text) => is_text(rt, engine, *number, text),
-        Step::Quiet(number) => is_quiet(rt, engine, *number),
-        Step::NoWatch(number) => is_gone(rt, engine, *number),
-        Step::Removed(main) => trimmed(rt, engine) == ('r', *main),
-        Step::Kept(main) => trimmed(rt, engine) == ('k', *main),
-        Step::Done(count) => trimmed(rt, engine) == ('d', *count),
+        Step::Tell(number, text) => is_text(rt, engine, client, *number, text),
+        Step::Quiet(number) => is_quiet(rt, engine, client, *number),
+        Step::NoWatch(number) => is_gone(rt, engine, client, *number),
+        Step::Removed(main) => trimmed(rt, engine, client) == ('r', *main),
+        Step::Kept(main) => trimmed(rt, engine, client) == ('k', *main),
+        Step::Done(count) => trimmed(rt, engine, client) == ('d', *count),
         Step::NothingDue(now) => { engine.expire_once(rt, client, *now) == Ok(Expiry::Nothing) }
         Step::Expired(now, id, revision) => {
             engine.expire_once(rt, client, *now)
@@ -164,9 +184,11 @@ fn run<L: EngineName, R: Wait>(
 ) -> (Option<usize>, Option<u64>)
     requires name { opening.name ≡ L.Ledger.name }
     requires parts { opening.parts ≡ L.Ledger.parts }
-    requires book { opening.book ≡ L.book }
+    requires book { opening.book ≡ L.ListName.book }
+    requires recorded { L.recorded ≡ false }
+    requires ids { L.ListName.ids ≡ record { cluster = 1; member = 1 } }
 {
-    let engine = Engine::<L>::new(alloc, opening, ONES);
+    let mut engine = Engine::<L>::new(alloc, opening, ONES);
     match engine.client(rt) {
         Ok(client) => by_one(rt, alloc, engine, client, steps),
         Err(_) => (None, None),

@@ -1,10 +1,10 @@
 //! Eight clients of one engine, each in a thread of its own, beside a thread of trimming steps: when
 //! all have ended, what is kept is certified, and the shares add up.
-ghost use Rattle.std.specs.Prelude.{◌≡◌};
+ghost use Rattle.std.specs.Prelude.{◌≡◌, false};
 
 use crate::lock_replies::ONES;
 use crate::texts::{DELETE, GRANT, PUT, PUT_A_1, PUT_B_1, RANGE};
-use engine_lock::{Client, Engine, EngineName, Opening};
+use engine_lock::{Client, CloseFault, Engine, EngineName, Opening};
 use json_gateway::{Trim, read};
 use kv_model::call::Command;
 use request_core::store::Core;
@@ -69,13 +69,30 @@ fn give_all<L: EngineName, R: Wait>(
     client
 }
 
+/// Makes trimming steps until the others have ended, and hands the client back.
+fn trim_on<L: EngineName, R: Wait>(
+    rt: &R,
+    engine: &Engine<L>,
+    client: Client<L>,
+    ended: &AtomicBool,
+) -> Client<L> {
+    let mut client = client;
+    trim_until(rt, engine, &mut client, ended);
+    client
+}
+
 /// Makes trimming steps until the others have ended.
-fn trim_on<L: EngineName, R: Wait>(rt: &R, engine: &Engine<L>, ended: &AtomicBool) {
+fn trim_until<L: EngineName, R: Wait>(
+    rt: &R,
+    engine: &Engine<L>,
+    client: &mut Client<L>,
+    ended: &AtomicBool,
+) {
     for _ in rt.forever() {
         if ended.load(Ordering::SeqCst) {
             break;
         }
-        let _ = engine.trim_once(rt);
+        let _ = engine.trim_once(rt, client);
     }
 }
 
@@ -102,13 +119,14 @@ fn start_trimming<'s, E, L, R>(
     scope: &Scope<'s, E>,
     rt: &'s R,
     engine: &'s Engine<L>,
+    client: Client<L>,
     ended: &'s AtomicBool,
-) -> Option<JoinHandle<()>>
+) -> Option<JoinHandle<Client<L>>>
 where
     L: EngineName + Send + Sync + 's,
     R: Wait + Sync + 's,
 {
-    match scope.spawn(move || trim_on(rt, engine, ended)) {
+    match scope.spawn(move || trim_on(rt, engine, client, ended)) {
         Ok(handle) => Some(handle),
         Err(_) => None,
     }
@@ -120,20 +138,35 @@ fn start_clients<'s, E, L, R>(
     rt: &'s R,
     alloc: Global,
     engine: &'s Engine<L>,
+    clients: Vec<Client<L>>,
 ) -> Vec<JoinHandle<Client<L>>>
 where
     L: EngineName + Send + Sync + 's,
     R: Wait + Sync + 's,
 {
     let mut handles = Vec::new(alloc);
-    for _ in 0..CLIENTS {
-        if let Ok(client) = engine.client(rt) {
-            if let Some(handle) = start_client(scope, rt, alloc, engine, client) {
-                let _ = handles.push(handle);
-            }
+    for client in clients {
+        if let Some(handle) = start_client(scope, rt, alloc, engine, client) {
+            let _ = handles.push(handle);
         }
     }
     handles
+}
+
+/// So many clients of an engine.
+pub(super) fn made_clients<L: EngineName, R: Wait>(
+    rt: &R,
+    alloc: Global,
+    engine: &mut Engine<L>,
+    count: usize,
+) -> Vec<Client<L>> {
+    let mut clients = Vec::new(alloc);
+    for _ in 0..count {
+        if let Ok(client) = engine.client(rt) {
+            let _ = clients.push(client);
+        }
+    }
+    clients
 }
 
 /// What all of some threads hand back.
@@ -149,23 +182,35 @@ pub(super) fn joined<T: Drop + Send, R: Threads>(
     all
 }
 
+/// The clients that the threads are given, and what they hand back: those that give commands, and the
+/// one that trims.
+#[derive(Drop)]
+struct Handed<L: EngineName> {
+    clients: Vec<Client<L>>,
+    trimmer: Client<L>,
+}
+
 /// Starts all threads, and joins them.
 fn run_all<'s, E, L, R>(
     scope: &Scope<'s, E>,
     rt: &'s R,
     alloc: Global,
     engine: &'s Engine<L>,
+    handed: Handed<L>,
     ended: &'s AtomicBool,
-) -> Option<Vec<Client<L>>>
+) -> Option<Handed<L>>
 where
     L: EngineName + Send + Sync + 's,
     R: Wait + Threads + Sync + 's,
 {
-    let trimming = start_trimming(scope, rt, engine, ended)?;
-    let clients = joined(rt, alloc, start_clients(scope, rt, alloc, engine));
+    let Handed { clients, trimmer } = handed;
+    let trimming = start_trimming(scope, rt, engine, trimmer, ended)?;
+    let clients = joined(rt, alloc, start_clients(scope, rt, alloc, engine, clients));
     ended.store(true, Ordering::SeqCst);
-    trimming.join(rt);
-    Some(clients)
+    Some(Handed {
+        clients,
+        trimmer: trimming.join(rt),
+    })
 }
 
 /// Makes trimming steps until one is done, and tells of how many versions.
@@ -200,26 +245,72 @@ pub(super) fn sum_of<L: EngineName>(clients: &[Client<L>]) -> u64 {
     sum
 }
 
-/// Whether what the engine's core keeps is certified where trimming is done, by how much its
-/// revision is above the sum of the shares, and whether that sum is that of many commands.
+/// What is seen once all threads have ended.
+#[derive(Debug, Drop, PartialEq, Eq)]
+struct Ended {
+    /// How many clients there were beside the one that trimmed, without which the engine did not close.
+    without: usize,
+    /// The share of the one that trimmed.
+    trimmed: u64,
+    /// What the core keeps is certified where trimming is done.
+    is_least: bool,
+    /// By how much its revision is above the sum of the shares.
+    above: u64,
+    /// That sum is that of many commands.
+    is_many: bool,
+}
+
+/// Closes the engine without the client that trimmed, which it refuses, and then with it.
 fn judged<L: EngineName, R: Wait>(
     rt: &R,
     alloc: Global,
     engine: Engine<L>,
-    clients: Vec<Client<L>>,
-) -> Option<(bool, u64, bool)> {
+    handed: Handed<L>,
+) -> Option<Ended> {
+    let Handed { clients, trimmer } = handed;
+    match engine.close(rt, clients) {
+        Ok(_) => None,
+        Err(fault) => judged_with(rt, alloc, fault, trimmer),
+    }
+}
+
+/// Closes an engine that was not closed, with the client that trimmed, too.
+fn judged_with<L: EngineName, R: Wait>(
+    rt: &R,
+    alloc: Global,
+    fault: CloseFault<L>,
+    trimmer: Client<L>,
+) -> Option<Ended> {
+    let CloseFault { engine, clients } = fault;
+    let mut clients = clients;
+    let without = clients.len();
+    let trimmed = trimmer.share();
+    let _ = clients.push(trimmer);
     let sum = sum_of(clients.as_slice());
     match engine.close(rt, clients) {
         Ok(core) => {
-            let mut core = core;
-            let count = trim_all(&mut core);
-            let is_least = count.is_some_and(|count| is_certified(alloc, &core, count));
-            let above = core.status().revision.saturating_sub(sum);
-            drop(core);
-            Some((is_least, above, sum >= 1000))
+            let (is_least, above) = least_above(alloc, core, sum);
+            Some(Ended {
+                without,
+                trimmed,
+                is_least,
+                above,
+                is_many: sum >= 1000,
+            })
         }
         Err(_) => None,
     }
+}
+
+/// Whether what a core keeps is certified where trimming is done, and by how much its revision is
+/// above a sum.
+fn least_above(alloc: Global, core: Core, sum: u64) -> (bool, u64) {
+    let mut core = core;
+    let count = trim_all(&mut core);
+    let is_least = count.is_some_and(|count| is_certified(alloc, &core, count));
+    let above = core.status().revision.saturating_sub(sum);
+    drop(core);
+    (is_least, above)
 }
 
 /// Runs all threads on an engine.
@@ -227,38 +318,66 @@ fn served<L, R>(
     rt: &R,
     alloc: Global,
     engine: &Engine<L>,
+    handed: Handed<L>,
     ended: &AtomicBool,
-) -> Option<Vec<Client<L>>>
+) -> Option<Handed<L>>
 where
     L: EngineName + Send + Sync,
     R: Wait + Threads + Sync,
 {
     thread::scope(thread::scope_env(), rt, move |scope| {
-        run_all(scope, rt, alloc, engine, ended)
+        run_all(scope, rt, alloc, engine, handed, ended)
     })
+}
+
+/// The clients of all threads.
+fn make_handed<L: EngineName, R: Wait>(
+    rt: &R,
+    alloc: Global,
+    engine: &mut Engine<L>,
+) -> Option<Handed<L>> {
+    match engine.client(rt) {
+        Ok(trimmer) => Some(Handed {
+            clients: made_clients(rt, alloc, engine, CLIENTS),
+            trimmer,
+        }),
+        Err(_) => None,
+    }
 }
 
 fn run<L: EngineName + Send + Sync, R: Wait + Threads + Sync>(
     rt: &R,
     alloc: Global,
     opening: Opening,
-) -> Option<(bool, u64, bool)>
+) -> Option<Ended>
     requires name { opening.name ≡ L.Ledger.name }
     requires parts { opening.parts ≡ L.Ledger.parts }
-    requires book { opening.book ≡ L.book }
+    requires book { opening.book ≡ L.ListName.book }
+    requires recorded { L.recorded ≡ false }
+    requires ids { L.ListName.ids ≡ record { cluster = 1; member = 1 } }
 {
-    let engine = Engine::<L>::new(alloc, opening, ONES);
+    let mut engine = Engine::<L>::new(alloc, opening, ONES);
     let ended = AtomicBool::new(false);
-    let clients = served(rt, alloc, &engine, &ended);
-    judged(rt, alloc, engine, clients?)
+    let handed = make_handed(rt, alloc, &mut engine);
+    let back = served(rt, alloc, &engine, handed?, &ended);
+    judged(rt, alloc, engine, back?)
 }
 
-fn run_many<R: Wait + Threads + Sync>(rt: &R, alloc: Global) -> Option<(bool, u64, bool)> {
+fn run_many<R: Wait + Threads + Sync>(rt: &R, alloc: Global) -> Option<Ended> {
     let opening = Opening::new(alloc, rt).ok()?;
     run::<Brand, R>(rt, alloc, opening)
 }
 
 #[test]
 fn many_clients_beside_trimming(rt: HostRuntime) {
-    assert_eq!(rt; run_many(&rt, rt.alloc()), Some((true, 1, true)));
+    assert_eq!(rt;
+        run_many(&rt, rt.alloc()),
+        Some(Ended {
+            without: CLIENTS,
+            trimmed: 0,
+            is_least: true,
+            above: 1,
+            is_many: true,
+        })
+    );
 }

@@ -1,5 +1,5 @@
 //! What a client reads beside the engine: its own changes, and what others made before it was told.
-ghost use Rattle.std.specs.Prelude.{◌≡◌};
+ghost use Rattle.std.specs.Prelude.{◌≡◌, false};
 
 use crate::lock_replies::ONES;
 use crate::texts::{COMPACT, PUT, PUT_A_1, PUT_A_2, PUT_B_1, RANGE};
@@ -124,7 +124,7 @@ fn first_otherwise<L: EngineName, R: Wait>(
 fn beside<L: EngineName, R: Wait>(
     rt: &R,
     alloc: Global,
-    engine: &Engine<L>,
+    engine: &mut Engine<L>,
     a: &mut Client<L>,
 ) -> Option<usize> {
     match engine.client(rt) {
@@ -134,7 +134,7 @@ fn beside<L: EngineName, R: Wait>(
 }
 
 /// The first step that goes otherwise, of two clients of an engine.
-fn by_two<L: EngineName, R: Wait>(rt: &R, alloc: Global, engine: &Engine<L>) -> Option<usize> {
+fn by_two<L: EngineName, R: Wait>(rt: &R, alloc: Global, engine: &mut Engine<L>) -> Option<usize> {
     match engine.client(rt) {
         Ok(mut a) => beside(rt, alloc, engine, &mut a),
         Err(_) => None,
@@ -145,10 +145,12 @@ fn by_two<L: EngineName, R: Wait>(rt: &R, alloc: Global, engine: &Engine<L>) -> 
 fn run<L: EngineName, R: Wait>(rt: &R, alloc: Global, opening: Opening) -> Option<usize>
     requires name { opening.name ≡ L.Ledger.name }
     requires parts { opening.parts ≡ L.Ledger.parts }
-    requires book { opening.book ≡ L.book }
+    requires book { opening.book ≡ L.ListName.book }
+    requires recorded { L.recorded ≡ false }
+    requires ids { L.ListName.ids ≡ record { cluster = 1; member = 1 } }
 {
-    let engine = Engine::<L>::new(alloc, opening, ONES);
-    by_two(rt, alloc, &engine)
+    let mut engine = Engine::<L>::new(alloc, opening, ONES);
+    by_two(rt, alloc, &mut engine)
 }
 
 fn run_read_back<R: Wait>(rt: &R, alloc: Global) -> Option<usize> {

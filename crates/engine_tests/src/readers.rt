@@ -1,9 +1,9 @@
 //! Writers, readers beside them, and a thread that trims and compacts, on one engine: no reader goes
 //! back, each of its replies is that of the history at its revision, and the shares add up.
-ghost use Rattle.std.specs.Prelude.{◌≡◌};
+ghost use Rattle.std.specs.Prelude.{◌≡◌, false};
 
 use crate::lock_replies::ONES;
-use crate::many_clients::{joined, sum_of};
+use crate::many_clients::{joined, made_clients, sum_of};
 use crate::texts::{PUT, RANGE};
 use engine_lock::{Client, Engine, EngineName, Opening};
 use json_gateway::read;
@@ -20,7 +20,7 @@ use std::thread::{JoinHandle, Scope, Threads};
 const CALLS: u64 = 2000;
 
 /// How many readers there are.
-const READERS: u64 = 8;
+const READERS: usize = 8;
 
 /// How many writers there are, each with a key of its own.
 const WRITERS: usize = 4;
@@ -161,7 +161,7 @@ fn trim_until<L: EngineName, R: Wait>(
             break;
         }
         for _ in 0..STEPS {
-            let _ = engine.trim_once(rt);
+            let _ = engine.trim_once(rt, client);
         }
         let compact = Command::Compact {
             revision,
@@ -269,47 +269,68 @@ fn start_writers<'s, E, L, R>(
     rt: &'s R,
     alloc: Global,
     engine: &'s Engine<L>,
+    clients: Vec<Client<L>>,
 ) -> Vec<JoinHandle<Wrote<L>>>
 where
     L: EngineName + Send + Sync + 's,
     R: Wait + Sync + 's,
 {
     let mut handles = Vec::new(alloc);
-    for writer in 0..WRITERS {
-        if let Ok(client) = engine.client(rt) {
-            let wrote = Wrote {
-                client,
-                writer,
-                revisions: Vec::new(alloc),
-            };
-            if let Some(handle) = start_writer(scope, rt, alloc, engine, wrote) {
-                let _ = handles.push(handle);
-            }
+    let mut writer = 0usize;
+    for client in clients {
+        let wrote = Wrote {
+            client,
+            writer,
+            revisions: Vec::new(alloc),
+        };
+        if let Some(handle) = start_writer(scope, rt, alloc, engine, wrote) {
+            let _ = handles.push(handle);
         }
+        writer = writer.saturating_add(1);
     }
     handles
 }
 
 /// Starts the readers.
-fn start_readers<'s, E, L, R>(
+fn start_readers<'s, E, L>(
     scope: &Scope<'s, E>,
-    rt: &'s R,
     alloc: Global,
-    engine: &'s Engine<L>,
+    clients: Vec<Client<L>>,
 ) -> Vec<JoinHandle<Saw<L>>>
 where
     L: EngineName + Send + Sync + 's,
-    R: Wait + Sync + 's,
 {
     let mut handles = Vec::new(alloc);
-    for _ in 0..READERS {
-        if let Ok(client) = engine.client(rt) {
-            if let Some(handle) = start_reader(scope, alloc, client) {
-                let _ = handles.push(handle);
-            }
+    for client in clients {
+        if let Some(handle) = start_reader(scope, alloc, client) {
+            let _ = handles.push(handle);
         }
     }
     handles
+}
+
+/// The clients that the threads are given.
+#[derive(Drop)]
+struct Given<L: EngineName> {
+    trimmer: Client<L>,
+    writers: Vec<Client<L>>,
+    readers: Vec<Client<L>>,
+}
+
+/// Makes the clients of all threads.
+fn make_given<L: EngineName, R: Wait>(
+    rt: &R,
+    alloc: Global,
+    engine: &mut Engine<L>,
+) -> Option<Given<L>> {
+    match engine.client(rt) {
+        Ok(trimmer) => Some(Given {
+            trimmer,
+            writers: made_clients(rt, alloc, engine, WRITERS),
+            readers: made_clients(rt, alloc, engine, READERS),
+        }),
+        Err(_) => None,
+    }
 }
 
 /// Starts all threads, and joins them.
@@ -318,15 +339,21 @@ fn run_all<'s, E, L, R>(
     rt: &'s R,
     alloc: Global,
     engine: &'s Engine<L>,
+    given: Given<L>,
     ended: &'s AtomicBool,
 ) -> Option<All<L>>
 where
     L: EngineName + Send + Sync + 's,
     R: Wait + Threads + Sync + 's,
 {
-    let trimmer = start_trimmer(scope, rt, engine, engine.client(rt).ok()?, ended)?;
-    let writing = start_writers(scope, rt, alloc, engine);
-    let reading = start_readers(scope, rt, alloc, engine);
+    let Given {
+        trimmer,
+        writers,
+        readers,
+    } = given;
+    let trimmer = start_trimmer(scope, rt, engine, trimmer, ended)?;
+    let writing = start_writers(scope, rt, alloc, engine, writers);
+    let reading = start_readers(scope, alloc, readers);
     let writers = joined(rt, alloc, writing);
     let readers = joined(rt, alloc, reading);
     ended.store(true, Ordering::SeqCst);
@@ -385,13 +412,19 @@ fn judged<L: EngineName, R: Wait>(
 }
 
 /// Runs all threads on an engine.
-fn served<L, R>(rt: &R, alloc: Global, engine: &Engine<L>, ended: &AtomicBool) -> Option<All<L>>
+fn served<L, R>(
+    rt: &R,
+    alloc: Global,
+    engine: &Engine<L>,
+    given: Given<L>,
+    ended: &AtomicBool,
+) -> Option<All<L>>
 where
     L: EngineName + Send + Sync,
     R: Wait + Threads + Sync,
 {
     thread::scope(thread::scope_env(), rt, move |scope| {
-        run_all(scope, rt, alloc, engine, ended)
+        run_all(scope, rt, alloc, engine, given, ended)
     })
 }
 
@@ -402,11 +435,14 @@ fn run<L: EngineName + Send + Sync, R: Wait + Threads + Sync>(
 ) -> Option<(usize, u64, u64, u64)>
     requires name { opening.name ≡ L.Ledger.name }
     requires parts { opening.parts ≡ L.Ledger.parts }
-    requires book { opening.book ≡ L.book }
+    requires book { opening.book ≡ L.ListName.book }
+    requires recorded { L.recorded ≡ false }
+    requires ids { L.ListName.ids ≡ record { cluster = 1; member = 1 } }
 {
-    let engine = Engine::<L>::new(alloc, opening, ONES);
+    let mut engine = Engine::<L>::new(alloc, opening, ONES);
     let ended = AtomicBool::new(false);
-    let all = served(rt, alloc, &engine, &ended);
+    let given = make_given(rt, alloc, &mut engine);
+    let all = served(rt, alloc, &engine, given?, &ended);
     judged(rt, alloc, engine, all?)
 }
 

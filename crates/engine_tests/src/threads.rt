@@ -1,5 +1,5 @@
 //! Two threads, each with a client of its own, share one engine.
-ghost use Rattle.std.specs.Prelude.{◌≡◌};
+ghost use Rattle.std.specs.Prelude.{◌≡◌, false};
 
 use crate::lock_replies::ONES;
 use crate::texts::{PUT, PUT_A_1, RANGE};
@@ -55,14 +55,24 @@ fn both<L: EngineName + Send + Sync, R: Threads + Wait + Sync>(
     rt: &R,
     alloc: Global,
     engine: &Engine<L>,
-) -> Option<(Client<L>, Client<L>)> {
-    let first = engine.client(rt).ok()?;
-    let second = engine.client(rt).ok()?;
-    Some(thread::join(
+    clients: (Client<L>, Client<L>),
+) -> (Client<L>, Client<L>) {
+    let (first, second) = clients;
+    thread::join(
         rt,
         move || put_often(rt, alloc, engine, first, 10),
         move || put_often(rt, alloc, engine, second, 12),
-    ))
+    )
+}
+
+/// Two clients of an engine.
+fn made_two<L: EngineName, R: Wait>(
+    rt: &R,
+    engine: &mut Engine<L>,
+) -> Option<(Client<L>, Client<L>)> {
+    let first = engine.client(rt).ok()?;
+    let second = engine.client(rt).ok()?;
+    Some((first, second))
 }
 
 /// The shares of an engine's two clients, and the revision of the core that closes with both.
@@ -92,11 +102,16 @@ fn shared<L: EngineName + Send + Sync, R: Threads + Wait + Sync>(
 ) -> Option<(u64, u64, u64)>
     requires name { opening.name ≡ L.Ledger.name }
     requires parts { opening.parts ≡ L.Ledger.parts }
-    requires book { opening.book ≡ L.book }
+    requires book { opening.book ≡ L.ListName.book }
+    requires recorded { L.recorded ≡ false }
+    requires ids { L.ListName.ids ≡ record { cluster = 1; member = 1 } }
 {
-    let engine = Engine::<L>::new(alloc, opening, ONES);
-    match both(rt, alloc, &engine) {
-        Some(clients) => closed(rt, alloc, engine, clients),
+    let mut engine = Engine::<L>::new(alloc, opening, ONES);
+    match made_two(rt, &mut engine) {
+        Some(clients) => {
+            let clients = both(rt, alloc, &engine, clients);
+            closed(rt, alloc, engine, clients)
+        }
         None => None,
     }
 }

@@ -1,9 +1,9 @@
 //! What an engine writes down of its events.
-ghost use Rattle.std.specs.Prelude.{◌≡◌};
+ghost use Rattle.std.specs.Prelude.{◌≡◌, false, true};
 
 use crate::lock_replies::ONES;
 use crate::texts::{GRANT, PUT, WATCH};
-use engine_lock::{Asked, Client, Engine, EngineName, Opening};
+use engine_lock::{Asked, Client, Engine, EngineName, Opening, locked};
 use json_gateway::read;
 use std::alloc::Global;
 use std::marker::Brand;
@@ -66,16 +66,16 @@ fn request_all<L: EngineName, R: Wait>(
 }
 
 fn make_events<L: EngineName, R: Wait>(rt: &R, engine: &Engine<L>, client: &mut Client<L>) {
-    drop(engine.deliver_for(rt, client, 1));
-    drop(engine.deliver(rt, 1));
+    drop(engine.deliver(rt, client, 1));
+    drop(engine.deliver(rt, client, 1));
     drop(engine.expire_once(rt, client, 1500));
     drop(engine.expire_once(rt, client, 2000));
     drop(engine.expire_once(rt, client, 2000));
-    drop(engine.trim_checked(rt));
-    drop(engine.trim_once(rt));
-    let _ended = engine.drop_watch_for(rt, client, 1);
-    let _ended_again = engine.drop_watch(rt, 1);
-    let _clock = engine.moment(rt, 3000);
+    drop(engine.trim_checked(rt, client));
+    drop(engine.trim_once(rt, client));
+    let _ended = engine.drop_watch(rt, client, 1);
+    let _ended_again = engine.drop_watch(rt, client, 1);
+    let _clock = engine.moment(rt, client, 3000);
 }
 
 /// A command for which there is no request.
@@ -90,6 +90,12 @@ fn unasked<L: EngineName, R: Wait>(
     }
 }
 
+/// Takes the lines of an engine that were not taken yet, and says whether none is missing.
+fn take<L: EngineName, R: Wait>(rt: &R, engine: &Engine<L>, text: &mut Vec<u8>) -> bool {
+    let mut taken = locked(rt, engine.taken());
+    engine.take_lines(rt, &mut *taken, text)
+}
+
 /// The lines that are taken behind the requests, behind the other events, and behind a command for
 /// which there is no request and one for which there is; each with whether they are all.
 fn lines<L: EngineName, R: Wait>(
@@ -99,18 +105,20 @@ fn lines<L: EngineName, R: Wait>(
 ) -> Option<(Taken, Taken, Taken)>
     requires name { opening.name ≡ L.Ledger.name }
     requires parts { opening.parts ≡ L.Ledger.parts }
-    requires book { opening.book ≡ L.book }
+    requires book { opening.book ≡ L.ListName.book }
+    requires recorded { L.recorded ≡ true }
+    requires ids { L.ListName.ids ≡ record { cluster = 1; member = 1 } }
 {
-    let engine = Engine::<L>::recorded(alloc, opening, ONES);
+    let mut engine = Engine::<L>::recorded(alloc, opening, ONES);
     let mut client = engine.client(rt).ok()?;
     let (mut asked, mut done, mut last) = (Vec::new(alloc), Vec::new(alloc), Vec::new(alloc));
     request_all(rt, alloc, &engine, &mut client);
-    let is_all = engine.take_lines(rt, &mut asked);
+    let is_all = take(rt, &engine, &mut asked);
     make_events(rt, &engine, &mut client);
-    let is_all_done = engine.take_lines(rt, &mut done);
+    let is_all_done = take(rt, &engine, &mut done);
     unasked(rt, alloc, &engine, &mut client);
     request_all(rt, alloc, &engine, &mut client);
-    let is_all_last = engine.take_lines(rt, &mut last);
+    let is_all_last = take(rt, &engine, &mut last);
     Some(((asked, is_all), (done, is_all_done), (last, is_all_last)))
 }
 
@@ -135,13 +143,15 @@ fn the_lines_of_an_engine_are_a_script(rt: HostRuntime) {
 fn unrecorded<L: EngineName, R: Wait>(rt: &R, alloc: Global, opening: Opening) -> Option<Taken>
     requires name { opening.name ≡ L.Ledger.name }
     requires parts { opening.parts ≡ L.Ledger.parts }
-    requires book { opening.book ≡ L.book }
+    requires book { opening.book ≡ L.ListName.book }
+    requires recorded { L.recorded ≡ false }
+    requires ids { L.ListName.ids ≡ record { cluster = 1; member = 1 } }
 {
-    let engine = Engine::<L>::new(alloc, opening, ONES);
+    let mut engine = Engine::<L>::new(alloc, opening, ONES);
     let mut client = engine.client(rt).ok()?;
     let mut text = Vec::new(alloc);
     request_all(rt, alloc, &engine, &mut client);
-    let is_all = engine.take_lines(rt, &mut text);
+    let is_all = take(rt, &engine, &mut text);
     Some((text, is_all))
 }
 

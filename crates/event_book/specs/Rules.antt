@@ -1,5 +1,6 @@
--- The rule of the book, and what its step tells.
-use Rattle.std.specs.Prelude.{ℕ, ◌≡◌, ◌==◌, true, List, [], ◌∷◌, ◌++◌, length, MatchBool, ⊤}
+-- The rule of the book, what its step tells, and beginnings of its list.
+use Rattle.std.specs.Prelude.{ℕ, ◌≡◌, ◌<◌, ◌==◌, true, List, [], ◌∷◌, ◌++◌, length, MatchBool, ⊤}
+use mathlib.Core.List.{IsPrefix}
 use Rattle.logbook.specs.Pages.{Cell, Step, View, Book, Named}
 use Rattle.event_book.specs.Events.{Entry}
 
@@ -18,3 +19,7 @@ AddsEntry s v found w = MatchBool (found == s.old) ((w.0 ≡ v.0 ++ s.ask ∷ []
 pub record Beginning : Type 0 where
   pub book : Book
   pub list : List Entry
+
+-- the first list begins the second, which has more
+abbrev pub IsShorter : List Entry → List Entry → Type 0
+IsShorter xs ys = IsPrefix xs ys × (length xs < length ys)

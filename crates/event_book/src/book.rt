@@ -1,6 +1,7 @@
 //! The list's word, and beginnings of the list.
 ghost use Rattle.std.specs.Prelude.{◌≡◌, ◌++◌, ◌∷◌, ◌⊎◌, [], None, true, false};
 ghost use mathlib.Core.List.{IsPrefix};
+ghost use Rattle.event_book.specs.Rules.{IsShorter};
 
 use logbook::{Gain, Offer, Plain, Play, Rule, Seen, Start, Word};
 use std::marker::Model;
@@ -139,10 +140,11 @@ impl Front {
     }
 
     /// Whether another front of the same list begins this one: one comparison of two numbers. Where
-    /// it does not, it is longer. Takes no memory.
+    /// it does not, it is longer, and this one begins it. Takes no memory.
     pub fn begins_with(&self, other: &Front) -> bool
         requires { other.now.book ≡ self.now.book }
-        ensures { result ≡ true → IsPrefix other.now.list self.now.list }
+        ensures begins { result ≡ true → IsPrefix other.now.list self.now.list }
+        ensures shorter { result ≡ false → IsShorter self.now.list other.now.list }
     {
         let mut both = self.seen.again();
         both.learn(&other.seen);

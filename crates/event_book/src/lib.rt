@@ -43,7 +43,7 @@ mod roster;
 
 pub use book::{Book, Front, Noted, open};
 pub use holder::Holder;
-pub use listing::Listing;
+pub use listing::{Listing, sure};
 pub use naming::{ListName, Opening};
 pub use returned::Returned;
 pub use roster::Roster;

@@ -76,6 +76,15 @@ impl<L: ListName> Listing<L> {
         let _ = &self.front;
     }
 
+    /// The whole list, as one who has seen it. Takes no memory, and copies a number.
+    pub fn front(&self) -> Front
+        ensures list { result.list ≡ self.now }
+        ensures book { result.book ≡ L.book }
+        ensures history { IsHistory L.ids result.list }
+    {
+        self.front.again()
+    }
+
     /// Enters an event that this holder made, with its outcome: it is the last of the list, and the
     /// holder has seen the list up to it. The outcome has to be the model's in the world that the
     /// list leads to. Takes no memory, constant time.
@@ -174,8 +183,8 @@ fn no_counts() -> [u64; MOST_HOLDERS]
     [0; MOST_HOLDERS]
 }
 
-/// Returns where it is so.
-pub(crate) fn sure<R: Wait>(rt: &R, is_so: bool)
+/// Returns where it is so, and else waits for ever: for what always is so, but no clause tells.
+pub fn sure<R: Wait>(rt: &R, is_so: bool)
     ensures { is_so ≡ true }
 {
     for _ in rt.forever() {

@@ -1,5 +1,5 @@
 //! Which list it is, and what it is opened with.
-ghost use Rattle.std.specs.Prelude.{◌≡◌};
+ghost use Rattle.std.specs.Prelude.{◌≡◌, []};
 ghost use Rattle.kv_model.specs.declared.ids.Ids.{Ids};
 ghost use Rattle.logbook.specs.Pages.{Book as BookOf};
 
@@ -61,5 +61,13 @@ impl Opening {
             list,
             front,
         }
+    }
+
+    /// The front that has seen nothing. Takes no memory, and copies a number.
+    pub fn front(&self) -> Front
+        ensures book { result.book ≡ self.now.book }
+        ensures list { result.list ≡ [] }
+    {
+        self.front.again()
     }
 }

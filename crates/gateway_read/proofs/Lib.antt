@@ -1,3 +1,4 @@
+pub mod Bodies
 pub mod Each
 pub mod Enums
 pub mod Integers
@@ -8,4 +9,5 @@ pub mod Signs
 pub mod Spellings
 pub mod Steps
 pub mod Transactions
+pub mod Values
 pub mod Watches

@@ -1,16 +1,7 @@
 -- The model's readings, part by part.
-use Rattle.std.proofs.Common.{◌≡◌, ℕ, ℤ, List, [], ◌∷◌, map, Bool, true, false, cond, Option, None, Some, is_some, Result, Ok, Err, IfOk, IfErr, refl, sym, ap, ◌∙◌}
-use Rattle.std.proofs.Common.{inl, inr}
+use Rattle.std.proofs.Common.{◌≡◌, ℕ, ℤ, List, [], ◌∷◌, map, Bool, true, false, cond, Option, None, Some, is_some, Ok, Err, refl, sym, ap, ◌∙◌}
 use Rattle.std.specs.Prelude.{codes, option_map}
-use Rattle.std.specs.Str.{IsUtf8, is_utf8}
-use Rattle.std.proofs.lemmas.Str.{is_utf8-from_IsUtf8, IsUtf8-from_is_utf8}
-use Rattle.std.proofs.lemmas.Bool.{false_from_ne_true}
-use Rattle.serde_json.specs.Read.{read}
 use Rattle.serde_json.specs.Data.{Members}
-use Rattle.serde_json.specs.declared.error.Error.{Error}
-use Rattle.serde_json.specs.declared.value.Value.{Value}
-use Rattle.serde_json.specs.Errors.{IsMemory}
-use Rattle.serde_json.specs.View.{view}
 use Rattle.kv_model.specs.declared.call.RangeQuery.{RangeQuery}
 use Rattle.kv_model.specs.declared.call.SortOrder.{SortOrder}
 use Rattle.kv_model.specs.declared.call.SortOrder.TheVariants.{Unsorted}
@@ -27,8 +18,6 @@ use Rattle.gateway_read.specs.declared.requests.Flags.{Flags}
 use Rattle.gateway_read.specs.declared.requests.Bounds.{Bounds}
 use Rattle.gateway_read.specs.Options.{flags_of, bounds_of, with_options}
 use Rattle.gateway_read.specs.Parts.{completed, call_read}
-use Rattle.gateway_read.specs.declared.bad.Bad.{Bad}
-use Rattle.gateway_read.specs.Reading.{Gives, IsParsed}
 
 -- a query of the first six fields, before the others are read
 abbrev pub begun : List ℕ → List ℕ → ℤ → ℤ → SortOrder → SortTarget → RangeQuery
@@ -69,20 +58,6 @@ range_query-completed ms {key} {end} {limit} {revision} {order} {target} k e l r
     apart (Ok a) (Ok b) (Ok c) (Ok d) (Ok e) (Err x) g = refl
     apart (Ok a) (Ok b) (Ok c) (Ok d) (Ok e) (Ok f) (Err x) = refl
     apart (Ok a) (Ok b) (Ok c) (Ok d) (Ok e) (Ok f) (Ok g) = refl
-
-pub json_of-read : (text : List ℕ) → IsUtf8 text → requests.json_of text ≡ read text
-json_of-read text h = ap (λ b. cond b (read text) None) (is_utf8-from_IsUtf8 text h)
-
-pub json_of-none : (text : List ℕ) → (IsUtf8 text → ⊥) → requests.json_of text ≡ None
-json_of-none text h = ap (λ b. cond b (read text) None) (false_from_ne_true (is_utf8 text) (λ e. h (IsUtf8-from_is_utf8 text e)))
-
--- what the parse of a text came to
-pub json_of-parsed : (bytes text : List ℕ) (made : Result Value Error) (r : Result Value Bad) → IsUtf8 bytes → text ≡ bytes
-    → IfOk made (λ v. read text ≡ Some (view v)) → IfErr made (λ e. (IsMemory e → ⊥) → read text ≡ None) → IsParsed made r
-    → Gives view r (requests.some_or requests.not_json (requests.json_of bytes))
-json_of-parsed bytes text (Ok v) r u same ok err came = rw (came, json_of-read bytes u, ← same, ok) refl
-json_of-parsed bytes text (Err e) r u same ok err (inl came) = rw came.1 tt
-json_of-parsed bytes text (Err e) r u same ok err (inr came) = rw (came.1, json_of-read bytes u, ← same, err came.0) refl
 
 option_map-cond : {A B : Type 0} (f : A → B) (b : Bool) (x : A) (r : Option A)
     → cond b (Some (f x)) (option_map f r) ≡ option_map f (cond b (Some x) r)

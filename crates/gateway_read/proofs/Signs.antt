@@ -2,7 +2,6 @@
 use Rattle.std.proofs.Common.{◌≡◌, ℕ, zero, suc, ◌<◌, List, [], ◌∷◌, length, get_or, map, Option, None, Some}
 use Rattle.std.proofs.Common.{is_some, Bool, true, false, cond, eqb, refl, sym, arith, ◌∙◌}
 use Rattle.std.proofs.lemmas.Bool.Decides.{nat_tests}
-use Rattle.std.specs.Prelude.{◌||◌}
 use Rattle.std.specs.List.{list_any}
 use Rattle.std.proofs.lemmas.Bool.{or_parts, or_right, false_from_ne_true}
 use Rattle.memchr.specs.Find.{IsFirstByte, IsLastByte}

@@ -1,16 +1,21 @@
 -- Which lengths the names of an object have.
 use Rattle.std.specs.Prelude.{◌≡◌, ◌==◌, ◌||◌, ℕ, List, length, min, Bool, true, false}
-use Rattle.std.specs.Prelude.{slice_index_or, slice_set, String, string_bytes}
-use Rattle.std.specs.declared.alloc.Global.{Global}
+use Rattle.std.specs.Prelude.{slice_index_or, slice_set}
+use Rattle.std.specs.Borrow.{Bor}
 use Rattle.serde_json.specs.Data.{Members, no_members, member}
+use Rattle.gateway_read.specs.Values.{Tree}
 
 -- the place of a name's length: the last one is that of all longer names too
 abbrev pub place_of : List ℕ → ℕ
 place_of name = min (length name) 31
 
+-- a member with its name
+abbrev pub Named : Type 0
+Named = Bor (List ℕ) × Tree
+
 -- the places with that of a name
-abbrev pub marked : List Bool → String Global → List Bool
-marked lengths name = slice_set lengths (place_of (string_bytes name)) true
+abbrev pub marked : List Bool → Named → List Bool
+marked lengths m = slice_set lengths (place_of m.0.now) true
 
 -- the place is that of some member's name
 abbrev pub has_place : ℕ → Members → Bool

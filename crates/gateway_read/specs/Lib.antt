@@ -1,3 +1,4 @@
+pub mod Bodies
 pub mod Compares
 pub mod Decoding
 pub mod Fields
@@ -8,4 +9,5 @@ pub mod Parts
 pub mod Reading
 pub mod Signs
 pub mod Transactions
+pub mod Values
 pub mod Watches

@@ -1,11 +1,11 @@
 -- Parts of the model's readings, for the functions that read them.
-use Rattle.std.specs.Prelude.{Ok, Bool, true, false}
+use Rattle.std.specs.Prelude.{ℕ, List, Ok, Bool, true, false}
 use Rattle.serde_json.specs.Data.{Members}
 use Rattle.kv_model.specs.declared.call.RangeQuery.{RangeQuery}
 use Rattle.kv_model.specs.Calls.{Call, as_call}
 use Rattle.kv_model.specs.Requests.{Read, ◌>>=◌, range_query, put_request, delete_request, txn_request}
 use Rattle.kv_model.specs.Requests.{most_nested, compact_request, watch_request, grant_request, id_request}
-use Rattle.kv_model.specs.Requests.{time_to_live_request}
+use Rattle.kv_model.specs.Requests.{time_to_live_request, object_of}
 use Rattle.gateway_read.specs.Options.{flags_of, bounds_of, with_options}
 use Rattle.gateway_read.specs.declared.requests.Request.{Request}
 use Rattle.gateway_read.specs.declared.requests.Request.TheVariants.{Range, Put, Delete, Txn, Compact, Watch}
@@ -28,6 +28,10 @@ call_read Revoke ms = id_request Call.revoke ms
 call_read KeepAlive ms = id_request Call.keep_alive ms
 call_read TimeToLive ms = time_to_live_request ms
 call_read Leases ms = Ok Call.leases
+
+-- the command of a request of this kind, with this body
+abbrev pub command_read : Request → List ℕ → Read Call
+command_read request body = object_of body >>= call_read request
 
 -- whether reading them takes memory: those of a compaction and of what is asked of leases are numbers and truth values
 abbrev pub takes_memory : Request → Bool

@@ -1,8 +1,5 @@
 -- What a reader's result says of the model's reading.
-use Rattle.std.specs.Prelude.{◌≡◌, ◌⊎◌, ℕ, Bool, true, false, Result, Ok, Err, ⊤}
-use Rattle.serde_json.specs.declared.error.Error.{Error}
-use Rattle.serde_json.specs.declared.value.Value.{Value}
-use Rattle.serde_json.specs.Errors.{IsMemory}
+use Rattle.std.specs.Prelude.{◌≡◌, ℕ, Bool, true, false, Result, Ok, Err, ⊤}
 use Rattle.kv_model.specs.Requests.{Read, no_path, too_long, not_json, bad_field, bad_base64}
 use Rattle.gateway_read.specs.declared.bad.Bad.{Bad}
 use Rattle.gateway_read.specs.declared.bad.Bad.TheVariants.{NotJson, BadField, BadBase64, NoPath, TooLong, Memory}
@@ -47,8 +44,3 @@ Tells view (Err e) r = Fails e r × IsOther e
 abbrev pub GivesBy : {X Y : Type 0} → Bool → (X → Y) → Result X Bad → Read Y → Type 0
 GivesBy true view r m = Gives view r m
 GivesBy false view r m = Tells view r m
-
--- What a parse came to: a text that is none is no JSON, and want of memory is told where the parse told it.
-abbrev pub IsParsed : Result Value Error → Result Value Bad → Type 0
-IsParsed (Ok v) r = r ≡ Ok v
-IsParsed (Err e) r = (IsMemory e × (r ≡ Err Memory)) ⊎ ((IsMemory e → ⊥) × (r ≡ Err NotJson))

@@ -13,7 +13,7 @@ use kv_model::call::Command;
 /// Reads the fields `revision` and `physical`, in this order (the etcd documentation,
 /// CompactionRequest). The first fault counts: `BadField`.
 #[tactic(auto, unfolding(kv_model::specs::Requests::compact_request, crate::specs::Fields::snake_of))]
-pub(crate) fn compact_request(object: &Object<'_>) -> Result<Command, Bad>
+pub(crate) fn compact_request(object: &Object<'_, '_>) -> Result<Command, Bad>
     ensures { Tells call_of result (requests.compact_request (seen object.now)) }
 {
     let revision = integer_field(object, Field::Revision)?;

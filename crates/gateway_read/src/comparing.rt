@@ -1,6 +1,6 @@
 //! A compare of a Txn.
 ghost use Rattle.std.specs.Prelude.{◌≡◌};
-ghost use Rattle.serde_json.specs.View.{view};
+ghost use Rattle.gateway_read.specs.Values.{view};
 ghost use Rattle.kv_model.specs.declared.call.Relation.TheVariants.{IsEqual};
 ghost use Rattle.kv_model.specs.Requests as requests;
 ghost use Rattle.gateway_read.specs.Compares.{target_of, operand_read, compared};
@@ -12,9 +12,9 @@ use crate::bad::Bad;
 use crate::field::Field;
 use crate::members::{bytes_field, enum_field, integer_field, object_under};
 use crate::object::Object;
+use json::Value;
 use kv_model::call::{Compare, Operand, Relation};
 use kv_model::version::KeyRange;
-use serde_json::Value;
 use std::alloc::Global;
 
 /// What a compare looks at.
@@ -59,7 +59,7 @@ const TARGETS: [(&str, Target); 5] = [
 ];
 
 /// What the compare looks at: the version, where it does not say.
-fn target_field(object: &Object<'_>) -> Result<Target, Bad>
+fn target_field(object: &Object<'_, '_>) -> Result<Target, Bad>
     ensures { Tells target_of result
         (requests.field requests.Target.to_version (requests.enum_of requests.targets)
         (snake_of Field.Target) (seen object.now)) }
@@ -70,7 +70,7 @@ fn target_field(object: &Object<'_>) -> Result<Target, Bad>
 /// The compare with what is left to read of it.
 fn compared(
     alloc: Global,
-    object: &Object<'_>,
+    object: &Object<'_, '_>,
     range: KeyRange,
     relation: Relation,
     target: Target,
@@ -88,7 +88,7 @@ fn compared(
 
 /// The operand that the target names. Each operand is read.
 #[tactic(auto, unfolding(crate::specs::Fields::snake_of, crate::specs::Compares::operand_read))]
-fn operand_of(alloc: Global, object: &Object<'_>, target: Target) -> Result<Operand, Bad>
+fn operand_of(alloc: Global, object: &Object<'_, '_>, target: Target) -> Result<Operand, Bad>
     ensures { Gives (λ operand. operand) result
         (operand_read (target_of target) (seen object.now)) }
 {

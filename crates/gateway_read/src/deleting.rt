@@ -15,7 +15,7 @@ use std::alloc::Global;
 /// DeleteRangeRequest). The first fault counts: `BadField` or `BadBase64`. `Memory` comes where a
 /// growth finds no memory.
 #[tactic(auto, unfolding(kv_model::specs::Requests::delete_request, crate::specs::Fields::snake_of))]
-pub(crate) fn delete_request(alloc: Global, object: &Object<'_>) -> Result<DeleteRequest, Bad>
+pub(crate) fn delete_request(alloc: Global, object: &Object<'_, '_>) -> Result<DeleteRequest, Bad>
     ensures { Gives (λ request. request) result
         (requests.delete_request (seen object.now)) }
 {

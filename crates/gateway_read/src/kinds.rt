@@ -1,9 +1,10 @@
 //! The kinds of value that a field may have.
 ghost use Rattle.std.specs.Prelude.{◌≡◌, map, option_and_then};
-ghost use Rattle.serde_json.specs.View.{view};
+ghost use Rattle.gateway_read.specs.Values.{view};
 ghost use Rattle.kv_model.specs.Requests as requests;
 
-use serde_json::Value;
+use crate::value;
+use json::Value;
 
 /// What stands beside this name in a table.
 pub(crate) fn named<T: Copy>(table: &[(&str, T)], name: &[u8]) -> Option<T>
@@ -21,10 +22,10 @@ pub(crate) fn named<T: Copy>(table: &[(&str, T)], name: &[u8]) -> Option<T>
 pub(crate) fn enum_of<T: Copy>(table: &[(&str, T)], value: &Value) -> Option<T>
     ensures { result ≡ requests.enum_of (map (λ e. (e.0.now, e.1)) table.now) (view value.now) }
 {
-    match value.as_str() {
+    match value::as_str(value) {
         Some(name) => named(table, name.as_bytes()),
         None => {
-            let number = usize::try_from(value.as_u64()?).ok()?;
+            let number = usize::try_from(value::as_u64(value)?).ok()?;
             table.get(number).map(|(_, meant)| *meant)
         }
     }
@@ -46,8 +47,8 @@ fn signed_64(text: &str) -> Option<i64>
 pub(crate) fn integer_of(value: &Value) -> Option<i64>
     ensures { result ≡ requests.integer_of (view value.now) }
 {
-    match value.as_str() {
+    match value::as_str(value) {
         Some(text) => signed_64(text),
-        None => value.as_i64(),
+        None => value::as_i64(value),
     }
 }

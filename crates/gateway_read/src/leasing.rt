@@ -14,7 +14,7 @@ use kv_model::call::Command;
 /// Reads the fields `TTL` and `ID`, in this order (the etcd documentation, LeaseGrantRequest). The
 /// first fault counts: `BadField`.
 #[tactic(auto, unfolding(kv_model::specs::Requests::grant_request, crate::specs::Fields::snake_of))]
-pub(crate) fn grant_request(object: &Object<'_>) -> Result<Command, Bad>
+pub(crate) fn grant_request(object: &Object<'_, '_>) -> Result<Command, Bad>
     ensures { Tells call_of result (requests.grant_request (seen object.now)) }
 {
     let ttl = integer_field(object, Field::Ttl)?;
@@ -24,7 +24,7 @@ pub(crate) fn grant_request(object: &Object<'_>) -> Result<Command, Bad>
 
 /// Reads the field `ID` of a LeaseRevoke. Its fault is `BadField`.
 #[tactic(auto, unfolding(crate::specs::Fields::snake_of))]
-pub(crate) fn revoke_request(object: &Object<'_>) -> Result<Command, Bad>
+pub(crate) fn revoke_request(object: &Object<'_, '_>) -> Result<Command, Bad>
     ensures { Tells call_of result
         (requests.id_request Call.revoke (seen object.now)) }
 {
@@ -34,7 +34,7 @@ pub(crate) fn revoke_request(object: &Object<'_>) -> Result<Command, Bad>
 
 /// Reads the field `ID` of a LeaseKeepAlive. Its fault is `BadField`.
 #[tactic(auto, unfolding(crate::specs::Fields::snake_of))]
-pub(crate) fn keep_alive_request(object: &Object<'_>) -> Result<Command, Bad>
+pub(crate) fn keep_alive_request(object: &Object<'_, '_>) -> Result<Command, Bad>
     ensures { Tells call_of result
         (requests.id_request Call.keep_alive (seen object.now)) }
 {
@@ -45,7 +45,7 @@ pub(crate) fn keep_alive_request(object: &Object<'_>) -> Result<Command, Bad>
 /// Reads the fields `ID` and `keys`, in this order (the etcd documentation,
 /// LeaseTimeToLiveRequest). The first fault counts: `BadField`.
 #[tactic(auto, unfolding(kv_model::specs::Requests::time_to_live_request, crate::specs::Fields::snake_of))]
-pub(crate) fn time_to_live_request(object: &Object<'_>) -> Result<Command, Bad>
+pub(crate) fn time_to_live_request(object: &Object<'_, '_>) -> Result<Command, Bad>
     ensures { Tells call_of result
         (requests.time_to_live_request (seen object.now)) }
 {

@@ -1,9 +1,10 @@
 //! The command that a request asks for, read from its path and its body (etcd: the JSON gateway).
 //!
-//! The one contract is that of [`read`]: what it gives is `request_of` of `kv_model`, a command or
-//! the first fault in the order of the fields, and want of memory says nothing. `json_gateway`
-//! calls it for each request. Ranges, puts, deletions, transactions, compactions, watches and what
-//! is asked of leases have a path each, or two of one meaning. For example,
+//! The one contract is that of [`read`] and of [`Reading::read`], which keeps its room: what they
+//! give is `request_of` of `kv_model`, a command or the first fault in the order of the fields, and
+//! want of memory says nothing. `json_gateway` calls `read` for each request. Ranges, puts,
+//! deletions, transactions, compactions, watches and what is asked of leases have a path each, or
+//! two of one meaning. For example,
 //!
 //! ```text
 //! POST /v3/kv/range  {"key":"YQ==","rangeEnd":"Yg==","limit":"2","sort_order":"DESCEND","x":1}
@@ -20,18 +21,19 @@
 //! `"limit":"two"` and `"key":"?"` the refusal is `BadBase64(Key)`, since `key` is read first.
 //!
 //! Only tested is that calls which may find no memory succeed where there is ample: in the crate
-//! `gateway_tests`, in `src/values.rt` and `src/faults.rt`, and in `tests/rows.d/refusals.rows`.
+//! `gateway_tests`, in `src/{values,faults,kept}.rt`, and in `tests/rows.d/refusals.rows`.
 #![tactic(auto)]
 
 ghost use Rattle.std.specs.Prelude.{◌≡◌, ◌<◌, length, None, Err, IsSome};
 ghost use Rattle.kv_model.specs.Commands.{call_of};
 ghost use Rattle.kv_model.specs.Requests as requests;
+ghost use Rattle.gateway_read.specs.Parts.{command_read};
 ghost use Rattle.gateway_read.specs.Reading.{Gives};
 ghost use Rattle.gateway_read.specs.declared.bad.Bad.TheVariants.{NoPath, TooLong};
 
 use bad::Bad;
+use json::Scratch;
 use kv_model::call::Command;
-use object::Object;
 use requests::Request;
 use std::alloc::Global;
 
@@ -44,11 +46,13 @@ pub mod field;
 mod kinds;
 mod leasing;
 mod members;
+mod number;
 mod object;
 mod requests;
 mod sorting;
 mod symbols;
 mod transacting;
+mod value;
 mod watching;
 
 const PATHS: [(&str, Request); 14] = [
@@ -75,7 +79,8 @@ const PATHS: [(&str, Request); 14] = [
 /// one that is no JSON object, and `BadField` or `BadBase64` by the fields in their order. A body
 /// of no bytes is an empty object. Names are snake or camel case, and the snake one counts where
 /// both stand; other names are ignored. `Memory` comes where a growth finds no memory. The time is
-/// linear in the body, but for the look-up of each field.
+/// linear in the body, but for the look-up of each field. It clears 16 KiB, and takes as many bytes
+/// as the body has: whoever reads many bodies keeps a [`Reading`].
 pub fn read(alloc: Global, path: &[u8], body: &[u8]) -> Result<Command, Bad>
     ensures gives { Gives call_of result (requests.request_of path.now body.now) }
     ensures no_path { requests.named_value requests.paths path.now ≡ None
@@ -83,12 +88,69 @@ pub fn read(alloc: Global, path: &[u8], body: &[u8]) -> Result<Command, Bad>
     ensures too_long { IsSome (requests.named_value requests.paths path.now)
         → requests.longest_body < length body.now → result ≡ Err TooLong }
 {
-    let Some(request) = kinds::named(&PATHS, path) else {
-        return Err(Bad::NoPath);
-    };
-    let members = match body::object_of(alloc, body) {
-        Ok(members) => members,
+    Reading::new(alloc).read(alloc, path, body)
+}
+
+/// The longest body whose room is kept, in bytes.
+const LONGEST_KEPT: usize = 65_536;
+
+/// What is kept from one body to the next: the room that reading needs, of at most some 80 KiB.
+/// Whoever reads bodies one after another keeps one.
+#[derive(Drop)]
+pub struct Reading {
+    scratch: Scratch,
+}
+
+impl Reading {
+    /// Clears 16 KiB, and takes no memory.
+    pub fn new(alloc: Global) -> Self {
+        Reading {
+            scratch: Scratch::new(alloc),
+        }
+    }
+
+    /// The command that a POST of this body to this path asks for, as [`read`] has it, and its
+    /// refusals. What bodies were read before makes no difference. Nothing is cleared where a body
+    /// is at most as long as one before, and a body above 65,536 bytes leaves no room behind.
+    pub fn read(&mut self, alloc: Global, path: &[u8], body: &[u8]) -> Result<Command, Bad>
+        ensures gives { Gives call_of result (requests.request_of path.now body.now) }
+        ensures no_path { requests.named_value requests.paths path.now ≡ None
+            → result ≡ Err NoPath }
+        ensures too_long { IsSome (requests.named_value requests.paths path.now)
+            → requests.longest_body < length body.now → result ≡ Err TooLong }
+    {
+        let Some(request) = kinds::named(&PATHS, path) else {
+            return Err(Bad::NoPath);
+        };
+        let command = command_of(alloc, &mut self.scratch, request, body);
+        self.keep(alloc, body.len());
+        command
+    }
+
+    /// Lets the room go that a body of this length took, where that is too much to keep.
+    fn keep(&mut self, alloc: Global, len: usize) {
+        if len > LONGEST_KEPT {
+            self.scratch = Scratch::new(alloc);
+        }
+    }
+}
+
+/// The command of a request of this kind. `Memory` comes where a growth finds no memory.
+fn command_of(
+    alloc: Global,
+    scratch: &mut Scratch,
+    request: Request,
+    body: &[u8],
+) -> Result<Command, Bad>
+    ensures gives { Gives call_of result (command_read request body.now) }
+    ensures too_long { requests.longest_body < length body.now → result ≡ Err TooLong }
+{
+    let value = match body::value_of(alloc, scratch, body) {
+        Ok(value) => value,
         Err(bad) => return Err(bad),
     };
-    requests::command(alloc, request, &Object::new(&members))
+    match body::object_of(&value) {
+        Ok(object) => requests::command(alloc, request, &object),
+        Err(bad) => Err(bad),
+    }
 }

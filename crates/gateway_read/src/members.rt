@@ -1,7 +1,7 @@
 //! The fields of an object, each by its kind. An absent field is at its kind's default, and so is
 //! one that is null.
 ghost use Rattle.std.specs.Prelude.{◌≡◌, false, map, option_map};
-ghost use Rattle.serde_json.specs.View.{view, items_view};
+ghost use Rattle.gateway_read.specs.Values.{view, items_view};
 ghost use Rattle.kv_model.specs.Requests as requests;
 ghost use Rattle.gateway_read.specs.Decoding as decoding;
 ghost use Rattle.gateway_read.specs.Decoding.{is_text};
@@ -13,13 +13,13 @@ ghost use Rattle.gateway_read.specs.Transactions.{object_under};
 use crate::bad::Bad;
 use crate::field::Field;
 use crate::object::Object;
-use crate::{kinds, symbols};
+use crate::{kinds, symbols, value};
 use bytes::Bytes;
-use serde_json::Value;
+use json::Value;
 use std::alloc::{AllocError, Global};
 
 /// The value under a name of the field, the snake one first, unless it is null.
-pub(crate) fn given<'v>(object: &Object<'v>, field: Field) -> Option<&'v Value>
+pub(crate) fn given<'v, 'a>(object: &Object<'v, 'a>, field: Field) -> Option<&'v Value<'a>>
     ensures { option_map (λ v. view v.now) result
         ≡ requests.given (snake_of field) (seen object.now) }
 {
@@ -27,11 +27,19 @@ pub(crate) fn given<'v>(object: &Object<'v>, field: Field) -> Option<&'v Value>
         Some(value) => value,
         None => object.get(field.camel())?,
     };
-    if value.is_null() { None } else { Some(value) }
+    if value::is_null(value) {
+        None
+    } else {
+        Some(value)
+    }
 }
 
 /// Bytes in base64. The default is no bytes. Memory is taken only where the value is a text.
-pub(crate) fn bytes_field(alloc: Global, object: &Object<'_>, field: Field) -> Result<Bytes, Bad>
+pub(crate) fn bytes_field(
+    alloc: Global,
+    object: &Object<'_, '_>,
+    field: Field,
+) -> Result<Bytes, Bad>
     ensures gives { Gives (λ bytes. bytes) result
         (requests.bytes_field (snake_of field) (seen object.now)) }
     ensures free { is_text (requests.given (snake_of field) (seen object.now)) ≡ false
@@ -41,7 +49,7 @@ pub(crate) fn bytes_field(alloc: Global, object: &Object<'_>, field: Field) -> R
     let Some(value) = given(object, field) else {
         return Ok(Bytes::new());
     };
-    let Some(text) = value.as_str() else {
+    let Some(text) = value::as_str(value) else {
         return Err(Bad::BadField(field));
     };
     told_as(field, symbols::decoded(alloc, text))
@@ -60,7 +68,7 @@ fn told_as(field: Field, made: Result<Option<Bytes>, AllocError>) -> Result<Byte
 }
 
 /// A 64-bit integer. The default is 0. Takes no memory.
-pub(crate) fn integer_field(object: &Object<'_>, field: Field) -> Result<i64, Bad>
+pub(crate) fn integer_field(object: &Object<'_, '_>, field: Field) -> Result<i64, Bad>
     ensures { Tells (λ number. number) result
         (requests.integer_field (snake_of field) (seen object.now)) }
 {
@@ -71,19 +79,19 @@ pub(crate) fn integer_field(object: &Object<'_>, field: Field) -> Result<i64, Ba
 }
 
 /// A truth value. The default is false. Takes no memory.
-pub(crate) fn truth_field(object: &Object<'_>, field: Field) -> Result<bool, Bad>
+pub(crate) fn truth_field(object: &Object<'_, '_>, field: Field) -> Result<bool, Bad>
     ensures { Tells (λ truth. truth) result
         (requests.truth_field (snake_of field) (seen object.now)) }
 {
     match given(object, field) {
         None => Ok(false),
-        Some(value) => value.as_bool().ok_or(Bad::BadField(field)),
+        Some(value) => value::as_bool(value).ok_or(Bad::BadField(field)),
     }
 }
 
 /// An enum's value, by its name or by its place in the table. Takes no memory.
 pub(crate) fn enum_field<T: Copy>(
-    object: &Object<'_>,
+    object: &Object<'_, '_>,
     field: Field,
     default: T,
     table: &[(&str, T)],
@@ -99,23 +107,30 @@ pub(crate) fn enum_field<T: Copy>(
 }
 
 /// A list. The default is an empty one. Takes no memory.
-pub(crate) fn list_field<'v>(object: &Object<'v>, field: Field) -> Result<&'v [Value], Bad>
+pub(crate) fn list_field<'v, 'a>(
+    object: &Object<'v, 'a>,
+    field: Field,
+) -> Result<&'v [Value<'a>], Bad>
     ensures { Tells (λ values. items_view values.now) result
         (requests.list_field (snake_of field) (seen object.now)) }
 {
-    match given(object, field) {
-        None => Ok(&[]),
-        Some(value) => match value.as_array() {
-            Some(values) => Ok(values),
-            None => Err(Bad::BadField(field)),
-        },
+    let Some(value) = given(object, field) else {
+        let none: &'v [Value<'a>] = value::no_items();
+        return Ok(none);
+    };
+    match value::as_array(value) {
+        Some(values) => Ok(values),
+        None => Err(Bad::BadField(field)),
     }
 }
 
 /// The object that is the value of this field. Takes no memory.
-pub(crate) fn object_under<'v>(value: &'v Value, field: Field) -> Result<Object<'v>, Bad>
+pub(crate) fn object_under<'v, 'a>(
+    value: &'v Value<'a>,
+    field: Field,
+) -> Result<Object<'v, 'a>, Bad>
     ensures { Tells seen result
         (object_under (snake_of field) (view value.now)) }
 {
-    Ok(Object::new(value.as_object().ok_or(Bad::BadField(field))?))
+    Object::of(value).ok_or(Bad::BadField(field))
 }

@@ -39,7 +39,11 @@ pub(crate) enum Request {
 
 /// Reads the fields of a request. The first fault counts. `Memory` comes only where some of them
 /// are bytes or lists that are kept.
-pub(crate) fn command(alloc: Global, request: Request, object: &Object<'_>) -> Result<Command, Bad>
+pub(crate) fn command(
+    alloc: Global,
+    request: Request,
+    object: &Object<'_, '_>,
+) -> Result<Command, Bad>
     ensures { GivesBy (takes_memory request) call_of result
         (call_read request (seen object.now)) }
 {
@@ -59,7 +63,7 @@ pub(crate) fn command(alloc: Global, request: Request, object: &Object<'_>) -> R
 }
 
 #[tactic(auto, unfolding(kv_model::specs::Requests::range_query, crate::specs::Fields::snake_of))]
-pub(crate) fn range_query(alloc: Global, object: &Object<'_>) -> Result<RangeQuery, Bad>
+pub(crate) fn range_query(alloc: Global, object: &Object<'_, '_>) -> Result<RangeQuery, Bad>
     ensures { Gives (λ query. query) result
         (requests.range_query (seen object.now)) }
 {
@@ -88,7 +92,7 @@ pub(crate) fn range_query(alloc: Global, object: &Object<'_>) -> Result<RangeQue
 
 /// The query with what is left to read of a Range. Takes no memory.
 #[tactic(auto, unfolding(crate::specs::Parts::completed))]
-fn completed(object: &Object<'_>, query: RangeQuery) -> Result<RangeQuery, Bad>
+fn completed(object: &Object<'_, '_>, query: RangeQuery) -> Result<RangeQuery, Bad>
     ensures { Tells (λ query. query) result (completed query (seen object.now)) }
 {
     let flags = flags_of(object)?;
@@ -123,7 +127,7 @@ struct Bounds {
 }
 
 #[tactic(auto, unfolding(crate::specs::Fields::snake_of, crate::specs::Options::flags_of))]
-fn flags_of(object: &Object<'_>) -> Result<Flags, Bad>
+fn flags_of(object: &Object<'_, '_>) -> Result<Flags, Bad>
     ensures { Tells (λ flags. flags) result (flags_of (seen object.now)) }
 {
     Ok(Flags {
@@ -134,7 +138,7 @@ fn flags_of(object: &Object<'_>) -> Result<Flags, Bad>
 }
 
 #[tactic(auto, unfolding(crate::specs::Fields::snake_of, crate::specs::Options::bounds_of))]
-fn bounds_of(object: &Object<'_>) -> Result<Bounds, Bad>
+fn bounds_of(object: &Object<'_, '_>) -> Result<Bounds, Bad>
     ensures { Tells (λ bounds. bounds) result (bounds_of (seen object.now)) }
 {
     Ok(Bounds {
@@ -146,7 +150,7 @@ fn bounds_of(object: &Object<'_>) -> Result<Bounds, Bad>
 }
 
 #[tactic(auto, unfolding(kv_model::specs::Requests::put_request, crate::specs::Fields::snake_of))]
-pub(crate) fn put_request(alloc: Global, object: &Object<'_>) -> Result<PutRequest, Bad>
+pub(crate) fn put_request(alloc: Global, object: &Object<'_, '_>) -> Result<PutRequest, Bad>
     ensures { Gives (λ request. request) result
         (requests.put_request (seen object.now)) }
 {

@@ -27,7 +27,7 @@ const SORT_TARGETS: [(&str, SortTarget); 5] = [
     ("VALUE", SortTarget::ByValue),
 ];
 
-pub(crate) fn sort_order(object: &Object<'_>) -> Result<SortOrder, Bad>
+pub(crate) fn sort_order(object: &Object<'_, '_>) -> Result<SortOrder, Bad>
     ensures { Tells (λ order. order) result
         (requests.field Unsorted (requests.enum_of requests.sort_orders) (snake_of Field.SortOrder)
         (seen object.now)) }
@@ -35,7 +35,7 @@ pub(crate) fn sort_order(object: &Object<'_>) -> Result<SortOrder, Bad>
     enum_field(object, Field::SortOrder, SortOrder::Unsorted, &SORT_ORDERS)
 }
 
-pub(crate) fn sort_target(object: &Object<'_>) -> Result<SortTarget, Bad>
+pub(crate) fn sort_target(object: &Object<'_, '_>) -> Result<SortTarget, Bad>
     ensures { Tells (λ target. target) result
         (requests.field ByKey (requests.enum_of requests.sort_targets) (snake_of Field.SortTarget)
         (seen object.now)) }

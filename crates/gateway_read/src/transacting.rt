@@ -1,6 +1,6 @@
 //! The fields of a transaction, and of those within it.
 ghost use Rattle.std.specs.Prelude.{◌≡◌, option_map};
-ghost use Rattle.serde_json.specs.View.{view, items_view};
+ghost use Rattle.gateway_read.specs.Values.{view, items_view};
 ghost use Rattle.kv_model.specs.Commands.{txn_view, op_view, ops_view};
 ghost use Rattle.kv_model.specs.Requests as requests;
 ghost use Rattle.gateway_read.specs.Fields.{snake_of};
@@ -16,8 +16,8 @@ use crate::field::Field;
 use crate::members::{given, list_field, object_under};
 use crate::object::Object;
 use crate::requests::{put_request, range_query};
+use json::Value;
 use kv_model::call::{Compare, Operation, Txn};
-use serde_json::Value;
 use std::alloc::Global;
 
 /// How many transactions may lie in one another: more than a JSON text nests.
@@ -25,18 +25,18 @@ const MOST_NESTED: u8 = 127;
 
 /// What an operation asks for, with the object of its fields.
 #[derive(Drop)]
-enum Kind<'v> {
-    Range(Object<'v>),
-    Put(Object<'v>),
-    Delete(Object<'v>),
-    Inner(Object<'v>),
+enum Kind<'v, 'a> {
+    Range(Object<'v, 'a>),
+    Put(Object<'v, 'a>),
+    Delete(Object<'v, 'a>),
+    Inner(Object<'v, 'a>),
 }
 
 /// Reads the fields `compare`, `success` and `failure`, in this order (the etcd documentation,
 /// TxnRequest), and the transactions that lie within. The first fault counts: `BadField` or
 /// `BadBase64`. An operation is of one kind, or it is `BadField` of its list. `Memory` comes where
 /// a growth finds no memory. Linear in the number of compares and operations.
-pub(crate) fn txn_request(alloc: Global, object: &Object<'_>) -> Result<Txn, Bad>
+pub(crate) fn txn_request(alloc: Global, object: &Object<'_, '_>) -> Result<Txn, Bad>
     ensures { Gives txn_view result
         (requests.txn_request requests.most_nested (seen object.now)) }
 {
@@ -46,7 +46,7 @@ pub(crate) fn txn_request(alloc: Global, object: &Object<'_>) -> Result<Txn, Bad
 /// The transaction, where so many may lie in one another.
 #[cycle(transacting)]
 #[tactic(auto, unfolding(crate::specs::Fields::snake_of))]
-fn txn_within(alloc: Global, object: &Object<'_>, depth: u8) -> Result<Txn, Bad>
+fn txn_within(alloc: Global, object: &Object<'_, '_>, depth: u8) -> Result<Txn, Bad>
     ensures { Gives txn_view result
         (requests.txn_request depth (seen object.now)) }
 {
@@ -65,7 +65,12 @@ fn txn_within(alloc: Global, object: &Object<'_>, depth: u8) -> Result<Txn, Bad>
 
 /// The operations of a list, where so many transactions may lie in one another.
 #[cycle(transacting)]
-fn branch(alloc: Global, object: &Object<'_>, list: Field, depth: u8) -> Result<Vec<Operation>, Bad>
+fn branch(
+    alloc: Global,
+    object: &Object<'_, '_>,
+    list: Field,
+    depth: u8,
+) -> Result<Vec<Operation>, Bad>
     ensures { Gives (λ operations. ops_view operations.items) result
         (requests.branch (requests.txn_request depth) (snake_of list) (seen object.now)) }
 {
@@ -108,7 +113,7 @@ fn operation(alloc: Global, value: &Value, list: Field, depth: u8) -> Result<Ope
 }
 
 /// The one kind of an operation of a list.
-fn kind_of<'v>(value: &'v Value, list: Field) -> Result<Kind<'v>, Bad>
+fn kind_of<'v, 'a>(value: &'v Value<'a>, list: Field) -> Result<Kind<'v, 'a>, Bad>
     ensures { Tells message_of result (kind_read (snake_of list) (view value.now)) }
 {
     let object = &object_under(value, list)?;
@@ -121,13 +126,13 @@ fn kind_of<'v>(value: &'v Value, list: Field) -> Result<Kind<'v>, Bad>
 
 /// The kind of the one value that is given, or `BadField` of the list.
 #[tactic(auto, unfolding(crate::specs::Fields::snake_of))]
-fn only_kind<'v>(
+fn only_kind<'v, 'a>(
     list: Field,
-    range: Option<&'v Value>,
-    put: Option<&'v Value>,
-    delete: Option<&'v Value>,
-    inner: Option<&'v Value>,
-) -> Result<Kind<'v>, Bad>
+    range: Option<&'v Value<'a>>,
+    put: Option<&'v Value<'a>>,
+    delete: Option<&'v Value<'a>>,
+    inner: Option<&'v Value<'a>>,
+) -> Result<Kind<'v, 'a>, Bad>
     ensures { Tells message_of result
         (only_of (snake_of list) (option_map (λ v. view v.now) range.entry)
         (option_map (λ v. view v.now) put.entry)
@@ -150,7 +155,7 @@ fn only_kind<'v>(
 }
 
 #[tactic(auto, unfolding(crate::specs::Fields::snake_of))]
-fn compares(alloc: Global, object: &Object<'_>) -> Result<Vec<Compare>, Bad>
+fn compares(alloc: Global, object: &Object<'_, '_>) -> Result<Vec<Compare>, Bad>
     ensures { Gives (λ compares. compares.items) result
         (compares_read (seen object.now)) }
 {

@@ -1,6 +1,6 @@
 //! The fields of a request for a watch.
 ghost use Rattle.std.specs.Prelude.{◌≡◌};
-ghost use Rattle.serde_json.specs.View.{view, items_view};
+ghost use Rattle.gateway_read.specs.Values.{view, items_view};
 ghost use Rattle.kv_model.specs.Commands.{call_of};
 ghost use Rattle.kv_model.specs.Requests as requests;
 ghost use Rattle.gateway_read.specs.Objects.{seen};
@@ -14,9 +14,9 @@ use crate::kinds;
 use crate::members::{bytes_field, given, integer_field, list_field, object_under, truth_field};
 use crate::object::Object;
 use bytes::Bytes;
+use json::Value;
 use kv_model::call::{Command, Watched};
 use kv_model::version::KeyRange;
-use serde_json::Value;
 use std::alloc::Global;
 
 /// Which events a watch is not told of.
@@ -48,7 +48,7 @@ struct Options {
 /// `range_end`, `start_revision`, `filters`, `prev_kv` and `watch_id`, in this order (the etcd
 /// documentation, WatchCreateRequest). The first fault counts: `BadField` or `BadBase64`. `Memory`
 /// comes where a growth finds no memory. Linear in the number of filters.
-pub(crate) fn watch_request(alloc: Global, object: &Object<'_>) -> Result<Command, Bad>
+pub(crate) fn watch_request(alloc: Global, object: &Object<'_, '_>) -> Result<Command, Bad>
     ensures { Gives call_of result (requests.watch_request (seen object.now)) }
 {
     let create = &create_request(object)?;
@@ -57,7 +57,7 @@ pub(crate) fn watch_request(alloc: Global, object: &Object<'_>) -> Result<Comman
 
 /// The object under `create_request`.
 #[tactic(auto, unfolding(crate::specs::Fields::snake_of))]
-fn create_request<'v>(object: &Object<'v>) -> Result<Object<'v>, Bad>
+fn create_request<'v, 'a>(object: &Object<'v, 'a>) -> Result<Object<'v, 'a>, Bad>
     ensures { Tells seen result (create_read (seen object.now)) }
 {
     match given(object, Field::CreateRequest) {
@@ -67,7 +67,7 @@ fn create_request<'v>(object: &Object<'v>) -> Result<Object<'v>, Bad>
 }
 
 /// The watch that the fields within `create_request` ask for.
-fn watch_create(alloc: Global, object: &Object<'_>) -> Result<Command, Bad>
+fn watch_create(alloc: Global, object: &Object<'_, '_>) -> Result<Command, Bad>
     ensures { Gives call_of result (requests.watch_create (seen object.now)) }
 {
     let key = bytes_field(alloc, object, Field::Key)?;
@@ -92,7 +92,7 @@ fn watch_with(key: Bytes, end: Bytes, options: &Options) -> Command
 }
 
 #[tactic(auto, unfolding(crate::specs::Fields::snake_of, crate::specs::Watches::options_read))]
-fn options_of(object: &Object<'_>) -> Result<Options, Bad>
+fn options_of(object: &Object<'_, '_>) -> Result<Options, Bad>
     ensures { Tells (λ options. options) result (options_read (seen object.now)) }
 {
     let start = integer_field(object, Field::StartRevision)?;

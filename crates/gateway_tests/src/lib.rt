@@ -8,6 +8,8 @@ mod faults;
 #[cfg(test)]
 mod gateway;
 #[cfg(test)]
+mod kept;
+#[cfg(test)]
 mod messages;
 #[cfg(test)]
 mod reading;

@@ -4,6 +4,7 @@ use denote.Ref.{NamedLft}
 use denote.Param.Send.{IsSend, IsSync, plain_send, recorded_send, recorded_sync, sendable, shr_sync, struct_send, struct_sync}
 use denote.Struct.Declared.{shape}
 use Rattle.std.specs.declared.sync.ledger.Ledger as ledger
+use Rattle.event_book.specs.declared.naming.ListName as lists
 use Rattle.engine_lock.specs.declared.opening.EngineName as names
 use Rattle.std.proofs.Crossing.{crosses}
 use Rattle.std.specs.contracts.net.TcpListener as TcpListener
@@ -12,16 +13,16 @@ use Rattle.std.proofs.sync.atomic.AtomicBool.TheSendSync as flag
 use Rattle.engine_lock.proofs.Crossing.{client_send, engine_sync}
 use Rattle.http_peer.specs.contracts.door.Door as Door
 use Rattle.http_front.specs.contracts.shared.Shared as Shared
-use Rattle.http_front.specs.contracts.workers.Worked as Worked
+use Rattle.http_front.specs.contracts.duties.Worked as Worked
 use Rattle.http_peer.proofs.door.Door.TheSendSync as door
 use Rattle.http_front.proofs.handing.Handing.TheSendSync as handing
 
-pub shared_sync : (a : NamedLft) (T G C : RattleType) (n : names.Ghosts T.Denot) (g : ledger.Ghosts T.Denot) → IsSync G → IsSync C
-    → IsSync (Shared.the_row a T G C n g)
-shared_sync a T G C n g s u =
+pub shared_sync : (a : NamedLft) (T G C : RattleType) (n : names.Ghosts T.Denot) (b : lists.Ghosts T.Denot) (g : ledger.Ghosts T.Denot)
+    → IsSync G → IsSync C → IsSync (Shared.the_row a T G C n b g)
+shared_sync a T G C n b g s u =
     let listener : IsSync TcpListener.the_row = search (sendable, crosses) depth 20 in
-    recorded_sync (Shared.the_field a T G C n g).row _ _ (Shared.the_type a T G C n g).to_one (struct_sync (shape (Shared.the_type a T G C n g)) (
-      shr_sync _ _ _ (engine_sync T n g),
+    recorded_sync (Shared.the_field a T G C n b g).row _ _ (Shared.the_type a T G C n b g).to_one (struct_sync (shape (Shared.the_type a T G C n b g)) (
+      shr_sync _ _ _ (engine_sync T n b g),
       (
         shr_sync _ _ _ s,
         (
@@ -35,6 +36,7 @@ shared_sync a T G C n g s u =
     ))
 
 -- what a worker hands back goes to who joins it
-pub worked_send : (T : RattleType) (n : names.Ghosts T.Denot) (g : ledger.Ghosts T.Denot) → IsSend (Worked.the_row T n g)
-worked_send T n g = recorded_send (Worked.the_field T n g).row _ _ (Worked.the_type T n g).to_one
-    (struct_send (shape (Worked.the_type T n g)) (client_send T n g, (plain_send _ _ _ _ _, tt)))
+pub worked_send : (T : RattleType) (n : names.Ghosts T.Denot) (b : lists.Ghosts T.Denot) (g : ledger.Ghosts T.Denot)
+    → IsSend (Worked.the_row T n b g)
+worked_send T n b g = recorded_send (Worked.the_field T n b g).row _ _ (Worked.the_type T n b g).to_one
+    (struct_send (shape (Worked.the_type T n b g)) (client_send T n b g, (plain_send _ _ _ _ _, tt)))

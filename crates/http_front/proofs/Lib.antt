@@ -1,5 +1,3 @@
 pub mod Crossing
-pub mod Handed
+pub mod Giving
 pub mod Readings
-pub mod Shares
-pub mod Trimmed

@@ -1,6 +1,6 @@
 -- What a client reads beside the engine, as a response.
-use Rattle.std.proofs.Common.{◌≡◌, ◌⊎◌, inl, inr, true, false, ℕ, List, Option, None, Some, Result, Ok, Err, sym, ◌∙◌, ap}
-use Rattle.std.specs.Prelude.{IfSome, IfNone}
+use Rattle.std.proofs.Common.{◌≡◌, ◌⊎◌, inl, inr, Bool, true, false, ℕ, List, Option, None, Some, Result, Ok, Err, sym, ◌∙◌, ap, subst}
+use Rattle.std.specs.Prelude.{IfSome, IfNone, MatchBool}
 use Rattle.kv_model.specs.declared.ids.Ids.{Ids}
 use Rattle.kv_model.specs.declared.call.Command.{Command}
 use Rattle.kv_model.specs.declared.call.Command.TheVariants as commands
@@ -19,8 +19,9 @@ use Rattle.json_gateway.specs.declared.outcome.Outcome.{Outcome}
 use Rattle.json_gateway.specs.declared.outcome.Settled.{Settled}
 use Rattle.json_gateway.specs.declared.outcome.Settled.TheVariants as settled
 use Rattle.json_gateway.specs.Endings.{Refuses}
-use Rattle.engine_lock.specs.Locked.{Caller, left}
-use Rattle.http_front.specs.Engines.{IsAnswer, Looks, LooksUp, SettlesAs, Starts, Stays}
+use Rattle.engine_lock.specs.Entering as lock
+use Rattle.engine_lock.specs.Locked.{Caller, knowing, left}
+use Rattle.http_front.specs.Engines.{Begins, CatchesUp, IsAnswer, Looks, LooksUp, SettlesAs, Starts, Stays}
 use Rattle.http_front.specs.Engines.{answer_over, response_over}
 
 -- the reader's answer is the model's, or memory was wanting
@@ -44,18 +45,30 @@ declined_is ids (settled.Lost n) e told h t = absurd h
 
 -- a client that entered, read and left
 pub reads_client : (c d e : Caller) → d ≡ record c { reader = d.reader } → d.reader.book ≡ c.reader.book → e ≡ left d
-    → e ≡ record c { reader = record c.reader { known = d.reader.known; inside = false } }
+    → e ≡ knowing c c.holder d.reader.known
 reads_client c d e h b l = l ∙ ap left h ∙ (λ i. record c { reader = record c.reader { book = b i; known = d.reader.known; inside = false } })
 
+-- one that was to catch up
+pub caught : (ids : Ids) (recorded : Bool) (At : ℕ → Type 0) (c d : Caller) (now : ℕ) (b : Bool) → At now → recorded ≡ false → lock.CatchesUp ids c now b d
+    → MatchBool b ((recorded ≡ false) × CatchesUp ids At true c d) (Stays ids At c d)
+caught ids recorded At c d now true at unwritten h = (unwritten, (now, at, h))
+caught ids recorded At c d now false at unwritten h = inr (false, (now, at, h))
+
+-- one that was to read then, and did not
+pub stays : (ids : Ids) (recorded : Bool) (At : ℕ → Type 0) (s : Bool) (c d e : Caller) → Begins ids recorded At s c d → e ≡ left d → Stays ids At c e
+stays ids recorded At true c d e b l = inl (ap left l ∙ ap left b)
+stays ids recorded At false c d e b l =
+    let h = b.1 in
+    inr (true, subst (CatchesUp ids At true c) (h.2.enters.same ∙ sym (l ∙ ap left h.2.enters.same)) h)
+
 -- a Range that was read
-pub looks_as : (ids : Ids) (c d : Caller) (q : RangeQuery) (command : Command) (r : Option Outcome) → command ≡ commands.Range q
-    → IfSome r (λ o. LooksUp ids c q o d) → IfSome r (λ o. Looks ids c command o d)
-looks_as ids c d q command None is h = tt
-looks_as ids c d q command (Some o) is h = record { query = q; is = is; looks = h }
+pub looks_as : (ids : Ids) (recorded : Bool) (At : ℕ → Type 0) (c d : Caller) (q : RangeQuery) (command : Command) (r : Option Outcome) → command ≡ commands.Range q
+    → IfSome r (λ o. LooksUp ids recorded At c q o d) → IfSome r (λ o. Looks ids recorded At c command o d)
+looks_as ids recorded At c d q command None is h = tt
+looks_as ids recorded At c d q command (Some o) is h = record { query = q; is = is; looks = h }
 
 -- so a Range that has to be submitted
-pub starts_as : (command : Command) (q : RangeQuery) (c d : Caller) (r : Option Outcome) → command ≡ commands.Range q
-    → IfNone r (Stays c d) → IfNone r (Starts command c d)
-starts_as command q c d (Some o) is h = tt
-starts_as command q c d None is (inl h) = inl h
-starts_as command q c d None is (inr h) = inr (q, is, h)
+pub starts_as : (ids : Ids) (At : ℕ → Type 0) (command : Command) (q : RangeQuery) (c d : Caller) (r : Option Outcome) → command ≡ commands.Range q
+    → IfNone r (Stays ids At c d) → IfNone r (Starts ids At command c d)
+starts_as ids At command q c d (Some o) is h = tt
+starts_as ids At command q c d None is h = inr (q, is, h)

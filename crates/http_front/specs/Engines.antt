@@ -1,6 +1,6 @@
--- What an engine answers a connection, on behalf of one of its clients: by the list of all that it gave that client, and
--- by what the client read beside it.
-use Rattle.std.specs.Prelude.{◌≡◌, ◌⊎◌, ℕ, ◌+◌, Bool, true, false, List, Option, None, Some, Result, Ok, Err, MatchBool, ⊤}
+-- What an engine answers a connection, on behalf of one of its clients: by the events that are made for that client in the
+-- list of all events, and by what the client reads beside the engine.
+use Rattle.std.specs.Prelude.{◌≡◌, ◌⊎◌, ℕ, ◌+◌, All, Bool, true, false, List, Option, None, Some, Result, Ok, Err, MatchBool, ⊤}
 use mathlib.Core.List.{IsPrefix}
 use Rattle.kv_model.specs.declared.ids.Ids.{Ids}
 use Rattle.kv_model.specs.declared.call.Command.{Command}
@@ -10,69 +10,82 @@ use Rattle.kv_model.specs.declared.refusal.Refusal.{Refusal}
 use Rattle.kv_model.specs.declared.refusal.Refusal.TheVariants.{Memory}
 use Rattle.kv_model.specs.Answers.{Response, fault_of, refused, success_response}
 use Rattle.kv_model.specs.Commands.{call_of}
-use Rattle.kv_model.specs.Feed.{Published}
+use Rattle.kv_model.specs.Follows.Outcome.{memory, said}
 use Rattle.kv_model.specs.History.{end_of}
 use Rattle.kv_model.specs.Ranges as ranges
 use Rattle.kv_model.specs.Requests.{request_of}
 use Rattle.kv_model.specs.Told as model
-use Rattle.kv_model.specs.Wire.{WireEvent}
-use Rattle.store_laws.specs.Snapshots.{Untrimmed, untrimmed_of}
+use Rattle.kv_model.specs.Wire.{WireEvent, WireTold}
+use Rattle.store_laws.specs.Changes.{untrimmed}
+use Rattle.store_laws.specs.Snapshots.{Untrimmed}
 use Rattle.trim_core.specs.declared.trimmer.Trim.{Trim}
 use Rattle.trim_core.specs.Told.{told_of}
 use Rattle.range_view.specs.declared.reply.RangeReply.{RangeReply}
 use Rattle.range_view.specs.Replies.{reply_view}
+use Rattle.request_core.specs.declared.answer.Expiry.{Expiry}
+use Rattle.request_core.specs.declared.answer.Expiry.TheVariants as expiry
 use Rattle.gateway_read.specs.declared.bad.Bad.{Bad}
 use Rattle.gateway_read.specs.Reading.{Fails}
 use Rattle.http_head.specs.Requests.{Asked}
-use Rattle.json_gateway.specs.declared.outcome.Message.TheVariants as message
 use Rattle.json_gateway.specs.declared.outcome.Outcome.{Outcome}
 use Rattle.json_gateway.specs.declared.outcome.Settled.{Settled}
 use Rattle.json_gateway.specs.declared.outcome.Settled.TheVariants as settled
 use Rattle.json_gateway.specs.Endings.{Refuses, fault_of_reading, is_done, is_want}
 use Rattle.json_gateway.specs.Outcomes.{response_of}
-use Rattle.engine_lock.specs.Locked.{Caller, knowing, left, plus, rise, with_done}
-use Rattle.engine_lock.specs.Locked as lock
-use Rattle.engine_lock.specs.Asking.{Asking}
+use Rattle.event_book.specs.Asking.{Asking}
+use Rattle.event_book.specs.Callers.{Gives}
+use Rattle.event_book.specs.Events.{Entry, Event, led_to}
+use Rattle.engine_lock.specs.Entering as lock
+use Rattle.engine_lock.specs.Entering.{EntersAlone, ShowsTo, TrimsFor}
+use Rattle.engine_lock.specs.Locked.{Caller, knowing, left}
 use Rattle.engine_lock.specs.declared.engine.Submitted.{Submitted}
-use Rattle.engine_lock.specs.declared.past.Given.TheVariants as given
 use Rattle.http_loop.specs.declared.answering.Told.{Told}
 use Rattle.http_loop.specs.declared.answering.Told.TheVariants as told
 use Rattle.http_loop.specs.Connections.{path_asked}
 
 -- ---- trimming, for an answer that waits for it
 
--- Trimming steps were made for a client, which was given each, of which the last so many were refused for want of memory.
--- They end with one that says that trimming is done; or it was given up, after 1,000 refusals in a row.
-pub data AreTrimmed : ℕ → Bool → Caller → Caller → Type 0 where
-  last : {n : ℕ} {c : Caller} (t : Trim) → lock.TrimsFor c.made t → is_done (told_of t) ≡ true
-      → AreTrimmed n true c (plus (left c) (given.Trimmed t))
-  more : {n : ℕ} {b : Bool} {c c' : Caller} (t : Trim) → lock.TrimsFor c.made t
-      → AreTrimmed 0 b (plus (left c) (given.Trimmed t)) c' → AreTrimmed n b c c'
-  again : {n : ℕ} {b : Bool} {c c' : Caller} → AreTrimmed (n + 1) b (plus (left c) given.Untrimmed) c' → AreTrimmed n b c c'
-  given_up : {c : Caller} → AreTrimmed 1000 false c c
+-- Trimming steps were made for a client, one after the other, of which the last so many were refused for want of memory.
+pub data AreMade (ids : Ids) (c : Caller) : ℕ → Caller → Type 0 where
+  none : AreMade ids c 0 c
+  more : {n : ℕ} {d later : Caller} (t : Trim) → AreMade ids c n d → TrimsFor ids d t later → AreMade ids c 0 later
+  again : {n : ℕ} {d later : Caller} → AreMade ids c n d → ShowsTo d later → AreMade ids c (n + 1) later
+
+-- they ended with one that says that trimming is done
+pub record Trims (ids : Ids) (c later : Caller) : Type 0 where
+  pub refusals : ℕ
+  pub from : Caller
+  pub made : AreMade ids c refusals from
+  pub last : Trim
+  pub trims : TrimsFor ids from last later
+  pub ends : is_done (told_of last) ≡ true
+
+-- so, or it was given up, after 1,000 refusals in a row
+abbrev pub AreTrimmed : Ids → Bool → Caller → Caller → Type 0
+AreTrimmed ids true c later = Trims ids c later
+AreTrimmed ids false c later = AreMade ids c 1000 later
 
 -- the store was changed, and the answer is lost
 abbrev pub lost_answer : Submitted → Outcome
 lost_answer s = record s.outcome { settled = settled.Lost s.revision; waits = false }
 
 -- the outcome of a command, once the trimming that its answer waits for is done; where that was given up it is lost
-pub data Awaits : Submitted → Outcome → Caller → Caller → Type 0 where
-  at_once : {s : Submitted} {c : Caller} → s.outcome.waits ≡ false → Awaits s s.outcome c c
-  behind : {s : Submitted} {c c' : Caller} → s.outcome.waits ≡ true → AreTrimmed 0 true c c' → Awaits s s.outcome c c'
-  lost : {s : Submitted} {c c' : Caller} → s.outcome.waits ≡ true → AreTrimmed 0 false c c' → Awaits s (lost_answer s) c c'
+pub data Awaits (ids : Ids) (s : Submitted) : Outcome → Caller → Caller → Type 0 where
+  at_once : {c : Caller} → s.outcome.waits ≡ false → Awaits ids s s.outcome c c
+  behind : {c later : Caller} → s.outcome.waits ≡ true → AreTrimmed ids true c later → Awaits ids s s.outcome c later
+  lost : {c later : Caller} → s.outcome.waits ≡ true → AreTrimmed ids false c later → Awaits ids s (lost_answer s) c later
 
 -- ---- a command
 
--- It was submitted once, for that client, at some moment, with the request for it; where its answer waits for trimming, that
--- was done behind it.
-pub record Does (ids : Ids) (c : Caller) (asking : Asking) (o : Outcome) (c' : Caller) : Type 0 where
+-- It was submitted once, for that client, at a moment that was told (`At`), with the request for it; where its answer waits
+-- for trimming, that was done behind it.
+pub record Does (ids : Ids) (At : ℕ → Type 0) (c : Caller) (asking : Asking) (o : Outcome) (later : Caller) : Type 0 where
   pub now : ℕ
+  pub at : At now
   pub submitted : Submitted
   pub told : Caller
-  pub submits : lock.Submits ids (left c) now asking submitted told
-  pub given_is : told ≡ record (with_done (left c) (given.Done asking.command now submitted.outcome) (rise submitted.outcome.raised))
-      { reader = told.reader }
-  pub awaits : Awaits submitted o told c'
+  pub submits : lock.Submits ids c now asking submitted told
+  pub awaits : Awaits ids submitted o told later
 
 -- the model's answer to a Range over a whole history, and its response
 abbrev pub answer_over : Untrimmed → RangeQuery → Result ranges.RangeReply Refusal
@@ -93,104 +106,129 @@ SettlesAs told (settled.Reply r) = response_of r ≡ told
 SettlesAs told settled.Memory = ⊤
 SettlesAs told (settled.Lost n) = ⊥
 
--- A client read beside the engine, and left its reading: the answer is that of some list of published operations which
--- begins with all that the client has read and was told of, and which it knows of from then on.
-pub record Reads (ids : Ids) (c : Caller) (q : RangeQuery) (o : Outcome) (c' : Caller) : Type 0 where
-  pub log : List Published
-  pub begins : IsPrefix c.reader.known log
-  pub settles : SettlesAs (response_over ids (answer_over (untrimmed_of log) q)) o.settled
+-- A client read beside the engine, and left its reading: the answer is the model's in the world that a front of the list of
+-- all events leads to, which begins with all that the client has read and was told of, and which it knows of from then on.
+pub record Reads (ids : Ids) (c : Caller) (q : RangeQuery) (o : Outcome) (later : Caller) : Type 0 where
+  pub front : List Entry
+  pub begins : IsPrefix c.reader.known front
+  pub settles : SettlesAs (response_over ids (answer_over (untrimmed (led_to front)) q)) o.settled
   pub bare : (o.raised ≡ None) × (o.watch ≡ None)
-  pub client : c' ≡ knowing c log
+  pub client : later ≡ knowing c c.holder front
 
--- The client left its reading and caught up: at some moment it was told of all that the engine had done.
-pub record CatchesUp (c later : Caller) : Type 0 where
-  pub now : ℕ
-  pub catches : lock.CatchesUp (left c) now true later
-  pub same : later ≡ knowing c later.reader.known
+-- At a moment that was told, handed in as an event of its own, the client was told of all that the engine had done; or of
+-- nothing.
+abbrev pub CatchesUp : Ids → (ℕ → Type 0) → Bool → Caller → Caller → Type 0
+CatchesUp ids At told c later = (now : ℕ) × At now × lock.CatchesUp ids c now told later
 
--- A reading of a Range begins: a serializable one with what the client knows of, any other once the client caught up.
-abbrev pub Begins : Bool → Caller → Caller → Type 0
-Begins serializable c later = MatchBool serializable (later ≡ c) (CatchesUp c later)
+-- A reading of a Range begins: a serializable one with what the client knows of, any other once the client caught up, where
+-- events are not written down.
+abbrev pub Begins : Ids → Bool → (ℕ → Type 0) → Bool → Caller → Caller → Type 0
+Begins ids recorded At serializable c later = MatchBool serializable (later ≡ c) ((recorded ≡ false) × CatchesUp ids At true c later)
 
--- it left its reading, or caught up, and nothing else
-abbrev pub Stays : Caller → Caller → Type 0
-Stays c later = (left later ≡ left c) ⊎ CatchesUp c later
+-- it left its reading, or caught up or was to, and nothing else
+abbrev pub Stays : Ids → (ℕ → Type 0) → Caller → Caller → Type 0
+Stays ids At c later = (left later ≡ left c) ⊎ ((told : Bool) × CatchesUp ids At told c later)
 
 -- a Range was read so
-pub record LooksUp (ids : Ids) (c : Caller) (query : RangeQuery) (o : Outcome) (c' : Caller) : Type 0 where
+pub record LooksUp (ids : Ids) (recorded : Bool) (At : ℕ → Type 0) (c : Caller) (query : RangeQuery) (o : Outcome) (later : Caller) : Type 0 where
   pub from : Caller
-  pub begins : Begins query.serializable c from
-  pub reads : Reads ids from query o c'
+  pub begins : Begins ids recorded At query.serializable c from
+  pub reads : Reads ids from query o later
 
--- Only for a Range that then had no entry to what is published does a client catch up that does not read.
-abbrev pub Starts : Command → Caller → Caller → Type 0
-Starts command c from = (left from ≡ left c) ⊎ ((query : RangeQuery) × (command ≡ commands.Range query) × CatchesUp c from)
+-- Only for a Range that then was not read so is a client to catch up that does not read.
+abbrev pub Starts : Ids → (ℕ → Type 0) → Command → Caller → Caller → Type 0
+Starts ids At command c from = (left from ≡ left c) ⊎ ((query : RangeQuery) × (command ≡ commands.Range query) × Stays ids At c from)
 
 -- It was submitted.
-pub record Submits (ids : Ids) (c : Caller) (asking : Asking) (o : Outcome) (c' : Caller) : Type 0 where
+pub record Submits (ids : Ids) (At : ℕ → Type 0) (c : Caller) (asking : Asking) (o : Outcome) (later : Caller) : Type 0 where
   pub from : Caller
-  pub starts : Starts asking.command c from
-  pub does : Does ids from asking o c'
+  pub starts : Starts ids At asking.command c from
+  pub does : Does ids At from asking o later
 
 -- It is a Range, and it was read beside the engine.
-pub record Looks (ids : Ids) (c : Caller) (command : Command) (o : Outcome) (c' : Caller) : Type 0 where
+pub record Looks (ids : Ids) (recorded : Bool) (At : ℕ → Type 0) (c : Caller) (command : Command) (o : Outcome) (later : Caller) : Type 0 where
   pub query : RangeQuery
   pub is : command ≡ commands.Range query
-  pub looks : LooksUp ids c query o c'
+  pub looks : LooksUp ids recorded At c query o later
 
 -- ---- a request
 
--- a command that was read from this request
-abbrev pub asking_by : Asked → Command → Asking
-asking_by a command = record { command = command; request = Some (WireEvent.post (path_asked a) a.body) }
+-- a command that was read from the request with this path and body
+abbrev pub asking_by : List ℕ → List ℕ → Command → Asking
+asking_by path body command = record { command = command; request = Some (WireEvent.post path body) }
 
--- A request asked for a command, which was done.
-pub record Did (ids : Ids) (c : Caller) (a : Asked) (o : Outcome) (c' : Caller) : Type 0 where
-  pub command : Command
-  pub is : request_of (path_asked a) a.body ≡ Ok (call_of command)
-  pub does : Submits ids c (asking_by a command) o c' ⊎ Looks ids c command o c'
-
--- A request asked for none, and is refused in the words of its fault; the engine gave nothing.
-pub record Refused (c : Caller) (a : Asked) (o : Outcome) (c' : Caller) : Type 0 where
-  pub bad : Bad
-  pub fails : Fails bad (request_of (path_asked a) a.body)
-  pub refuses : Refuses o.settled (is_want bad) (fault_of_reading bad)
-  pub unwatched : o.watch ≡ None
-  pub same : c' ≡ c
-
-abbrev pub Answers : Ids → Caller → Asked → Outcome → Caller → Type 0
-Answers ids c a o c' = Did ids c a o c' ⊎ Refused c a o c'
-
--- ---- a request of a script
-
--- It asked for a command, which was submitted.
-pub record DidBy (ids : Ids) (c : Caller) (path body : List ℕ) (o : Outcome) (c' : Caller) : Type 0 where
+-- A request asked for a command, of which this is so.
+pub record Did (path body : List ℕ) (Is : Command → Type 0) : Type 0 where
   pub command : Command
   pub is : request_of path body ≡ Ok (call_of command)
-  pub does : Does ids c (record { command = command; request = Some (WireEvent.post path body) }) o c'
+  pub does : Is command
 
--- It asked for none, and is refused in the words of its fault; the engine gave nothing.
-pub record RefusedBy (c : Caller) (path body : List ℕ) (o : Outcome) (c' : Caller) : Type 0 where
+-- A request asked for none, and is refused in the words of its fault; no event was made.
+pub record Refused (path body : List ℕ) (c : Caller) (o : Outcome) (later : Caller) : Type 0 where
   pub bad : Bad
   pub fails : Fails bad (request_of path body)
   pub refuses : Refuses o.settled (is_want bad) (fault_of_reading bad)
-  pub same : c' ≡ c
+  pub unwatched : o.watch ≡ None
+  pub same : later ≡ c
 
+-- of a connection: the command was submitted, or a Range read beside the engine, by whether events are written down, and at a
+-- moment that was told
+abbrev pub Answers : Ids → Bool → (ℕ → Type 0) → Caller → Asked → Outcome → Caller → Type 0
+Answers ids recorded At c a o later = Did (path_asked a) a.body (λ command. Submits ids At c (asking_by (path_asked a) a.body command) o later
+    ⊎ Looks ids recorded At c command o later) ⊎ Refused (path_asked a) a.body c o later
+
+-- of a script: it was submitted, at the engine's clock, as the moment 0 leaves that
 abbrev pub Posts : Ids → Caller → List ℕ → List ℕ → Outcome → Caller → Type 0
-Posts ids c path body o c' = DidBy ids c path body o c' ⊎ RefusedBy c path body o c'
+Posts ids c path body o later = Did path body (λ command. Does ids (λ now. now ≡ 0) c (asking_by path body command) o later)
+    ⊎ Refused path body c o later
 
 -- ---- a stream
 
--- A stream is told what the engine told its watch, from a core that had all changes that the client had made. It ends
--- where there is no such watch, or where somebody said that its client has left.
+-- a delivery to a watch was made for a client, which told nothing or found no memory
+abbrev pub IsQuiet : Ids → ℕ → Caller → Caller → Type 0
+IsQuiet ids n c later = EntersAlone ids c (Event.delivery n) (said WireTold.nothing) later
+    ⊎ EntersAlone ids c (Event.delivery n) memory later
+
+-- or its stream was told so by it: where that ends, there was no such watch
+abbrev pub Says : Ids → ℕ → Caller → Told → Caller → Type 0
+Says ids n c (told.Text x) later = EntersAlone ids c (Event.delivery n) (said (WireTold.message x.items)) later
+Says ids n c told.End later = EntersAlone ids c (Event.delivery n) (said WireTold.no_watch) later
+Says ids n c told.Memory later = ⊥
+Says ids n c told.Away later = ⊥
+
+-- deliveries that told nothing were made, one after the other
+pub data AreQuiet (ids : Ids) (n : ℕ) (c : Caller) : Caller → Type 0 where
+  none : AreQuiet ids n c c
+  more : {d later : Caller} → AreQuiet ids n c d → IsQuiet ids n d later → AreQuiet ids n c later
+
+-- A stream is told what a delivery behind such ones told; or it ends, since somebody said that its client has left.
 abbrev pub Tells : Ids → Type 0 → Caller → ℕ → Told → Caller → Type 0
-Tells ids Left c n (told.Text x) c' = lock.TellsTo ids c.made n (message.Text x)
-    × (c' ≡ plus (left c) (given.Told n (message.Text x)))
-Tells ids Left c n told.End c' = (c' ≡ plus (left c) (given.Told n message.NoWatch)) ⊎ (Left × (c' ≡ left c))
-Tells ids Left c n told.Memory c' = ⊥
-Tells ids Left c n told.Away c' = ⊥
+Tells ids Left c n t later = ((from : Caller) × AreQuiet ids n c from × Says ids n from t later)
+    ⊎ ((t ≡ told.End) × Left × AreQuiet ids n c later)
 
 -- Behind a reply the watch that its request made is ended.
-abbrev pub Finishes : Caller → Option ℕ → Caller → Type 0
-Finishes c None c' = c' ≡ c
-Finishes c (Some n) c' = (stood : Bool) × lock.DropsFor c.made n stood × (c' ≡ plus (left c) (given.Dropped n stood))
+abbrev pub Finishes : Ids → Caller → Option ℕ → Caller → Type 0
+Finishes ids c None later = later ≡ c
+Finishes ids c (Some n) later = (stood : Bool) × EntersAlone ids c (Event.ending n) (said (WireTold.closed stood)) later
+
+-- ---- beside the connections
+
+-- a trimming step behind which none follows at once
+abbrev pub is_last : Result Trim Refusal → Bool
+is_last (Ok t) = is_done (told_of t)
+is_last (Err e) = true
+
+-- a step of expiry by which a lease has ended
+abbrev pub has_ended : Result Expiry Refusal → Bool
+has_ended (Ok expiry.Nothing) = false
+has_ended (Ok (expiry.Expired id revision raised)) = true
+has_ended (Err e) = false
+
+-- ---- all of it
+
+-- These are, in order, all events that were made for a client meanwhile: each about what its next ones are about.
+pub record Gets (c later : Caller) : Type 0 where
+  pub own : List Entry
+  pub gives : Gives c.holder own later.holder
+  pub all : All (λ e. e.about ≡ c.about) own
+  pub about : later.about ≡ c.about

@@ -1,8 +1,9 @@
 -- What an engine answers a connection whose streams go on elsewhere.
-use Rattle.std.specs.Prelude.{◌≡◌, ℕ, Option, None, Some}
+use Rattle.std.specs.Prelude.{◌≡◌, ℕ, Bool, Option, None, Some}
 use Rattle.kv_model.specs.declared.ids.Ids.{Ids}
 use Rattle.http_head.specs.Requests.{Asked}
 use Rattle.json_gateway.specs.declared.outcome.Outcome.{Outcome}
+use Rattle.engine_lock.specs.Locked as locked
 use Rattle.engine_lock.specs.Locked.{Caller}
 use Rattle.http_loop.specs.declared.answering.Told.{Told}
 use Rattle.http_loop.specs.declared.answering.Told.TheVariants as told
@@ -13,8 +14,8 @@ pub record Hands : Type 0 where
   pub client : Caller
   pub handed : Option ℕ
 
-abbrev pub Answers : Ids → Hands → Asked → Outcome → Hands → Type 0
-Answers ids s a o t = engines.Answers ids s.client a o t.client × (t.handed ≡ s.handed)
+abbrev pub Answers : Ids → Bool → (ℕ → Type 0) → Hands → Asked → Outcome → Hands → Type 0
+Answers ids recorded At s a o t = engines.Answers ids recorded At s.client a o t.client × (t.handed ≡ s.handed)
 
 -- a stream goes on elsewhere at once
 abbrev pub Tells : Hands → ℕ → Told → Hands → Type 0
@@ -22,9 +23,13 @@ Tells s n told.Away t = t ≡ record s { handed = Some n }
 Tells s n _ t = ⊥
 
 -- behind a reply the watch that its request made is ended, unless its stream goes on elsewhere
-abbrev pub FinishesBy : Option ℕ → Hands → Option ℕ → Hands → Type 0
-FinishesBy None s w t = engines.Finishes s.client w t.client × (t.handed ≡ None)
-FinishesBy (Some n) s w t = t ≡ s
+abbrev pub FinishesBy : Ids → Option ℕ → Hands → Option ℕ → Hands → Type 0
+FinishesBy ids None s w t = engines.Finishes ids s.client w t.client × (t.handed ≡ None)
+FinishesBy ids (Some n) s w t = t ≡ s
 
-abbrev pub Finishes : Hands → Option ℕ → Hands → Type 0
-Finishes s w t = FinishesBy s.handed s w t
+abbrev pub Finishes : Ids → Hands → Option ℕ → Hands → Type 0
+Finishes ids s w t = FinishesBy ids s.handed s w t
+
+-- one whose next events are about this
+abbrev pub naming : Hands → ℕ → Hands
+naming s about = record s { client = locked.naming s.client about }

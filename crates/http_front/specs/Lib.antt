@@ -1,3 +1,4 @@
+pub mod Closed
 pub mod Ends
 pub mod Engines
 pub mod Handing

@@ -1,8 +1,10 @@
 //! What goes on beside the connections: trimming, and leases that end.
-ghost use Rattle.std.specs.Prelude.{◌≡◌, ◌≤◌, true, IfOk, IfSome};
-ghost use Rattle.trim_core.specs.Told.{told_of};
-ghost use Rattle.json_gateway.specs.Endings.{is_done};
-ghost use Rattle.engine_lock.specs.Locked.{Trims};
+ghost use Rattle.std.specs.Prelude.{◌≡◌, ℕ, Result};
+ghost use Rattle.trim_core.specs.declared.trimmer.Trim.{Trim as TrimOf};
+ghost use Rattle.kv_model.specs.declared.refusal.Refusal.{Refusal as RefusalOf};
+ghost use Rattle.request_core.specs.declared.answer.Expiry.{Expiry as ExpiryOf};
+ghost use Rattle.engine_lock.specs.Entering.{MayTrim, SubmitsExpiry};
+ghost use Rattle.http_front.specs.Engines.{has_ended, is_last};
 
 use crate::handing::Waking;
 use crate::shared::Shared;
@@ -22,41 +24,49 @@ const TRIM_REST: u64 = 20;
 const EXPIRY_REST: u64 = 100;
 
 /// Makes trimming steps until the server has ended, and rests where one says that it is done, or is
-/// refused for memory.
+/// refused for memory. Hands the client back, with the events that it made.
 pub(crate) fn keep_trimming<L: EngineName, G: Gate, C, R: Wait + time::Clock>(
     rt: &R,
     shared: &Shared<'_, L, G, C>,
-) {
+    client: Client<L>,
+) -> Client<L> {
     let events = shared.events(rt);
+    let mut client = client;
     for _ in rt.forever() {
         if shared.ended.load(Ordering::SeqCst) {
             break;
         }
-        if make_trim_step(&events).is_some() {
+        if make_trim_step(&events, &mut client) {
             thread::sleep(rt, Duration::from_millis(TRIM_REST));
         }
     }
+    client
 }
 
-/// Makes a trimming step, and tells of it where no other is to follow at once: it says that
-/// trimming is done, or it was refused.
+/// Makes a trimming step, and tells whether no other is to follow at once: it says that trimming is
+/// done, or it was refused.
 fn make_trim_step<L: EngineName, G: Gate, R: Wait>(
     events: &Recorded<'_, L, G, R>,
-) -> Option<Result<Trim, Refusal>>
-    ensures { IfSome result (λ step. IfOk step
-        (λ trim. Trims trim × (is_done (told_of trim) ≡ true))) }
+    client: &mut Client<L>,
+) -> bool
+    ensures { (step : Result TrimOf RefusalOf)
+        × MayTrim events.now.engine.now.ids client.old step client.new × (result ≡ is_last step) }
 {
-    match events.trim() {
-        Ok(trim) => match trim {
-            Trim::Done(_) => Some(Ok(trim)),
-            _ => None,
-        },
-        Err(refusal) => Some(Err(refusal)),
+    ends_round(events.trim(client))
+}
+
+/// Whether no other step is to follow this one at once.
+fn ends_round(step: Result<Trim, Refusal>) -> bool
+    ensures { result ≡ is_last step }
+{
+    match step {
+        Ok(Trim::Removed(_) | Trim::Kept(_)) => false,
+        Ok(Trim::Done(_)) | Err(_) => true,
     }
 }
 
 /// Makes steps of expiry until the server has ended, and rests where one finds no lease that is
-/// due, or is refused. Hands the client back, with the changes that it made.
+/// due, or is refused. Hands the client back, with the events that it made.
 pub(crate) fn keep_expiring<L: EngineName, G: Gate, C: Clock, R: Wait + time::Clock>(
     rt: &R,
     shared: &Shared<'_, L, G, C>,
@@ -86,8 +96,15 @@ fn make_expiry_step<L: EngineName, G: Gate, C: Clock, R: Wait>(
     clock: &C,
     client: &mut Client<L>,
 ) -> bool
-    ensures { client.old.made ≤ client.new.made }
+    ensures { (now : ℕ) × C.Tells clock.now now × (step : Result ExpiryOf RefusalOf)
+        × SubmitsExpiry events.now.engine.now.ids client.old now step client.new × (result ≡ has_ended step) }
 {
-    let step = events.expire(client, clock.now());
+    ended_lease(events.expire(client, clock.now()))
+}
+
+/// Whether a lease has ended by this step.
+fn ended_lease(step: Result<Expiry, Refusal>) -> bool
+    ensures { result ≡ has_ended step }
+{
     matches!(step, Ok(Expiry::Expired { .. }))
 }

@@ -1,5 +1,6 @@
 //! What a server begins with.
-ghost use Rattle.std.specs.Prelude.{◌≡◌, [], IfOk, IfErr};
+ghost use Rattle.std.specs.Prelude.{◌≡◌, ◌+◌, IfOk, IfErr};
+ghost use Rattle.engine_lock.specs.Locked.{IsNew};
 ghost use Rattle.http_front.specs.Ends.{IsOfServer};
 
 use engine_lock::{Client, Engine, EngineName};
@@ -24,14 +25,15 @@ pub struct Begun<L: EngineName> {
 }
 
 impl<L: EngineName> Begun<L> {
-    /// An engine, and a client that is made of it, which made no change yet. Fails with
+    /// An engine, and a client that is made of it, which made no event yet. Fails with
     /// `Front::Unclosed` where it has no place for one.
     pub fn new<R: Wait>(rt: &R, engine: Engine<L>) -> Result<Self, Front>
-        ensures engine { IfOk result (λ begun. begun.engine ≡ engine) }
-        ensures made { IfOk result (λ begun. begun.client.made ≡ 0) }
-        ensures given { IfOk result (λ begun. begun.client.given ≡ []) }
+        ensures engine { IfOk result
+            (λ begun. begun.engine ≡ record engine { clients = engine.clients + 1 }) }
+        ensures client { IfOk result (λ begun. IsNew begun.client) }
         ensures fault { IfErr result IsOfServer }
     {
+        let mut engine = engine;
         match engine.client(rt) {
             Ok(client) => Ok(Begun { engine, client }),
             Err(_) => Err(Front::Unclosed),

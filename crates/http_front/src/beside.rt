@@ -1,5 +1,5 @@
 //! Ranges, which a client reads beside the engine.
-ghost use Rattle.std.specs.Prelude.{◌≡◌, None, Ok, Result, IfSome, IfNone, MatchBool};
+ghost use Rattle.std.specs.Prelude.{◌≡◌, true, false, None, Ok, Result, IfSome, IfNone, MatchBool};
 ghost use Rattle.range_view.specs.Replies.{reply_view};
 ghost use Rattle.kv_model.specs.declared.refusal.Refusal.{Refusal as RefusalOf};
 ghost use Rattle.kv_model.specs.declared.call.Command.TheVariants as commands;
@@ -9,7 +9,7 @@ ghost use Rattle.http_front.specs.Engines.{Begins, CatchesUp, IsAnswer, Looks, L
 ghost use Rattle.http_front.specs.Engines.{Starts, Stays, response_over};
 
 use engine_lock::{Client, EngineName};
-use http_peer::Gate;
+use http_peer::{Clock, Gate};
 use json_gateway::{Ids, Outcome, Refusal, Reply, ReplyBody, Settled, declined, range_text};
 use kv_model::call::{Command, RangeQuery};
 use range_view::RangeReply;
@@ -27,19 +27,22 @@ use std::sync::Wait;
 ///
 /// The cost is that of [`Engine::catch_up`] for a Range that is not serializable, that of
 /// `View::range`, and linear in the text. A serializable one waits for nobody.
-pub(crate) fn looked<L: EngineName, G: Gate, R: Wait>(
+pub(crate) fn looked<L: EngineName, G: Gate, C: Clock, R: Wait>(
     events: &Recorded<'_, L, G, R>,
+    clock: &C,
     alloc: Global,
     client: &mut Client<L>,
     now: u64,
     command: &Command,
 ) -> Option<Outcome>
-    ensures looks { IfSome result
-        (λ o. Looks events.now.engine.now client.old command.now o client.new) }
-    ensures none { IfNone result (Starts command.now client.old client.new) }
+    requires { C.Tells clock.now now }
+    ensures looks { IfSome result (λ o. Looks events.now.engine.now.ids L.recorded (C.Tells clock.now)
+        client.old command.now o client.new) }
+    ensures none { IfNone result (Starts events.now.engine.now.ids (C.Tells clock.now) command.now
+        client.old client.new) }
 {
     match range_of(command) {
-        Some(query) => looked_up(events, alloc, client, now, query),
+        Some(query) => looked_up(events, clock, alloc, client, now, query),
         None => None,
     }
 }
@@ -55,18 +58,21 @@ fn range_of(command: &Command) -> Option<&RangeQuery>
 }
 
 /// Answers a Range beside the engine; `None` where it has to be submitted.
-fn looked_up<L: EngineName, G: Gate, R: Wait>(
+fn looked_up<L: EngineName, G: Gate, C: Clock, R: Wait>(
     events: &Recorded<'_, L, G, R>,
+    clock: &C,
     alloc: Global,
     client: &mut Client<L>,
     now: u64,
     query: &RangeQuery,
 ) -> Option<Outcome>
-    ensures looks { IfSome result
-        (λ o. LooksUp events.now.engine.now client.old query.now o client.new) }
-    ensures none { IfNone result (Stays client.old client.new) }
+    requires { C.Tells clock.now now }
+    ensures looks { IfSome result (λ o. LooksUp events.now.engine.now.ids L.recorded (C.Tells clock.now)
+        client.old query.now o client.new) }
+    ensures none { IfNone result
+        (Stays events.now.engine.now.ids (C.Tells clock.now) client.old client.new) }
 {
-    if !may_begin(events, client, now, query) {
+    if !may_begin(events, clock, client, now, query) {
         return None;
     }
     read_beside(alloc, client, query, events.engine.ids())
@@ -74,27 +80,35 @@ fn looked_up<L: EngineName, G: Gate, R: Wait>(
 
 /// Whether a Range may be answered by what is published from now on, once the client was told of
 /// all that the engine has done where the Range asks for that.
-fn may_begin<L: EngineName, G: Gate, R: Wait>(
+fn may_begin<L: EngineName, G: Gate, C: Clock, R: Wait>(
     events: &Recorded<'_, L, G, R>,
+    clock: &C,
     client: &mut Client<L>,
     now: u64,
     query: &RangeQuery,
 ) -> bool
-    ensures { MatchBool result (Begins query.now.serializable client.old client.new)
-        (client.new ≡ left client.old) }
+    requires { C.Tells clock.now now }
+    ensures { MatchBool result (Begins events.now.engine.now.ids L.recorded (C.Tells clock.now)
+        query.now.serializable client.old client.new)
+        (Stays events.now.engine.now.ids (C.Tells clock.now) client.old client.new) }
 {
-    query.serializable || is_caught_up(events, client, now)
+    query.serializable || is_caught_up(events, clock, client, now)
 }
 
-/// Whether the client was told of all that the engine has done. It is not where events are written
-/// down: the Range is to be one of them.
-fn is_caught_up<L: EngineName, G: Gate, R: Wait>(
+/// Whether the client was told of all that the engine has done, by an event at the moment `now`. It is
+/// not where events are written down: the Range is to be one of them.
+fn is_caught_up<L: EngineName, G: Gate, C: Clock, R: Wait>(
     events: &Recorded<'_, L, G, R>,
+    clock: &C,
     client: &mut Client<L>,
     now: u64,
 ) -> bool
-    ensures { MatchBool result (CatchesUp client.old client.new) (client.new ≡ left client.old) }
+    requires { C.Tells clock.now now }
+    ensures { MatchBool result ((L.recorded ≡ false)
+        × CatchesUp events.now.engine.now.ids (C.Tells clock.now) true client.old client.new)
+        (Stays events.now.engine.now.ids (C.Tells clock.now) client.old client.new) }
 {
+    let _ = clock;
     if events.is_recorded() {
         client.leave();
         return false;

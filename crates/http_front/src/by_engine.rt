@@ -1,10 +1,11 @@
 //! An engine answers a connection, on behalf of one of its clients.
-ghost use Rattle.std.specs.Prelude.{◌≡◌, ◌⊎◌, None};
+ghost use Rattle.std.specs.Prelude.{◌≡◌, ◌⊎◌, None, MatchOption};
 ghost use Rattle.json_gateway.specs.Endings.{Refuses, fault_of_reading, is_want};
 ghost use Rattle.http_front.specs.Engines as engines;
-ghost use Rattle.http_front.specs.Engines.{AreTrimmed, Awaits, Does, Looks, Posts, Submits, lost_answer};
+ghost use Rattle.http_front.specs.Engines.{AreTrimmed, Awaits, Does, IsQuiet, Looks, Posts, Says, Submits, lost_answer};
 
 use crate::beside::looked;
+use crate::directed::Standing;
 use engine_lock::{Asked, Client, EngineName, Submitted};
 use http_input::Request;
 use http_loop::{Answering, Told, command_path};
@@ -38,11 +39,11 @@ where
     C: Clock,
     R: Wait + time::Clock,
 {
-    ghost Answers = { λ by. engines.Answers by.events.engine.now };
+    ghost Answers = { λ by. engines.Answers by.events.engine.now.ids L.recorded (C.Tells by.clock.now) };
 
-    ghost Tells = { λ by. engines.Tells by.events.engine.now (G.Left by.events.gate.now by.call) };
+    ghost Tells = { λ by. engines.Tells by.events.engine.now.ids (G.Left by.events.gate.now by.call) };
 
-    ghost Finishes = { λ by. engines.Finishes };
+    ghost Finishes = { λ by. engines.Finishes by.events.engine.now.ids };
 
     fn awaits(&self) {
         self.events.gate.awaits(self.call);
@@ -56,20 +57,18 @@ where
             Ok(command) => {
                 let now = self.clock.now();
                 let asked = Asked::by(&command, path, request.body);
-                done(&self.events, alloc, state, now, &asked)
+                done(&self.events, self.clock, alloc, state, now, &asked)
             }
             Err(bad) => refused(alloc, bad),
         }
     }
 
     /// The next message of a watch. It rests where there is none, or where no memory was found for
-    /// it, and then the stream ends where the client has left.
+    /// it, each of which is a delivery of its own, and then the stream ends where the client has left.
     fn tell(&self, _alloc: Global, state: &mut Client<L>, number: u64) -> Told {
         for _ in self.events.rt.forever() {
-            match self.events.deliver(state, number) {
-                Ok(Message::Text(text)) => return Told::Text(text),
-                Ok(Message::NoWatch) => return Told::End,
-                Ok(Message::Nothing) | Err(_) => {}
+            if let Some(told) = told_next(&self.events, state, number) {
+                return told;
             }
             thread::sleep(self.events.rt, Duration::from_millis(WATCH_REST));
             if self.events.gate.has_left(self.call) {
@@ -87,6 +86,23 @@ where
     }
 }
 
+/// What the stream of a watch is told next; `None` where it is told nothing, or no memory was found.
+fn told_next<L: EngineName, G: Gate, R: Wait>(
+    events: &Recorded<'_, L, G, R>,
+    client: &mut Client<L>,
+    number: u64,
+) -> Option<Told>
+    ensures { MatchOption result (IsQuiet events.now.engine.now.ids number client.old client.new)
+        (λ t. Says events.now.engine.now.ids number client.old t client.new) }
+{
+    match events.deliver(client, number) {
+        Ok(Message::Text(text)) => Some(Told::Text(text)),
+        Ok(Message::NoWatch) => Some(Told::End),
+        Ok(Message::Nothing) => None,
+        Err(_) => None,
+    }
+}
+
 /// The outcome of a request that asks for no command.
 fn refused(alloc: Global, bad: Bad) -> Outcome
     ensures refuses { Refuses result.settled (is_want bad) (fault_of_reading bad) }
@@ -101,27 +117,30 @@ fn refused(alloc: Global, bad: Bad) -> Outcome
     }
 }
 
-/// Does the command that a request asks for: reads a Range beside the engine where it can be, and
-/// else submits it.
-fn done<L: EngineName, G: Gate, R: Wait>(
+/// Does the command that a request asks for, at the moment `now`, which the clock told: reads a Range
+/// beside the engine where it can be, and else submits it.
+fn done<L: EngineName, G: Gate, C: Clock, R: Wait>(
     events: &Recorded<'_, L, G, R>,
+    clock: &C,
     alloc: Global,
     client: &mut Client<L>,
     now: u64,
     asked: &Asked<'_>,
 ) -> Outcome
-    ensures { Submits events.now.engine.now client.old asked.now result client.new
-        ⊎ Looks events.now.engine.now client.old asked.now.command result client.new }
+    requires { C.Tells clock.now now }
+    ensures { Submits events.now.engine.now.ids (C.Tells clock.now) client.old asked.now result client.new
+        ⊎ Looks events.now.engine.now.ids L.recorded (C.Tells clock.now) client.old asked.now.command
+        result client.new }
 {
-    if let Some(outcome) = looked(events, alloc, client, now, asked.command()) {
+    if let Some(outcome) = looked(events, clock, alloc, client, now, asked.command()) {
         return outcome;
     }
-    performed(events, client, now, asked)
+    performed(events, clock, client, now, asked)
 }
 
 /// Does what a POST of this body to this path asks for on behalf of a client, as an event of a script
 /// is done: its command is submitted, a Range too, at the engine's clock, and the trimming that its
-/// answer waits for is done. Where it asks for no command it is refused, and the engine gives nothing.
+/// answer waits for is done. Where it asks for no command it is refused, and no event is made.
 pub fn post<L: EngineName, G: Gate, R: Wait>(
     events: &Recorded<'_, L, G, R>,
     alloc: Global,
@@ -129,26 +148,30 @@ pub fn post<L: EngineName, G: Gate, R: Wait>(
     path: &[u8],
     body: &[u8],
 ) -> Outcome
-    ensures { Posts events.now.engine.now client.old path.now body.now result client.new }
+    ensures { Posts events.now.engine.now.ids client.old path.now body.now result client.new }
 {
     match read(alloc, path, body) {
         Ok(command) => {
             let asked = Asked::by(&command, path, body);
-            performed(events, client, 0, &asked)
+            performed(events, &Standing, client, 0, &asked)
         }
         Err(bad) => refused(alloc, bad),
     }
 }
 
-/// Submits a command, and does the trimming that its answer waits for.
-fn performed<L: EngineName, G: Gate, R: Wait>(
+/// Submits a command at the moment `now`, which the clock told, and does the trimming that its answer
+/// waits for.
+fn performed<L: EngineName, G: Gate, C: Clock, R: Wait>(
     events: &Recorded<'_, L, G, R>,
+    clock: &C,
     client: &mut Client<L>,
     now: u64,
     asked: &Asked<'_>,
 ) -> Outcome
-    ensures { Does events.now.engine.now client.old asked.now result client.new }
+    requires { C.Tells clock.now now }
+    ensures { Does events.now.engine.now.ids (C.Tells clock.now) client.old asked.now result client.new }
 {
+    let _ = clock;
     let submitted = events.submit(client, now, asked);
     awaited(events, client, submitted)
 }
@@ -159,15 +182,15 @@ fn awaited<L: EngineName, G: Gate, R: Wait>(
     client: &mut Client<L>,
     submitted: Submitted,
 ) -> Outcome
-    ensures { Awaits submitted result client.old client.new }
+    ensures { Awaits events.now.engine.now.ids submitted result client.old client.new }
 {
-    if !submitted.outcome.waits {
-        return submitted.outcome;
+    if submitted.outcome.waits {
+        if trim_all(events, client) {
+            return submitted.outcome;
+        }
+        return lost(submitted);
     }
-    if trim_all(events, client) {
-        return submitted.outcome;
-    }
-    lost(submitted)
+    submitted.outcome
 }
 
 /// The outcome of a command that changed the store, and whose answer is lost.
@@ -183,16 +206,17 @@ fn lost(submitted: Submitted) -> Outcome
 }
 
 /// Makes trimming steps until one says that trimming is done, and says that it is. One that is
-/// refused for memory is tried again; after 1,000 refusals in a row it is given up.
+/// refused for memory is tried again; after 1,000 refusals in a row it is given up. Each step that is
+/// not refused is an event of the client.
 fn trim_all<L: EngineName, G: Gate, R: Wait>(
     events: &Recorded<'_, L, G, R>,
     client: &mut Client<L>,
 ) -> bool
-    ensures { AreTrimmed 0 result client.old client.new }
+    ensures { AreTrimmed events.now.engine.now.ids result client.old client.new }
 {
     let mut refusals = 0;
     for _ in events.rt.forever() {
-        match events.trim_for(client) {
+        match events.trim(client) {
             Ok(Trim::Done(_)) => return true,
             Ok(_) => refusals = 0,
             Err(_) => {

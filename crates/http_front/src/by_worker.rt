@@ -22,13 +22,13 @@ pub(crate) struct Serving<L: EngineName> {
 
 impl<L: EngineName> Model for Serving<L> {
     ghost use Rattle.std.specs.Coded.{codes};
-    ghost use Rattle.engine_lock.specs.contracts.past.Given as given;
+    ghost use Rattle.kv_model.specs.contracts.call.Command as commands;
     ghost use Rattle.snapshot_feed.specs.contracts.reader.SnapReader as reads;
     ghost use Rattle.http_front.specs.Handing.{Hands};
 
     ghost Value = { Hands };
 
-    ghost coded = { Prim.hlevel (codes, given.the_row.coded, reads.the_row.coded) };
+    ghost coded = { Prim.hlevel (codes, commands.the_row.coded, reads.the_row.coded) };
 
     ghost view = { λ s. record { client = s.client; handed = s.handed } };
 }
@@ -59,11 +59,11 @@ where
     C: Clock,
     R: Wait + time::Clock,
 {
-    ghost Answers = { λ w. handing.Answers w.by.events.engine.now };
+    ghost Answers = { λ w. handing.Answers w.by.events.engine.now.ids L.recorded (C.Tells w.by.clock.now) };
 
     ghost Tells = { λ w. handing.Tells };
 
-    ghost Finishes = { λ w. handing.Finishes };
+    ghost Finishes = { λ w. handing.Finishes w.by.events.engine.now.ids };
 
     fn awaits(&self) {
         Answering::<Client<L>>::awaits(&self.by);
@@ -81,8 +81,9 @@ where
 
     /// The watch is ended where its stream does not go on elsewhere.
     fn finish(&self, state: &mut Serving<L>, watch: Option<u64>) {
-        if state.handed.is_none() {
-            self.by.finish(&mut state.client, watch);
+        match state.handed {
+            None => self.by.finish(&mut state.client, watch),
+            Some(_) => {}
         }
     }
 }

@@ -1,14 +1,15 @@
 //! A server that somebody ends by hand: no clock, no expiry and no trimming of its own.
 ghost use Rattle.std.specs.Prelude.{IfOk, IfErr};
-ghost use Rattle.engine_lock.specs.Fits.{IsStanding};
+ghost use Rattle.http_front.specs.Closed.{IsClosed};
 ghost use Rattle.http_front.specs.Ends.{IsOfServer};
 
 use crate::begun::{Begun, Limits};
+use crate::duties::Duty;
 use crate::handing::Waking;
 use crate::shared::Shared;
 use crate::threads::{
-    Keeping, Served, clients_of, closed, join_all, join_streaming, keeping_of, start_all,
-    start_streaming, with_client,
+    Keeping, Served, clients_of, closed, join_all, join_streaming, keeping_of, start, start_all,
+    with_client,
 };
 use engine_lock::{Client, Engine, EngineName};
 use http_peer::{Clock, Gate};
@@ -42,6 +43,10 @@ pub trait Directing<L: EngineName> {
 pub(crate) struct Standing;
 
 impl Clock for Standing {
+    ghost use Rattle.std.specs.Prelude.{◌≡◌};
+
+    ghost Tells = { λ c now. now ≡ 0 };
+
     fn now(&self) -> u64 {
         0
     }
@@ -61,8 +66,8 @@ impl Clock for Standing {
 /// What the gate asks for is as by `pool`; it is for the director to tell the gate of its own events,
 /// as [`Recorded`](crate::Recorded) does.
 ///
-/// Fails as [`pool`](crate::pool) does; where a list or a thread is wanting at the start, the
-/// director is not called.
+/// Fails as [`pool`](crate::pool) does, but has to have a client fewer; where a list or a thread is
+/// wanting at the start, the director is not called.
 pub fn pool_directed<L, G, D, R>(
     rt: &R,
     alloc: Global,
@@ -77,15 +82,16 @@ where
     G: Gate + Sync,
     D: Directing<L>,
     R: Wait + Threads + time::Clock + Net + Sync,
-    ensures stands { IfOk result (λ core. IsStanding core) }
+    ensures closed { IfOk result (λ core. IsClosed begun.engine.ids core) }
     ensures fault { IfErr result IsOfServer }
 {
     let Begun { engine, client } = begun;
-    let clients = match clients_of(rt, alloc, &engine, limits.workers) {
+    let mut engine = engine;
+    let clients = match clients_of(rt, alloc, &mut engine, limits.workers) {
         Ok(clients) => clients,
         Err(front) => return Err(front),
     };
-    let (keeping, handing) = match keeping_of(rt, alloc, &engine) {
+    let (keeping, handing) = match keeping_of(rt, alloc, &mut engine) {
         Ok(made) => made,
         Err(front) => return Err(front),
     };
@@ -143,7 +149,11 @@ where
 {
     let Directed { client, keeping } = beside;
     let mut client = client;
-    let keeper = start_streaming(scope, rt, alloc, shared, keeping);
+    let Keeping {
+        client: keeper,
+        watching,
+    } = keeping;
+    let keeper = start(scope, rt, alloc, shared, keeper, Duty::Stream(watching));
     let (working, trouble) = start_all(scope, rt, alloc, shared, clients, keeper.is_some());
     if trouble.is_none() {
         let gate = Waking::new(shared.gate, &shared.handing, true);

@@ -3,13 +3,13 @@
 //!
 //! [`serve_alone`] answers a connection over a core: what is written is what the model of the whole
 //! history answers the bytes that were read. [`work`] answers one over an engine that other threads
-//! change too: it writes the texts of exactly the outcomes that the engine gave its client, one for
-//! each request that was read, or of what that client read beside the engine, and nothing besides
+//! change too: it writes the texts of exactly the outcomes of the events that were made for its client,
+//! one for each request that was read, or of what that client read beside the engine, and nothing besides
 //! (`specs/Engines.antt`). Both are the one loop of
 //! `http_loop`. [`pool`] accepts the connections of a listener and serves each on a thread of its
 //! own by [`work`], beside a thread that trims and one that ends leases; when all have ended it
-//! closes the engine and gives its core, which stands for a world of the model to which events lead
-//! from the opening one, or the fault is one of servers.
+//! closes the engine and gives its core, which stands for the world that the history of all that was done
+//! leads to, or the fault is one of servers.
 //!
 //! A [`Gate`] holds requests back for tests, is told where a request is waited for, and knows
 //! whether a client has left; a [`Clock`] tells the moments by which leases end. The gate and the
@@ -25,7 +25,7 @@
 //! Where the gate says so, the engine writes its events down as the lines of a script, and the gate is
 //! told behind each event, and may take them ([`Recorded`], [`Takes`]).
 //!
-//! Each thread is started in a small function of its own (`threads.rt`): what a thread asks of its
+//! Threads are started in one small function (`start` of `threads.rt`): what a thread asks of its
 //! closure, that it may cross, is proved where little else is known.
 //!
 //! The tests stand in the crate `server_tests`.
@@ -38,6 +38,7 @@ mod by_engine;
 mod by_worker;
 mod connection;
 mod directed;
+mod duties;
 mod handing;
 mod shared;
 mod streaming;

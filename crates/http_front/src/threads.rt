@@ -1,14 +1,15 @@
 //! The threads of a server.
-ghost use Rattle.std.specs.Prelude.{◌≡◌, ◌+◌, map, sum, length, None, Err, IfOk, IfErr, IfSome};
-ghost use Rattle.engine_lock.specs.Fits.{IsStanding};
+ghost use Rattle.std.specs.Prelude.{◌≡◌, ◌+◌, length, None, Err, IfOk, IfErr, IfSome, OnOk, OnErr};
+ghost use Rattle.engine_lock.specs.Entering.{Closes};
+ghost use Rattle.engine_lock.specs.Locked.{IsNew};
+ghost use Rattle.http_front.specs.Closed.{IsClosed};
 ghost use Rattle.http_front.specs.Ends.{IsOfServer, fault_of};
 
-use crate::background::{keep_expiring, keep_trimming};
 use crate::begun::{Begun, Limits};
+use crate::duties::{Duty, Worked, keep};
 use crate::handing::Handing;
 use crate::shared::Shared;
-use crate::streaming::{Watching, keep_streams};
-use crate::workers::{Worked, keep_working};
+use crate::streaming::Watching;
 use engine_lock::{Client, Engine, EngineName};
 use http_peer::{Clock, Gate};
 use http_reply::Front;
@@ -21,8 +22,8 @@ use std::thread::{JoinHandle, Scope, Threads};
 use std::{thread, time};
 
 /// Serves the connections that come in at a listener, and then closes the engine, and gives its
-/// core: it stands for a world of the model to which events lead from the opening one, with all
-/// changes that the connections made.
+/// core: there is one history of events, each of one of some clients; the core stands for the world that
+/// it leads to, and its revision is 1 plus all changes that these clients made (`IsClosed`).
 ///
 /// It runs `workers` threads, each with one connection at a time, to that connection's end or until the
 /// stream of a watch has begun on it; one thread that looks after all such streams; one that trims; and
@@ -44,7 +45,7 @@ use std::{thread, time};
 ///   streams: none is accepted then, either;
 /// - `Front::Accept`, where an accept failed; the worker that made it has ended there, and the
 ///   others went on;
-/// - `Front::Unclosed`, where the engine has no place for a client of each worker and two more, or
+/// - `Front::Unclosed`, where the engine has no place for a client of each worker and three more, or
 ///   where it made clients beside these, which cannot come back.
 pub fn pool<L, G, C, R>(
     rt: &R,
@@ -61,7 +62,7 @@ where
     G: Gate + Sync,
     C: Clock + Sync,
     R: Wait + Threads + time::Clock + Net + Sync,
-    ensures stands { IfOk result (λ core. IsStanding core) }
+    ensures closed { IfOk result (λ core. IsClosed engine.ids core) }
     ensures fault { IfErr result IsOfServer }
 {
     let limits = Limits {
@@ -89,23 +90,32 @@ where
     G: Gate + Sync,
     C: Clock + Sync,
     R: Wait + Threads + time::Clock + Net + Sync,
-    ensures stands { IfOk result (λ core. IsStanding core) }
+    ensures closed { IfOk result (λ core. IsClosed begun.engine.ids core) }
     ensures fault { IfErr result IsOfServer }
 {
     let Begun {
         engine,
         client: expirer,
     } = begun;
-    let clients = match clients_of(rt, alloc, &engine, limits.workers) {
+    let mut engine = engine;
+    let clients = match clients_of(rt, alloc, &mut engine, limits.workers) {
         Ok(clients) => clients,
         Err(front) => return Err(front),
     };
-    let (keeping, handing) = match keeping_of(rt, alloc, &engine) {
+    let trimmer = match client_of(rt, &mut engine) {
+        Ok(client) => client,
+        Err(front) => return Err(front),
+    };
+    let (keeping, handing) = match keeping_of(rt, alloc, &mut engine) {
         Ok(made) => made,
         Err(front) => return Err(front),
     };
     let shared = Shared::new(&engine, gate, clock, listener, limits.connections, handing);
-    let beside = Beside { expirer, keeping };
+    let beside = Beside {
+        trimmer,
+        expirer,
+        keeping,
+    };
     let Served { clients, trouble } = run_threads(rt, alloc, &shared, clients, beside);
     drop(shared);
     closed(rt, engine, clients, trouble)
@@ -121,6 +131,7 @@ pub(crate) struct Keeping<L: EngineName> {
 /// What the threads beside the workers begin with.
 #[derive(Drop)]
 struct Beside<L: EngineName> {
+    trimmer: Client<L>,
     expirer: Client<L>,
     keeping: Keeping<L>,
 }
@@ -129,12 +140,15 @@ struct Beside<L: EngineName> {
 pub(crate) fn keeping_of<L: EngineName, R: Wait + Net>(
     rt: &R,
     alloc: Global,
-    engine: &Engine<L>,
+    engine: &mut Engine<L>,
 ) -> Result<(Keeping<L>, Handing), Front>
+    ensures made { OnOk result (engine.new ≡ record engine.old { clients = engine.old.clients + 1 }) }
     ensures fault { IfErr result IsOfServer }
+    ensures ids { engine.new.ids ≡ engine.old.ids }
 {
-    let Ok(client) = engine.client(rt) else {
-        return Err(Front::Unclosed);
+    let client = match client_of(rt, engine) {
+        Ok(client) => client,
+        Err(front) => return Err(front),
     };
     match Watching::new(rt, alloc) {
         Ok((watching, handing)) => Ok((Keeping { client, watching }, handing)),
@@ -165,20 +179,37 @@ fn front_of(trouble: Trouble) -> Front
     }
 }
 
-/// So many clients.
+/// A client.
+fn client_of<L: EngineName, R: Wait>(rt: &R, engine: &mut Engine<L>) -> Result<Client<L>, Front>
+    ensures new { IfOk result IsNew }
+    ensures made { OnOk result (engine.new ≡ record engine.old { clients = engine.old.clients + 1 }) }
+    ensures unmade { OnErr result (engine.new ≡ engine.old) }
+    ensures fault { IfErr result IsOfServer }
+{
+    match engine.client(rt) {
+        Ok(client) => Ok(client),
+        Err(_) => Err(Front::Unclosed),
+    }
+}
+
+/// So many clients, and no others.
 pub(crate) fn clients_of<L: EngineName, R: Wait>(
     rt: &R,
     alloc: Global,
-    engine: &Engine<L>,
+    engine: &mut Engine<L>,
     count: u64,
 ) -> Result<Vec<Client<L>>, Front>
     ensures count { IfOk result (λ clients. length clients.items ≡ count) }
+    ensures made { OnOk result
+        (engine.new ≡ record engine.old { clients = engine.old.clients + count }) }
     ensures fault { IfErr result IsOfServer }
+    ensures ids { engine.new.ids ≡ engine.old.ids }
 {
     let mut clients = Vec::new(alloc);
     for _ in 0..count {
-        let Ok(client) = engine.client(rt) else {
-            return Err(Front::Unclosed);
+        let client = match client_of(rt, engine) {
+            Ok(client) => client,
+            Err(front) => return Err(front),
         };
         if clients.push(client).is_err() {
             return Err(Front::Memory);
@@ -187,17 +218,16 @@ pub(crate) fn clients_of<L: EngineName, R: Wait>(
     Ok(clients)
 }
 
-/// Closes an engine whose threads have ended, and gives its core: it has all changes of the
-/// clients.
+/// Closes an engine whose threads have ended, and gives its core: the world that it stands for is
+/// that of the history of all that was done, each event of which is of one of these clients.
 pub(crate) fn closed<L: EngineName, R: Wait>(
     rt: &R,
     engine: Engine<L>,
     clients: Vec<Client<L>>,
     trouble: Option<Trouble>,
 ) -> Result<Core, Front>
-    ensures stands { IfOk result (λ core. IsStanding core) }
-    ensures total { IfOk result
-        (λ core. core.store.revision ≡ 1 + sum (map (λ c. c.made) clients.items)) }
+    ensures closed { IfOk result (λ core. IsClosed engine.ids core) }
+    ensures closes { IfOk result (λ core. Closes engine.ids core clients.items) }
     ensures told { IfSome trouble (λ t. result ≡ Err (fault_of t)) }
     ensures fault { IfErr result IsOfServer }
 {
@@ -230,12 +260,12 @@ where
     R: Wait + Threads + time::Clock + Sync,
 {
     thread::scope(thread::scope_env(), rt, move |scope| {
-        serve_trimmed(scope, rt, alloc, shared, clients, beside)
+        serve_beside(scope, rt, alloc, shared, clients, beside)
     })
 }
 
-/// Serves, with a thread that trims until that has ended.
-fn serve_trimmed<'s, E, L, G, C, R>(
+/// Serves, with the threads beside the workers, which end behind them.
+fn serve_beside<'s, E, L, G, C, R>(
     scope: &Scope<'s, E>,
     rt: &'s R,
     alloc: Global,
@@ -249,43 +279,22 @@ where
     C: Clock + Sync + 's,
     R: Wait + Threads + time::Clock + Sync + 's,
 {
-    let trimmer = start_trimming(scope, rt, shared);
-    let served = serve_expiring(scope, rt, alloc, shared, clients, beside, trimmer.is_some());
-    if let Some(handle) = trimmer {
-        handle.join(rt);
-    }
-    served
-}
-
-/// Serves, with a thread that ends leases until that has ended, and then lets the threads beside it
-/// end. `trims` tells whether the one that trims was started.
-fn serve_expiring<'s, E, L, G, C, R>(
-    scope: &Scope<'s, E>,
-    rt: &'s R,
-    alloc: Global,
-    shared: &'s Shared<'s, L, G, C>,
-    clients: Vec<Client<L>>,
-    beside: Beside<L>,
-    trims: bool,
-) -> Served<L>
-where
-    L: EngineName + Send + Sync + 's,
-    G: Gate + Sync + 's,
-    C: Clock + Sync + 's,
-    R: Wait + Threads + time::Clock + Sync + 's,
-{
-    let Beside { expirer, keeping } = beside;
-    let expirer = start_expiring(scope, rt, shared, expirer);
-    let keeper = start_streaming(scope, rt, alloc, shared, keeping);
-    let all = trims && expirer.is_some() && keeper.is_some();
+    let Beside {
+        trimmer,
+        expirer,
+        keeping,
+    } = beside;
+    let Keeping { client, watching } = keeping;
+    let trimmer = start(scope, rt, alloc, shared, trimmer, Duty::Trim);
+    let expirer = start(scope, rt, alloc, shared, expirer, Duty::Expire);
+    let keeper = start(scope, rt, alloc, shared, client, Duty::Stream(watching));
+    let all = trimmer.is_some() && expirer.is_some() && keeper.is_some();
     let (working, trouble) = start_all(scope, rt, alloc, shared, clients, all);
     let served = join_all(rt, alloc, working, trouble);
     let served = join_streaming(rt, shared, served, keeper);
     shared.ended.store(true, Ordering::SeqCst);
-    match expirer {
-        Some(handle) => with_client(served, handle.join(rt)),
-        None => served,
-    }
+    let served = join_one(rt, served, expirer);
+    join_one(rt, served, trimmer)
 }
 
 /// Joins the thread that looks after streams, once no further one is handed to it.
@@ -293,11 +302,20 @@ pub(crate) fn join_streaming<L: EngineName, G, C, R: Threads>(
     rt: &R,
     shared: &Shared<'_, L, G, C>,
     served: Served<L>,
-    keeper: Option<JoinHandle<Client<L>>>,
+    keeper: Option<JoinHandle<Worked<L>>>,
 ) -> Served<L> {
     shared.handing.close();
-    match keeper {
-        Some(handle) => with_client(served, handle.join(rt)),
+    join_one(rt, served, keeper)
+}
+
+/// Joins a thread, if it was started.
+fn join_one<L: EngineName, R: Threads>(
+    rt: &R,
+    served: Served<L>,
+    thread: Option<JoinHandle<Worked<L>>>,
+) -> Served<L> {
+    match thread {
+        Some(handle) => with_worked(served, handle.join(rt)),
         None => served,
     }
 }
@@ -328,64 +346,6 @@ where
     (working, trouble)
 }
 
-/// Starts the thread that trims; `None` where no thread could be started.
-fn start_trimming<'s, E, L, G, C, R>(
-    scope: &Scope<'s, E>,
-    rt: &'s R,
-    shared: &'s Shared<'s, L, G, C>,
-) -> Option<JoinHandle<()>>
-where
-    L: EngineName + Send + Sync + 's,
-    G: Gate + Sync + 's,
-    C: Sync + 's,
-    R: Wait + time::Clock + Sync + 's,
-{
-    match scope.spawn(move || keep_trimming(rt, shared)) {
-        Ok(handle) => Some(handle),
-        Err(_) => None,
-    }
-}
-
-/// Starts the thread that ends leases; `None` where no thread could be started.
-fn start_expiring<'s, E, L, G, C, R>(
-    scope: &Scope<'s, E>,
-    rt: &'s R,
-    shared: &'s Shared<'s, L, G, C>,
-    client: Client<L>,
-) -> Option<JoinHandle<Client<L>>>
-where
-    L: EngineName + Send + Sync + 's,
-    G: Gate + Sync + 's,
-    C: Clock + Sync + 's,
-    R: Wait + time::Clock + Sync + 's,
-{
-    match scope.spawn(move || keep_expiring(rt, shared, client)) {
-        Ok(handle) => Some(handle),
-        Err(_) => None,
-    }
-}
-
-/// Starts the thread that looks after streams; `None` where no thread could be started.
-pub(crate) fn start_streaming<'s, E, L, G, C, R>(
-    scope: &Scope<'s, E>,
-    rt: &'s R,
-    alloc: Global,
-    shared: &'s Shared<'s, L, G, C>,
-    keeping: Keeping<L>,
-) -> Option<JoinHandle<Client<L>>>
-where
-    L: EngineName + Send + Sync + 's,
-    G: Gate + Sync + 's,
-    C: Clock + Sync + 's,
-    R: Wait + time::Clock + Sync + 's,
-{
-    let Keeping { client, watching } = keeping;
-    match scope.spawn(move || keep_streams(rt, alloc, shared, watching, client)) {
-        Ok(handle) => Some(handle),
-        Err(_) => None,
-    }
-}
-
 /// Starts a worker for each client, and tells why one has none.
 fn start_workers<'s, E, L, G, C, R>(
     scope: &Scope<'s, E>,
@@ -404,7 +364,7 @@ where
     let mut working = Vec::new(alloc);
     let mut trouble = None;
     for client in clients {
-        match start_working(scope, rt, alloc, shared, client) {
+        match start(scope, rt, alloc, shared, client, Duty::Work) {
             Some(handle) => {
                 if working.push(handle).is_err() {
                     trouble = Some(Trouble::Memory);
@@ -416,13 +376,14 @@ where
     (working, trouble)
 }
 
-/// Starts a worker; `None` where no thread could be started.
-fn start_working<'s, E, L, G, C, R>(
+/// Starts a thread that does this by a client; `None` where no thread could be started.
+pub(crate) fn start<'s, E, L, G, C, R>(
     scope: &Scope<'s, E>,
     rt: &'s R,
     alloc: Global,
     shared: &'s Shared<'s, L, G, C>,
     client: Client<L>,
+    duty: Duty,
 ) -> Option<JoinHandle<Worked<L>>>
 where
     L: EngineName + Send + Sync + 's,
@@ -430,7 +391,7 @@ where
     C: Clock + Sync + 's,
     R: Wait + time::Clock + Sync + 's,
 {
-    match scope.spawn(move || keep_working(rt, alloc, shared, client)) {
+    match scope.spawn(move || keep(rt, alloc, shared, client, duty)) {
         Ok(handle) => Some(handle),
         Err(_) => None,
     }
@@ -448,13 +409,19 @@ pub(crate) fn join_all<L: EngineName, R: Threads>(
         trouble,
     };
     for handle in working {
-        let Worked { client, failed } = handle.join(rt);
-        if failed {
-            served.trouble = Some(served.trouble.unwrap_or(Trouble::Accept));
-        }
-        served = with_client(served, client);
+        served = with_worked(served, handle.join(rt));
     }
     served
+}
+
+/// One more thread has ended.
+fn with_worked<L: EngineName>(served: Served<L>, worked: Worked<L>) -> Served<L> {
+    let Worked { client, failed } = worked;
+    let mut served = served;
+    if failed {
+        served.trouble = Some(served.trouble.unwrap_or(Trouble::Accept));
+    }
+    with_client(served, client)
 }
 
 /// One more client came back.

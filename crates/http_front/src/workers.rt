@@ -2,6 +2,7 @@
 
 use crate::by_worker::Serving;
 use crate::connection::work_on;
+use crate::duties::Worked;
 use crate::handing::{Handed, Waking};
 use crate::shared::Shared;
 use engine_lock::{Client, EngineName};
@@ -12,14 +13,6 @@ use std::net::TcpStream;
 use std::sync::Wait;
 use std::sync::atomic::Ordering;
 use std::{io, time};
-
-/// What a worker hands back: its client, with the changes that it made, and whether an accept
-/// failed.
-#[derive(Drop)]
-pub(crate) struct Worked<L: EngineName> {
-    pub(crate) client: Client<L>,
-    pub(crate) failed: bool,
-}
 
 /// Serves one connection after the other, until no further one comes in or an accept fails.
 pub(crate) fn keep_working<L, G, C, R>(
@@ -41,12 +34,7 @@ where
                 serve(rt, alloc, &*shared, &mut serving, call, &stream);
                 hand_on(rt, shared, &mut serving, call, stream);
             }
-            Ok(None) => {
-                return Worked {
-                    client: serving.client,
-                    failed: false,
-                };
-            }
+            Ok(None) => return Worked::whole(serving.client),
             Err(_) => {
                 return Worked {
                     client: serving.client,

@@ -1,6 +1,6 @@
 //! What a server asks of whoever runs it: when a request may go on, what time it is, and whether a
 //! client has left; and whether its events are written down.
-ghost use Rattle.std.specs.Prelude.{◌≡◌, ℕ, true, ⊤};
+ghost use Rattle.std.specs.Prelude.{◌≡◌, ℕ, Bool, List, true, ⊤};
 
 /// Is told of each request of a server. A test holds requests back by it.
 pub trait Gate {
@@ -41,9 +41,13 @@ pub trait Gate {
 
 /// Has the lines of the events that a server has made.
 pub trait Takes {
+    /// What a text is that was taken, where this says whether no line is missing.
+    ghost Gives: { Self → List ℕ → Bool → Type 0 };
+
     /// Puts the lines that were not taken yet in place of what a list had. Says whether they are all:
     /// where they are not, none will come.
-    fn take(&self, text: &mut Vec<u8>) -> bool;
+    fn take(&self, text: &mut Vec<u8>) -> bool
+        ensures { Gives self.now text.new.items result };
 }
 
 /// Holds no request back.
@@ -58,6 +62,10 @@ impl Gate for OpenGate {
 
 /// Tells the moments by which leases end.
 pub trait Clock {
+    /// Which moment it tells.
+    ghost Tells: { Self → ℕ → Type 0 } = { λ _ _. ⊤ };
+
     /// The moment, in milliseconds. One before an earlier one counts as that.
-    fn now(&self) -> u64;
+    fn now(&self) -> u64
+        ensures { Tells self.now result };
 }

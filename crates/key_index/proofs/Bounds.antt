@@ -9,7 +9,7 @@ use Rattle.kv_model.specs.declared.version.Rev.{Rev}
 use Rattle.kv_model.specs.declared.version.Version.{Version}
 use Rattle.store_laws.proofs.PlaceLaws.{each-map, each-append, each-filter}
 use Rattle.key_index.specs.KeyRevisions.{AreUpTo, newest, is_last_up_to, ends_up_to, is_rev, undone, without}
-use Rattle.key_index.specs.Index.{Index, IsIndex, IsBound, found, revisions, added, with_revision, with_revisions}
+use Rattle.key_index.specs.Index.{Index, IsIndex, IsBound, found, revisions, added, with_revision, with_revisions, without_revision}
 use Rattle.key_index.specs.Index.{is_up_to, retracted, retracted_newest}
 use Rattle.key_index.proofs.KeyRevisions.{each-undone}
 use Rattle.key_index.proofs.Entries.{has, each-set, each-insert, each-remove, index-with_revisions}
@@ -76,6 +76,11 @@ bound-changed f n u k i h = (
   index-with_revisions k (f (revisions k i)) i h.0,
   bound-with_revisions n k (f (revisions k i)) (u (revisions k i) (bound-revisions n k i h.1)) i h.1,
 )
+
+pub bound-trimmed : (p : Rev) (b : Bool) (n : ℕ) (k : List ℕ) (i : Index) → IsIndex i × IsBound n i
+    → let j = cond b (without_revision k p i) (with_revisions k (revisions k i) i) in IsIndex j × IsBound n j
+bound-trimmed p true n k i h = bound-changed (without p) n (up_to-without n p) k i h
+bound-trimmed p false n k i h = bound-changed (λ qs. qs) n (λ qs u. u) k i h
 
 -- ---- where no later main revision is there
 

@@ -130,7 +130,7 @@ remove-absent k (f ∷ es) e = by (has k f.0) e (λ g. remove-absent k es g)
 absent-with_revisions : (k : List ℕ) (ms : List Rev) (i : Index) → found k i ≡ None → ms ≡ [] → i ≡ with_revisions k ms i
 absent-with_revisions k ms i e h = sym (ap (λ l. with_revisions k l i) h ∙ remove-absent k i e)
 
-remove-set : (k : List ℕ) (ms : List Rev) (i : Index) → remove_entry (has k) (set_value (has k) i ms) ≡ remove_entry (has k) i
+pub remove-set : (k : List ℕ) (ms : List Rev) (i : Index) → remove_entry (has k) (set_value (has k) i ms) ≡ remove_entry (has k) i
 remove-set k ms [] = refl
 remove-set k ms (f ∷ es) = by (has k f.0) refl (remove-set k ms es)
   where

@@ -4,4 +4,6 @@ pub mod Entries
 pub mod Bounds
 pub mod Agrees
 pub mod Walks
+pub mod InPlace
+pub mod Intervals
 pub mod Retracting

@@ -71,3 +71,8 @@ retracted_newest main cs i = if is_up_to main i then retracted main cs i else i
 -- the keys of a range, with their revisions
 abbrev pub in_interval : KeyRange → Index → Index
 in_interval r i = filter (λ e. in_range r e.0) i
+
+-- the first key, where it is this one
+abbrev pub first_same : List ℕ → Index → Index
+first_same k [] = []
+first_same k (e ∷ es) = if is_key (key_cmp k) e.0 then e ∷ [] else []

@@ -30,6 +30,14 @@ second_after p [] = None
 second_after p (q ∷ []) = None
 second_after p (q ∷ r ∷ qs) = if rev_le q p && rev_lt p r then Some r else None
 
+abbrev pub is_rev_up_to : ℕ → Option Rev → Bool
+is_rev_up_to main None = false
+is_rev_up_to main (Some q) = nat_le q.main main
+
+-- the first revision after the place is of a main revision up to this one
+abbrev pub is_followed : Rev → ℕ → List Rev → Bool
+is_followed p main qs = is_rev_up_to main (after_place p qs)
+
 -- how many revisions are not after the place, where they rise
 abbrev pub count_up_to : Rev → List Rev → ℕ
 count_up_to p qs = rising.count_while (λ q. rev_le q p) qs

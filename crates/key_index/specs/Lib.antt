@@ -3,3 +3,4 @@ pub mod Index
 pub mod Agrees
 pub mod Lent
 pub mod Held
+pub mod Taken

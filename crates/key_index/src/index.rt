@@ -1,26 +1,27 @@
 //! From each key to its revisions (etcd: the tree index of keys).
-ghost use Rattle.std.specs.Prelude.{◌≡◌, List, [], ◌++◌, map, option_copied, OnOk, OnErr, IfOk};
+ghost use Rattle.std.specs.Prelude.{◌≡◌, List, [], ◌++◌, ◌||◌, if◌then◌else◌, map};
+ghost use Rattle.std.specs.Prelude.{option_copied, OnOk, OnErr, IfOk};
 ghost use Rattle.kv_model.specs.declared.version.Version.{Version};
 ghost use Rattle.key_index.specs.Agrees.{Agrees, IsBelow, AreOf};
-ghost use Rattle.key_index.specs.KeyRevisions.{IsBehind, after_place, at_place};
+ghost use Rattle.key_index.specs.KeyRevisions.{IsBehind, after_place, at_place, is_followed};
 ghost use Rattle.key_index.specs.Index.{IsIndex, found, in_interval, is_up_to, revisions};
 ghost use Rattle.key_index.specs.Index.{retracted, retracted_newest, undone_at};
 ghost use Rattle.key_index.specs.Index.{with_revision, without_front, without_revision};
 
-use crate::changes;
-use crate::interval::bounds;
 use crate::revisions::Revisions;
+use crate::{changes, interval};
 use bytes::Bytes;
+use key_pages::{KeyPages, Walk};
+use kv_model::span::Span;
 use kv_model::version::{KeyRange, Rev, Version};
 use std::alloc::{AllocError, Global};
-use std::collections::BTreeMap;
 use std::marker::Model;
 
-/// The revisions of each key: an ordered map of the standard library.
+/// The revisions of each key: a sorted map in pages.
 #[derive(Drop)]
 pub struct KeyIndex {
     alloc: Global,
-    keys: BTreeMap<Bytes, Revisions>,
+    keys: KeyPages<Revisions>,
     /// The newest main revision ever added. None in the index is above it.
     newest: u64,
 }
@@ -30,9 +31,9 @@ impl Model for KeyIndex {
 
     ghost Value = { Index };
 
-    ghost view = { λ x. x.keys.entries };
+    ghost view = { λ x. x.keys };
 
-    ghost invariant = { λ x. IsIndex x.keys.entries × IsBound x.newest x.keys.entries };
+    ghost invariant = { λ x. IsIndex x.keys × IsBound x.newest x.keys };
 }
 
 /// A key of the index, lent with its revisions.
@@ -51,7 +52,7 @@ impl KeyIndex {
     {
         KeyIndex {
             alloc,
-            keys: BTreeMap::new(alloc),
+            keys: KeyPages::new(alloc),
             newest: 0,
         }
     }
@@ -93,7 +94,7 @@ impl KeyIndex {
     fn is_up_to(&self, main: u64) -> bool
         ensures { result ≡ is_up_to main self.now }
     {
-        main >= self.newest || is_up_to(&self.keys, main)
+        main >= self.newest || is_up_to(self.keys.all(), main)
     }
 
     /// Drops what the keys of the changes have of a main revision at the end.
@@ -128,6 +129,20 @@ impl KeyIndex {
         ensures { self.new ≡ without_revision key.now rev self.old }
     {
         changes::drop_at(&mut self.keys, key, rev);
+    }
+
+    /// Takes out a revision of a key where the next one of the key is of a main revision up to
+    /// another, or where it is to go anyway, and tells whether it goes; a revision that the key has
+    /// not changes nothing. It is one look-up, for `after` and `remove`. Takes no memory.
+    ///
+    /// The time is logarithmic in the number of keys where it is the oldest revision of the key,
+    /// and else linear in that of the key's revisions too.
+    pub fn trim(&mut self, key: &Bytes, rev: Rev, main: u64, anyway: bool) -> bool
+        ensures told { result ≡ (is_followed rev main (revisions key.now self.old) || anyway) }
+        ensures value { self.new
+            ≡ if result then without_revision key.now rev self.old else self.old }
+    {
+        changes::trim(&mut self.keys, key, rev, main, anyway)
     }
 
     /// The revisions of a key, lent: none where the index has not the key. Takes no memory, and
@@ -173,16 +188,26 @@ impl KeyIndex {
         ensures keys { IfOk result (λ v. map entry_of v.items ≡ in_interval range.now self.now) }
         ensures sound { IsIndex self.now }
     {
-        self.keys
-            .range(bounds(range))
-            .map(|(key, revisions)| Indexed { key, revisions })
-            .collect(self.alloc)
+        match range.span() {
+            Span::Key(key) => interval::first(self.alloc, self.keys.from(key), key),
+            Span::All => interval::all(self.alloc, self.keys.all()),
+            Span::From(from) => interval::all(self.alloc, self.keys.from(from)),
+            Span::Interval { from, to } => {
+                interval::all_below(self.alloc, self.keys.from(from), to)
+            }
+        }
     }
 }
 
 /// Whether no key has a revision of a later main revision. Walks over the keys, until one has.
-fn is_up_to(keys: &BTreeMap<Bytes, Revisions>, main: u64) -> bool
-    ensures { result ≡ is_up_to main keys.now.entries }
+fn is_up_to(walk: Walk<'_, Revisions>, main: u64) -> bool
+    ensures { result ≡ is_up_to main walk.entry }
 {
-    keys.values().all(|revisions| revisions.ends_up_to(main))
+    let mut walk = walk;
+    'walking: while let Some((_, revisions)) = walk.next() {
+        if !revisions.ends_up_to(main) {
+            return false;
+        }
+    }
+    true
 }

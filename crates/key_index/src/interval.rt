@@ -1,29 +1,60 @@
-//! A range of keys as the bounds of a walk.
-ghost use Rattle.std.specs.Prelude.{◌≡◌, ℕ, List};
-ghost use Rattle.std.specs.Range.Bound.{bound_map, IsForward};
-ghost use Rattle.std.specs.BTreeMap.Range.{IsLeBy, IsLtBy, range_contains};
-ghost use Rattle.kv_model.specs.Keys.{in_range, key_cmp};
+//! The keys of a walk, listed.
+ghost use Rattle.std.specs.Prelude.{◌≡◌, map, IfOk};
+ghost use Rattle.key_pages.specs.Pairs.{IsAscending, below_key};
+ghost use Rattle.key_index.specs.Index.{first_same};
+ghost use Rattle.key_index.specs.Lent.{entry_of};
 
+use crate::index::Indexed;
+use crate::revisions::Revisions;
 use bytes::Bytes;
-use kv_model::span::Span;
-use kv_model::version::KeyRange;
-use std::ops::Bound;
+use key_pages::{Walk, order};
+use std::alloc::{AllocError, Global};
 
-/// The bounds between which the keys of a range lie (etcd: key ranges of a RangeRequest). With an
-/// end that is not above the key there are none between them.
-pub(crate) fn bounds(range: &KeyRange) -> (Bound<&Bytes>, Bound<&Bytes>)
-    ensures forward { IsForward (IsLeBy key_cmp) (IsLtBy key_cmp)
-        (bound_map (λ x. x.now) result.0) (bound_map (λ x. x.now) result.1) }
-    ensures contains { (k : List ℕ) → range_contains key_cmp
-        (bound_map (λ x. x.now) result.0) (bound_map (λ x. x.now) result.1) k ≡ in_range range.now k }
+/// All keys of a walk. The error is want of memory.
+pub(crate) fn all<'a>(
+    alloc: Global,
+    walk: Walk<'a, Revisions>,
+) -> Result<Vec<Indexed<'a>>, AllocError>
+    ensures { IfOk result (λ v. map entry_of v.items ≡ walk.entry) }
 {
-    match range.span() {
-        Span::Key(key) => (Bound::Included(key), Bound::Included(key)),
-        Span::All => (Bound::Unbounded, Bound::Unbounded),
-        Span::From(from) => (Bound::Included(from), Bound::Unbounded),
-        Span::Interval { from, to } if to.cmp(from).is_lt() => {
-            (Bound::Included(from), Bound::Excluded(from))
-        }
-        Span::Interval { from, to } => (Bound::Included(from), Bound::Excluded(to)),
+    let mut keys = Vec::new(alloc);
+    let mut walk = walk;
+    'listing: while let Some((key, revisions)) = walk.next() {
+        keys.push(Indexed { key, revisions })?;
     }
+    Ok(keys)
+}
+
+/// The keys of a walk that are below another key. The error is want of memory.
+pub(crate) fn all_below<'a>(
+    alloc: Global,
+    walk: Walk<'a, Revisions>,
+    end: &Bytes,
+) -> Result<Vec<Indexed<'a>>, AllocError>
+    ensures { IfOk result (λ v. map entry_of v.items ≡ below_key end.now walk.entry) }
+{
+    let mut keys = Vec::new(alloc);
+    let mut walk = walk;
+    'listing: while let Some((key, revisions)) = walk.next_below(end) {
+        keys.push(Indexed { key, revisions })?;
+    }
+    Ok(keys)
+}
+
+/// The first key of a walk where it is another. The error is want of memory.
+pub(crate) fn first<'a>(
+    alloc: Global,
+    walk: Walk<'a, Revisions>,
+    one: &Bytes,
+) -> Result<Vec<Indexed<'a>>, AllocError>
+    ensures { IfOk result (λ v. map entry_of v.items ≡ first_same one.now walk.entry) }
+{
+    let mut keys = Vec::new(alloc);
+    let mut walk = walk;
+    if let Some((key, revisions)) = walk.next() {
+        if order(one.as_slice(), key.as_slice()).is_eq() {
+            keys.push(Indexed { key, revisions })?;
+        }
+    }
+    Ok(keys)
 }

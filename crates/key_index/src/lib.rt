@@ -35,6 +35,7 @@ mod changes;
 pub mod index;
 mod interval;
 pub mod revisions;
+mod taken;
 
 pub use index::{Indexed, KeyIndex};
 pub use revisions::Revisions;

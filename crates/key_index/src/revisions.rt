@@ -8,7 +8,7 @@ ghost use Rattle.kv_model.specs.Lists.{is_empty};
 ghost use Rattle.kv_model.specs.History.{rev_lt, rev_le};
 ghost use Rattle.key_index.specs.KeyRevisions.{IsBehind, IsRising, after_place, at_place};
 ghost use Rattle.key_index.specs.KeyRevisions.{count_before, count_up_to, ends_in, ends_up_to};
-ghost use Rattle.key_index.specs.KeyRevisions.{is_oldest, is_rev, newest, second_after, undone, without};
+ghost use Rattle.key_index.specs.KeyRevisions.{is_followed, is_oldest, is_rev, newest, second_after, undone, without};
 
 use kv_model::version::Rev;
 use std::alloc::{AllocError, Global};
@@ -101,6 +101,17 @@ impl Revisions {
                 }
             }
             Held::Many(revisions) => after(revisions, place),
+        }
+    }
+
+    /// Whether the first revision after a place is of a main revision up to another. Takes no memory,
+    /// and the time of `after`.
+    pub(crate) fn is_followed(&self, place: Rev, main: u64) -> bool
+        ensures { result ≡ is_followed place main self.now }
+    {
+        match self.after(place) {
+            Some(next) => next.main <= main,
+            None => false,
         }
     }
 

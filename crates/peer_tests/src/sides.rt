@@ -1,5 +1,5 @@
 //! Who answers a connection: a core by itself, or an engine on behalf of one of its clients.
-ghost use Rattle.std.specs.Prelude.{◌≡◌};
+ghost use Rattle.std.specs.Prelude.{◌≡◌, false};
 
 use crate::peers::{Coming, Going, Then, short, willing};
 use crate::texts::{CREATED, PUT, PUT_REPLY, REPLIES, REQUESTS};
@@ -105,15 +105,17 @@ fn worked<L: EngineName, R: Wait + time::Clock>(
 ) -> Option<End>
     requires name { opening.name ≡ L.Ledger.name }
     requires parts { opening.parts ≡ L.Ledger.parts }
-    requires book { opening.book ≡ L.book }
+    requires book { opening.book ≡ L.ListName.book }
+    requires recorded { L.recorded ≡ false }
+    requires ids { L.ListName.ids ≡ record { cluster = 1; member = 1 } }
 {
-    let engine = Engine::<L>::new(alloc, opening, ONES);
+    let mut engine = Engine::<L>::new(alloc, opening, ONES);
     let mut client = engine.client(rt).ok()?;
     let ended = work(rt, alloc, &engine, &mut client, &Impatient, &Still, 1, r, w);
     Some(End {
         ended,
         revision: client.share().saturating_add(1),
-        is_watched: !is_nothing(&engine.deliver(rt, 1)),
+        is_watched: !is_nothing(&engine.deliver(rt, &mut client, 1)),
     })
 }
 
@@ -140,9 +142,11 @@ fn left<L: EngineName, R: Wait + time::Clock>(
 ) -> Option<u64>
     requires name { opening.name ≡ L.Ledger.name }
     requires parts { opening.parts ≡ L.Ledger.parts }
-    requires book { opening.book ≡ L.book }
+    requires book { opening.book ≡ L.ListName.book }
+    requires recorded { L.recorded ≡ false }
+    requires ids { L.ListName.ids ≡ record { cluster = 1; member = 1 } }
 {
-    let engine = Engine::<L>::new(alloc, opening, ONES);
+    let mut engine = Engine::<L>::new(alloc, opening, ONES);
     let Ok(mut client) = engine.client(rt) else {
         return Some(0);
     };
@@ -195,5 +199,5 @@ fn leaves<L: EngineName, R: Wait + time::Clock>(
     let goes = w.into_inner();
     let is_made = goes.got.as_slice() == &REPLIES[PUT_REPLY..PUT_REPLY + CREATED];
     drop(goes);
-    is_made && ended == Err(Front::Write(0)) && is_nothing(&engine.deliver(rt, number))
+    is_made && ended == Err(Front::Write(0)) && is_nothing(&engine.deliver(rt, client, number))
 }

@@ -1,5 +1,5 @@
 //! Streams that stand: each call of them, over an engine, and how each of them ends.
-ghost use Rattle.std.specs.Prelude.{◌≡◌, ⊤};
+ghost use Rattle.std.specs.Prelude.{◌≡◌, ⊤, false};
 
 use crate::sides::ONES;
 use engine_lock::{Asked, Client, Engine, EngineName, Opening};
@@ -146,23 +146,21 @@ fn are_told<L: EngineName, R: Wait>(
 /// Whether no watch of this number stands.
 fn is_gone<L: EngineName, R: Wait>(
     events: &Events<'_, L, R>,
+    client: &mut Client<L>,
     streams: &Streams<L, Socket>,
     number: u64,
 ) -> bool {
-    streams.get(number).is_none()
-        && matches!(
-            events.engine.deliver(events.rt, number),
-            Ok(Message::NoWatch)
-        )
+    streams.get(number).is_none() && matches!(events.deliver(client, number), Ok(Message::NoWatch))
 }
 
 /// Whether none of the watches 1 to 4 stands.
 fn are_gone<L: EngineName, R: Wait>(
     events: &Events<'_, L, R>,
+    client: &mut Client<L>,
     streams: &Streams<L, Socket>,
 ) -> bool {
     for number in 1..=4 {
-        if !is_gone(events, streams, number) {
+        if !is_gone(events, client, streams, number) {
             return false;
         }
     }
@@ -203,11 +201,14 @@ fn are_ended<L: EngineName, R: Wait>(
 fn stand<L: EngineName, R: Wait>(rt: &R, alloc: Global, opening: Opening) -> Option<bool>
     requires name { opening.name ≡ L.Ledger.name }
     requires parts { opening.parts ≡ L.Ledger.parts }
-    requires book { opening.book ≡ L.book }
+    requires book { opening.book ≡ L.ListName.book }
+    requires recorded { L.recorded ≡ false }
+    requires ids { L.ListName.ids ≡ record { cluster = 1; member = 1 } }
 {
-    let engine = Engine::<L>::new(alloc, opening, ONES);
+    let mut engine = Engine::<L>::new(alloc, opening, ONES);
     let mut client = engine.client(rt).ok()?;
-    let mut streams = Streams::new(alloc, engine.client(rt).ok()?);
+    let told = engine.client(rt).ok()?;
+    let mut streams = Streams::new(alloc, told);
     let events = Recorded {
         rt,
         engine: &engine,
@@ -217,10 +218,10 @@ fn stand<L: EngineName, R: Wait>(rt: &R, alloc: Global, opening: Opening) -> Opt
     let is_made = are_made(&events, alloc, &mut client, 5) && are_begun(alloc, &mut streams);
     let is_put = does(&events, alloc, &mut client, b"/v3/kv/put", body).is_none();
     streams.refuse(&events, 5);
-    let is_refused = is_gone(&events, &streams, 5);
+    let is_refused = is_gone(&events, &mut client, &streams, 5);
     let is_told = is_made && is_put && is_refused && are_told(&events, &mut streams);
     let is_ended = is_told && are_ended(&events, &mut streams);
-    let are_gone = is_ended && are_gone(&events, &streams);
+    let are_gone = is_ended && are_gone(&events, &mut client, &streams);
     drop(streams.into_client());
     Some(are_gone)
 }

@@ -1,18 +1,16 @@
 //! The events of an engine, of each of which the gate is told once it is made.
-ghost use Rattle.std.specs.Prelude.{◌≡◌, is_ok, IfOk, IfErr};
+ghost use Rattle.std.specs.Prelude.{◌≡◌, is_ok, IfErr, MatchResult};
 ghost use Rattle.kv_model.specs.Follows.Outcome.{said};
 ghost use Rattle.kv_model.specs.Wire.{WireTold};
 ghost use Rattle.kv_model.specs.Wire as events;
-ghost use Rattle.kv_model.specs.declared.refusal.Refusal.TheVariants.{Memory};
-ghost use Rattle.json_gateway.specs.Runs.{trimmed_view};
-ghost use Rattle.engine_lock.specs.Locked.{DropsFor, Submits, SubmitsExpiry, TellsTo, Trims, TrimsFor};
-ghost use Rattle.engine_lock.specs.Locked.{left, plus, rise, rise_of_expiry, told_to, trimmed_to, with_done};
-ghost use Rattle.engine_lock.specs.Orders.{Makes};
-ghost use Rattle.engine_lock.specs.declared.past.Given.TheVariants as given;
+ghost use Rattle.kv_model.specs.declared.refusal.Refusal.TheVariants.{Memory, NoWatch};
+ghost use Rattle.json_gateway.specs.Runs.{certified_outcome, delivery_outcome, trimmed_view};
+ghost use Rattle.event_book.specs.Events.{Event};
+ghost use Rattle.engine_lock.specs.Entering.{EntersAlone, Makes, MayTrim, ShowsTo, Submits, SubmitsExpiry};
 
-use engine_lock::{Asked, Client, Engine, EngineName, Submitted};
+use engine_lock::{Asked, Client, Engine, EngineName, Submitted, locked};
 use http_peer::{Gate, Takes};
-use json_gateway::{Expiry, Message, Refusal, Trim, Trimmed};
+use json_gateway::{Certified, Expiry, Message, Refusal, Trim, Trimmed};
 use std::alloc::AllocError;
 use std::sync::Wait;
 
@@ -30,24 +28,28 @@ pub struct Recorded<'e, L: EngineName, G, R> {
 }
 
 impl<'e, L: EngineName, G, R: Wait> Takes for Recorded<'e, L, G, R> {
+    ghost use Rattle.event_script.specs.Scripts.{Taken};
+    ghost use Rattle.engine_lock.specs.Takings.{TakesLines};
+
+    ghost Gives = { λ r text all. (old : Taken) × (new : Taken) × TakesLines r.engine.now.ids old new text all };
+
     fn take(&self, text: &mut Vec<u8>) -> bool {
-        self.engine.take_lines(self.rt, text)
+        let mut taken = locked(self.rt, self.engine.taken());
+        self.engine.take_lines(self.rt, &mut *taken, text)
     }
 }
 
 impl<'e, L: EngineName, G: Gate, R: Wait> Recorded<'e, L, G, R> {
-    /// Whether events are to be written down.
-    pub fn is_recorded(&self) -> bool {
-        self.gate.is_recorded()
+    /// Whether events are written down.
+    pub fn is_recorded(&self) -> bool
+        ensures { result ≡ L.recorded }
+    {
+        self.engine.is_recorded()
     }
 
     /// [`Engine::submit_request`].
     pub fn submit(&self, client: &mut Client<L>, now: u64, asked: &Asked<'_>) -> Submitted
-        ensures submits { Submits self.now.engine.now (left client.old) now asked.now result
-            client.new }
-        ensures client { client.new ≡ record (with_done client.old
-            (given.Done asked.now.command now result.outcome) (rise result.outcome.raised))
-            { reader = client.new.reader } }
+        ensures { Submits self.now.engine.now.ids client.old now asked.now result client.new }
     {
         let submitted = self.engine.submit_request(self.rt, client, now, asked);
         self.gate.recorded(self);
@@ -62,53 +64,40 @@ impl<'e, L: EngineName, G: Gate, R: Wait> Recorded<'e, L, G, R> {
         }
     }
 
-    /// [`Engine::deliver_for`].
+    /// [`Engine::deliver`].
     pub fn deliver(&self, client: &mut Client<L>, number: u64) -> Result<Message, AllocError>
-        ensures sees { IfOk result (λ m. TellsTo self.now.engine.now client.old.made number m) }
-        ensures given { client.new ≡ told_to (left client.old) number result }
+        ensures { EntersAlone self.now.engine.now.ids client.old (Event.delivery number)
+            (delivery_outcome result) client.new }
     {
-        let told = self.engine.deliver_for(self.rt, client, number);
+        let told = self.engine.deliver(self.rt, client, number);
         self.gate.recorded(self);
         told
     }
 
-    /// [`Engine::drop_watch_for`].
+    /// [`Engine::drop_watch`].
     pub fn drop_watch(&self, client: &mut Client<L>, number: u64) -> Result<(), Refusal>
-        ensures sees { DropsFor client.old.made number (is_ok result) }
-        ensures given { client.new
-            ≡ plus (left client.old) (given.Dropped number (is_ok result)) }
+        ensures ends { EntersAlone self.now.engine.now.ids client.old (Event.ending number)
+            (said (WireTold.closed (is_ok result))) client.new }
+        ensures missing { IfErr result (λ e. e ≡ NoWatch) }
     {
-        let ended = self.engine.drop_watch_for(self.rt, client, number);
+        let ended = self.engine.drop_watch(self.rt, client, number);
         self.gate.recorded(self);
         ended
     }
 
-    /// [`Engine::trim_once_for`].
-    pub fn trim_for(&self, client: &mut Client<L>) -> Result<Trim, Refusal>
-        ensures sees { IfOk result (λ t. TrimsFor client.old.made t) }
-        ensures given { client.new ≡ trimmed_to (left client.old) result }
-        ensures refused { IfErr result (λ e. e ≡ Memory) }
-    {
-        let step = self.engine.trim_once_for(self.rt, client);
-        self.gate.recorded(self);
-        step
-    }
-
     /// [`Engine::trim_once`].
-    pub fn trim(&self) -> Result<Trim, Refusal>
-        ensures trims { IfOk result (λ t. Trims t) }
+    pub fn trim(&self, client: &mut Client<L>) -> Result<Trim, Refusal>
+        ensures trims { MayTrim self.now.engine.now.ids client.old result client.new }
         ensures refused { IfErr result (λ e. e ≡ Memory) }
     {
-        let step = self.engine.trim_once(self.rt);
+        let step = self.engine.trim_once(self.rt, client);
         self.gate.recorded(self);
         step
     }
 
     /// [`Engine::expire_once`].
     pub fn expire(&self, client: &mut Client<L>, now: u64) -> Result<Expiry, Refusal>
-        ensures submits { SubmitsExpiry (left client.old) now result client.new }
-        ensures client { client.new ≡ record (with_done client.old (given.Expired now result)
-            (rise_of_expiry result)) { reader = client.new.reader } }
+        ensures { SubmitsExpiry self.now.engine.now.ids client.old now result client.new }
     {
         let step = self.engine.expire_once(self.rt, client, now);
         self.gate.recorded(self);
@@ -117,21 +106,30 @@ impl<'e, L: EngineName, G: Gate, R: Wait> Recorded<'e, L, G, R> {
     }
 
     /// [`Engine::moment`], which is never written down before another event comes.
-    pub fn moment(&self, now: u64) -> u64
-        ensures { Makes self.now.engine.now (events.WireEvent.moment now)
-            (said (WireTold.clock result)) }
+    pub fn moment(&self, client: &mut Client<L>, now: u64) -> u64
+        ensures { Makes self.now.engine.now.ids client.old (Event.moment now)
+            (events.WireEvent.moment now) (said (WireTold.clock result)) client.new }
     {
-        self.engine.moment(self.rt, now)
+        self.engine.moment(self.rt, client, now)
     }
 
     /// [`Engine::trim_checked`].
-    pub fn trim_checked(&self) -> Result<Trimmed, Refusal>
-        ensures makes { IfOk result (λ t.
-            Makes self.now.engine.now events.WireEvent.trim (said (trimmed_view t))) }
+    pub fn trim_checked(&self, client: &mut Client<L>) -> Result<Trimmed, Refusal>
+        ensures makes { MatchResult result (λ t. Makes self.now.engine.now.ids client.old Event.trimming
+            events.WireEvent.trim (said (trimmed_view t)) client.new)
+            (λ e. ShowsTo client.old client.new) }
         ensures refused { IfErr result (λ e. e ≡ Memory) }
     {
-        let step = self.engine.trim_checked(self.rt);
+        let step = self.engine.trim_checked(self.rt, client);
         self.gate.recorded(self);
         step
+    }
+
+    /// [`Engine::certificate`], which has no line.
+    pub fn certificate(&self, client: &mut Client<L>) -> Result<Certified, AllocError>
+        ensures { Makes self.now.engine.now.ids client.old Event.certificate events.WireEvent.certify
+            (certified_outcome result) client.new }
+    {
+        self.engine.certificate(self.rt, client)
     }
 }

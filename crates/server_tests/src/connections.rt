@@ -1,5 +1,5 @@
 //! One connection of a server, over an engine of its own.
-ghost use Rattle.std.specs.Prelude.{◌≡◌};
+ghost use Rattle.std.specs.Prelude.{◌≡◌, false};
 
 use crate::texts::{ONES, PUT, PUT_REPLY, Still};
 use engine_lock::{Client, Engine, EngineName, Opening};
@@ -20,9 +20,11 @@ fn worked<L: EngineName, R: Wait + time::Clock>(
 ) -> Option<(Result<u64, Front>, u64, u64)>
     requires name { opening.name ≡ L.Ledger.name }
     requires parts { opening.parts ≡ L.Ledger.parts }
-    requires book { opening.book ≡ L.book }
+    requires book { opening.book ≡ L.ListName.book }
+    requires recorded { L.recorded ≡ false }
+    requires ids { L.ListName.ids ≡ record { cluster = 1; member = 1 } }
 {
-    let engine = Engine::<L>::new(alloc, opening, ONES);
+    let mut engine = Engine::<L>::new(alloc, opening, ONES);
     let client = engine.client(rt).ok()?;
     Some(answered(rt, alloc, &engine, client, comes, goes))
 }

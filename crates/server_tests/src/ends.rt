@@ -1,5 +1,5 @@
 //! Servers that let no connection in.
-ghost use Rattle.std.specs.Prelude.{◌≡◌};
+ghost use Rattle.std.specs.Prelude.{◌≡◌, false};
 
 use crate::texts::{ONES, Still};
 use engine_lock::{Engine, EngineName, Opening};
@@ -23,7 +23,9 @@ fn ended<L: EngineName + Send + Sync, R: Wait + Threads + time::Clock + Net + Sy
 ) -> Result<u64, Front>
     requires name { opening.name ≡ L.Ledger.name }
     requires parts { opening.parts ≡ L.Ledger.parts }
-    requires book { opening.book ≡ L.book }
+    requires book { opening.book ≡ L.ListName.book }
+    requires recorded { L.recorded ≡ false }
+    requires ids { L.ListName.ids ≡ record { cluster = 1; member = 1 } }
 {
     let engine = Engine::<L>::new(alloc, opening, ONES);
     match pool(rt, alloc, engine, &OpenGate, &Still, listener, workers, 0) {
@@ -44,13 +46,14 @@ fn run_ended<R: Wait + Threads + time::Clock + Net + Sync>(
     }
 }
 
-/// An engine has 64 places for clients, of which the threads for leases and for streams take one each.
+/// An engine has 64 places for clients, of which the threads for leases, for streams and for trimming
+/// take one each.
 #[test]
 fn workers_that_have_no_place(rt: HostRuntime) -> Result<(), Fail> {
     let alloc = rt.alloc();
     let listener = TcpListener::bind(&rt, "127.0.0.1:0")?;
     assert_eq!(rt; run_ended(&rt, alloc, &listener, 0), Ok(1));
-    assert_eq!(rt; run_ended(&rt, alloc, &listener, 62), Ok(1));
-    assert_eq!(rt; run_ended(&rt, alloc, &listener, 63), Err(Front::Unclosed));
+    assert_eq!(rt; run_ended(&rt, alloc, &listener, 61), Ok(1));
+    assert_eq!(rt; run_ended(&rt, alloc, &listener, 62), Err(Front::Unclosed));
     Ok(())
 }

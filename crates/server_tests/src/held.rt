@@ -1,5 +1,5 @@
 //! Two connections of one server: the first is answered only when the second has been.
-ghost use Rattle.std.specs.Prelude.{◌≡◌};
+ghost use Rattle.std.specs.Prelude.{◌≡◌, false};
 
 use crate::texts::{LAST_PUT, LAST_PUT_REPLIES, ONES, Still};
 use engine_lock::{Engine, EngineName, Opening};
@@ -57,7 +57,9 @@ fn served<L: EngineName + Send + Sync, R: Wait + Threads + time::Clock + Net + S
 ) -> Option<(bool, u64)>
     requires name { opening.name ≡ L.Ledger.name }
     requires parts { opening.parts ≡ L.Ledger.parts }
-    requires book { opening.book ≡ L.book }
+    requires book { opening.book ≡ L.ListName.book }
+    requires recorded { L.recorded ≡ false }
+    requires ids { L.ListName.ids ≡ record { cluster = 1; member = 1 } }
 {
     let engine = Engine::<L>::new(alloc, opening, ONES);
     let gate = SecondFirst {

@@ -1,5 +1,5 @@
 //! Trimming goes on beside the connections, whatever was done before.
-ghost use Rattle.std.specs.Prelude.{◌≡◌};
+ghost use Rattle.std.specs.Prelude.{◌≡◌, false};
 
 use crate::texts::{COMPACTED_PUTS, ONES, Still};
 use engine_lock::{Engine, EngineName, Opening};
@@ -40,7 +40,9 @@ fn served<L: EngineName + Send + Sync, R: Wait + Threads + time::Clock + Net + S
 ) -> Option<(u64, u64)>
     requires name { opening.name ≡ L.Ledger.name }
     requires parts { opening.parts ≡ L.Ledger.parts }
-    requires book { opening.book ≡ L.book }
+    requires book { opening.book ≡ L.ListName.book }
+    requires recorded { L.recorded ≡ false }
+    requires ids { L.ListName.ids ≡ record { cluster = 1; member = 1 } }
 {
     let engine = Engine::<L>::new(alloc, opening, ONES);
     let gate = Slowly { rt };

@@ -1,4 +1,4 @@
+pub mod Readings
 pub mod Rules
 pub mod Logs
-pub mod Readings
 pub mod Seating

@@ -1,23 +1,29 @@
 -- What the entries of the log come to.
-use Rattle.std.proofs.Common.{◌≡◌, true, List, [], ◌∷◌, ◌++◌, length, drop, fold, Result, Ok, Err, refl, sym, ap, ◌∙◌, subst}
-use Rattle.std.proofs.Common.{append_assoc, MatchBool, Bool, false, ℕ, ◌<◌, zero, suc, not, arith, length-append}
+use Rattle.std.proofs.Common.{◌≡◌, true, List, [], ◌∷◌, ◌++◌, length, fold, Result, Ok, Err, refl, sym, ap, ◌∙◌, subst, ⊎_elim}
+use Rattle.std.proofs.Common.{MatchBool, Bool, false, ℕ, ◌<◌, ◌⊎◌, zero, suc, not, arith, length-append}
 use Rattle.std.specs.Prelude.{IsTrue, ◌↔◌}
-use Rattle.std.specs.Prelude.{MatchResult, OnOk, OnErr}
+use Rattle.std.specs.Prelude.{MatchResult, OnOk}
 use Rattle.std.proofs.Common.{is_ok}
 use Rattle.std.proofs.lemmas.List.{append-nil, nil_from_length}
 use Rattle.std.proofs.lemmas.List.Sums.{fold-append}
-use Rattle.std.proofs.Math.Seq.{drop-append_seam}
 use mathlib.Core.List.{IsPrefix}
 use Rattle.kv_model.specs.declared.feed.Op.{Op}
 use Rattle.kv_model.specs.Feed.{Published, published}
 use Rattle.store_laws.specs.Snapshots.{Stored, absorb, blank, store_of}
-use Rattle.feed_book.specs.Feeds.{Beginning, IsShorter, operations}
+use Rattle.logbook.specs.Pages.{Book}
+use Rattle.event_book.specs.Events as events
+use Rattle.event_book.specs.Publishing.{published_by}
+use Rattle.event_book.specs.Rules.{Beginning}
+use Rattle.event_book.proofs.Prefixes.{prefix_length}
+use Rattle.event_book.proofs.Publishing.{published_prefix}
 use Rattle.snapshot_feed.specs.declared.entry.Entry.{Entry}
 use Rattle.snapshot_feed.specs.declared.entry.Entry.TheVariants.{Change, Mark}
 use Rattle.snapshot_feed.specs.declared.entry.ReadTables.{ReadTables}
 use Rattle.snapshot_feed.specs.Entries.{after, ops_of, marked_by}
-use Rattle.snapshot_feed.specs.Shown.{Shows}
-use Rattle.snapshot_feed.specs.States.{FeedState, appended, settled, state_by, HasAll, HasOperation, IsListed, publication}
+use Rattle.snapshot_feed.specs.Shown.{ShowsWell}
+use Rattle.snapshot_feed.specs.Showing.{IsShown}
+use Rattle.snapshot_feed.specs.States.{FeedState, HasAll, HasOperation, appended, state_by, unused}
+use Rattle.snapshot_feed.proofs.Readings.{nothing_is_shown}
 
 -- ---- one entry more
 
@@ -44,55 +50,51 @@ after-all (Change op ∷ es) t f = after-all es (absorb t (published op)) f
 after-all (Mark front ∷ es) t f = after-all es t front
 
 -- the tables that show a front, with all that was logged, show the mark of all
-pub goes_on : (es : List Entry) (t u : Stored) (f g : Beginning) → Shows t f → HasAll (marked_by f es) (state_by f es)
-    → (u, g) ≡ fold after (t, f) es → Shows u g × HasAll g (state_by f es)
+pub goes_on : (es : List Entry) (t u : Stored) (f g : Beginning) → ShowsWell t f → HasAll (marked_by f es) f es
+    → (u, g) ≡ fold after (t, f) es → ShowsWell u g × HasAll g f es
 goes_on es t u f g shows all is =
     let here : (u, g) ≡ (fold absorb t (ops_of es), marked_by f es) = is ∙ after-all es t f in
     let tables : u ≡ fold absorb t (ops_of es) = ap (λ (p : Stored × Beginning). p.0) here in
     let front : g ≡ marked_by f es = ap (λ (p : Stored × Beginning). p.1) here in
-    let has : HasAll g (state_by f es) = subst (λ h. HasAll h (state_by f es)) (sym front) all in (
-      tables ∙ ap (λ s. fold absorb s (ops_of es)) shows ∙ sym (fold-append absorb blank f.list (ops_of es)) ∙ ap store_of (sym has.1),
+    let has : HasAll g f es = subst (λ h. HasAll h f es) (sym front) all in (
+      (
+        tables ∙ ap (λ s. fold absorb s (ops_of es)) shows.0 ∙ sym (fold-append absorb blank (published_by f.list) (ops_of es)) ∙ ap store_of (sym has.all),
+        has.may,
+      ),
       has,
     )
 
--- ---- what is listed
+-- a front that is shown tells all where nothing was logged
+pub has_none : (f : Beginning) → IsShown f.list → HasAll f f []
+has_none f may = record { book = refl; all = sym (append-nil (published_by f.list)); begins = ([], append-nil f.list); may = may }
 
--- a beginning and the rest
-pub prefix_rest : {A : Type 0} (xs ys : List A) → IsPrefix xs ys → xs ++ drop (length xs) ys ≡ ys
-prefix_rest {A} xs ys p =
-    ap (λ (zs : List A). xs ++ drop (length xs) zs) (sym p.1) ∙ ap (λ (zs : List A). xs ++ zs) (drop-append_seam xs p.0) ∙ p.1
+-- ---- a front that tells all
 
-pub prefix_more : {A : Type 0} (xs ys zs : List A) → IsPrefix xs ys → IsPrefix xs (ys ++ zs)
-prefix_more {A} xs ys zs p = (p.0 ++ zs, sym (append_assoc xs p.0 zs) ∙ ap (λ (w : List A). w ++ zs) p.1)
-
--- what is left of a longer list is a publication
-pub shorter_rest : (xs ys : List Published) → IsShorter xs ys → xs ++ operations (publication (drop (length xs) ys)) ≡ ys
-shorter_rest xs ys p =
-    ap (λ (zs : List Published). xs ++ zs) (has (drop (length xs) ys)
-    (omega (arith, p.1, ap length (prefix_rest xs ys p.0), length-append xs (drop (length xs) ys))))
-    ∙ prefix_rest xs ys p.0
+-- where it tells more than the one that is shown, it begins with that
+pub tells_more : (xs ys : List events.Entry) (more : List Published) → IsPrefix xs ys ⊎ IsPrefix ys xs → published_by xs ≡ published_by ys ++ more
+    → 0 < length more → IsPrefix ys xs
+tells_more xs ys more both is some = ⊎_elim (λ p. absurd (none p)) (λ p. p) both
   where
-    has : (zs : List Published) → 0 < length zs → operations (publication zs) ≡ zs
-    has [] some = absurd (omega arith)
-    has (z ∷ zs) some = refl
+    none : IsPrefix xs ys → ⊥
+    none p = omega (
+      arith,
+      some,
+      prefix_length (published_by xs) (published_by ys) (published_prefix xs ys p),
+      ap length is,
+      length-append (published_by ys) more,
+    )
 
--- a front with all or less of what was appended has less once more is
-part_of_more : (b : Bool) (xs ys zs : List Published) → MatchBool b (xs ≡ ys) (IsShorter xs ys) → 0 < length zs → IsShorter xs (ys ++ zs)
-part_of_more true xs ys zs same some = ((zs, ap (λ (w : List Published). w ++ zs) same), omega (arith, some, ap length same, length-append ys zs))
-part_of_more false xs ys zs p some = (prefix_more xs ys zs p.0, omega (arith, p.1, length-append ys zs))
-
-pub listed_more : (b : Bool) (front : Beginning) (s t : FeedState) (more : List Published) → 0 < length more → IsListed b front s → t.book ≡ s.book
-    → t.published ≡ s.published → t.pending ≡ s.pending ++ more → IsListed false front t
-listed_more b front s t more some listed book same later = (
-  listed.0 ∙ sym book,
-  subst (IsShorter front.list)
-      (append_assoc s.published s.pending more ∙ λ i. sym same i ++ sym later i)
-      (part_of_more b front.list (appended s) more listed.1 some),
-)
-
--- the same feed
-pub listed_as : (b : Bool) (front : Beginning) (s t : FeedState) → s ≡ t → IsListed b front s → IsListed b front t
-listed_as b front s t same = subst (IsListed b front) same
+-- a front that is handed to a publication
+pub may_mark : (n : ℕ) (f g : Beginning) (es : List Entry) (s : FeedState) → state_by n f es ≡ s → g.book ≡ s.book
+    → published_by g.list ≡ appended s → IsShown g.list → 0 < length s.pending → IsPrefix g.list f.list ⊎ IsPrefix f.list g.list
+    → HasAll g f es
+may_mark n f g es s is book all may some both =
+    let here : published_by g.list ≡ published_by f.list ++ ops_of es = all ∙ ap appended (sym is) in record {
+      book = book ∙ ap (λ (t : FeedState). t.book) (sym is);
+      all = here;
+      begins = tells_more g.list f.list (ops_of es) both here (subst (λ (t : FeedState). 0 < length t.pending) (sym is) some);
+      may = may;
+    }
 
 -- ---- what waits
 
@@ -134,26 +136,23 @@ Publishes x es y ds r = MatchResult r (λ _. ((y.tables, y.front) ≡ fold after
 
 -- what is logged ends with the mark of all
 abbrev pub Ends : ReadTables → List Entry → Type 0
-Ends x es = HasAll (marked_by x.front es) (state_by x.front es)
+Ends x es = HasAll (marked_by x.front es) x.front es
 
-pub still_shows : {X Y : Type 0} (r : Result X Y) (x y : ReadTables) (es ds : List Entry) → Shows x.tables x.front → Ends x es
-    → Publishes x es y ds r → Shows y.tables y.front
-still_shows (Ok z) x y es ds shows ends h = (goes_on es x.tables y.tables x.front y.front shows ends h.0).0
-still_shows (Err e) x y es ds shows ends h = subst (λ (z : ReadTables). Shows z.tables z.front) (sym h.0) shows
+pub still_ends : {X Y : Type 0} (r : Result X Y) (x y : ReadTables) (es ds : List Entry) → ShowsWell x.tables x.front → Ends x es
+    → Publishes x es y ds r → Ends y ds
+still_ends (Ok z) x y es ds shows ends h =
+    subst (Ends y) (sym h.1) (has_none y.front (goes_on es x.tables y.tables x.front y.front shows ends h.0).0.1)
+still_ends (Err e) x y es ds shows ends h = subst (λ (z : ReadTables). Ends z ds) (sym h.0) (subst (Ends x) (sym h.1) ends)
 
-pub still_ends : {X Y : Type 0} (r : Result X Y) (x y : ReadTables) (es ds : List Entry) → Ends x es → Publishes x es y ds r → Ends y ds
-still_ends (Ok z) x y es ds ends h = subst (Ends y) (sym h.1) (refl, sym (append-nil y.front.list))
-still_ends (Err e) x y es ds ends h = subst (λ (z : ReadTables). Ends z ds) (sym h.0) (subst (Ends x) (sym h.1) ends)
+pub shows_mark : {X Y : Type 0} (r : Result X Y) (x y : ReadTables) (es ds : List Entry) → Publishes x es y ds r
+    → OnOk r (y.front ≡ marked_by x.front es)
+shows_mark (Ok z) x y es ds h = ap (λ (p : Stored × Beginning). p.1) (h.0 ∙ after-all es x.tables x.front)
+shows_mark (Err e) x y es ds h = tt
 
-pub settles : {X Y : Type 0} (r : Result X Y) (x y : ReadTables) (es ds : List Entry) → Shows x.tables x.front → Ends x es
-    → Publishes x es y ds r → OnOk r (state_by y.front ds ≡ settled (state_by x.front es))
-settles (Ok z) x y es ds shows ends h =
-    let has = (goes_on es x.tables y.tables x.front y.front shows ends h.0).1 in
-    let none : ops_of ds ≡ [] = ap ops_of h.1 in
-    λ i. record { book = has.0 i; published = has.1 i; pending = none i; committed = true }
-settles (Err e) x y es ds shows ends h = tt
+-- where no event was shown and nothing was logged, that is all
+pub ends_none : (x : ReadTables) (es : List Entry) → es ≡ [] → x.front.list ≡ [] → Ends x es
+ends_none x es none first = subst (Ends x) (sym none) (has_none x.front (subst IsShown (sym first) nothing_is_shown))
 
-pub rests : {X Y : Type 0} (r : Result X Y) (x y : ReadTables) (es ds : List Entry) → Publishes x es y ds r
-    → OnErr r (state_by y.front ds ≡ state_by x.front es)
-rests (Ok z) x y es ds h = tt
-rests (Err e) x y es ds h = λ i. state_by (h.0 i).front (h.1 i)
+-- a new feed
+pub is_unused : (n : ℕ) (g : Beginning) (ds : List Entry) (b : Book) → n ≡ 0 → g.book ≡ b → g.list ≡ [] → ds ≡ [] → state_by n g ds ≡ unused b
+is_unused n g ds b start book none empty = λ i. record { book = book i; published = none i; pending = ops_of (empty i); attempts = start i }

@@ -1,15 +1,19 @@
 -- Which steps keep the rule over what is shown.
-use Rattle.std.proofs.Common.{◌≡◌, ℕ, ◌≢◌, List, Option, None, Some, set, refl, sym, subst, ⊎_elim}
+use Rattle.std.proofs.Common.{◌≡◌, ℕ, zero, suc, ◌≢◌, List, [], ◌∷◌, Option, None, set, refl, sym, ap, ◌∙◌, subst, ⊎_elim}
 use Rattle.std.specs.Prelude.{Result, Ok, Err, MatchResult}
 use mathlib.Core.Option.{some}
 use lib.ListN.{get_elem?}
 use Rattle.crossbeam_utils.specs.Register.{Admits, TurnsAt, Forks, Merges}
 use Rattle.atomic_table.proofs.Lists.{at_set, at_snoc}
 use Rattle.logbook.specs.Pages.{Book}
-use Rattle.feed_book.specs.Feeds.{Beginning}
+use Rattle.store_laws.specs.Snapshots.{blank, store_of}
+use Rattle.event_book.specs.Rules.{Beginning}
+use Rattle.event_book.specs.Publishing.{published_by}
 use Rattle.snapshot_feed.specs.declared.entry.ReadTables.{ReadTables}
 use Rattle.snapshot_feed.specs.declared.rule.Sight.{Sight}
-use Rattle.snapshot_feed.specs.Shown.{Shows, MayBeOf, IsOf, Keeps, SeesFront, looked_at}
+use Rattle.snapshot_feed.specs.Showing.{IsShown}
+use Rattle.snapshot_feed.specs.Shown.{ShowsWell, MayBeOf, IsOf, Keeps, SeesFront, looked_at}
+use Rattle.snapshot_feed.proofs.Readings.{nothing_is_shown}
 
 again : (b c : Book) (v : Option Beginning) → b ≡ c → MayBeOf c v → MayBeOf b v
 again b c v same h = subst (λ d. MayBeOf d v) (sym same) h
@@ -19,7 +23,7 @@ abbrev pub unseen : Sight
 unseen = record { front = None; looks = 0 }
 
 -- the shown value goes from x to y, both of one list
-pub turns : (x y : ReadTables) (seat : ℕ) (v : Sight) → Shows y.tables y.front → y.front.book ≡ x.front.book
+pub turns : (x y : ReadTables) (seat : ℕ) (v : Sight) → ShowsWell y.tables y.front → y.front.book ≡ x.front.book
     → TurnsAt Keeps seat v x y SeesFront
 turns x y seat v shows same views kept at = (
   looked_at y.front v,
@@ -72,3 +76,16 @@ pub knows : {X Y : Type 0} (r : Result X Y) (x y : ReadTables) (v w : Sight) →
     → MatchResult r (λ _. IsOf y.front.book w.front) (λ _. w ≡ v)
 knows (Ok z) x y v w h = subst (λ (u : Sight). IsOf y.front.book u.front) (sym h.2) refl
 knows (Err e) x y v w h = h
+
+-- ---- the first tables
+
+pub first_shows : (t : ReadTables) → t.tables ≡ blank → t.front.list ≡ [] → ShowsWell t.tables t.front
+first_shows t is none = (is ∙ ap (λ l. store_of (published_by l)) (sym none), subst IsShown (sym none) nothing_is_shown)
+
+first_known : (b : Book) (seat : ℕ) (v : Sight) → get_elem? (unseen ∷ []) seat ≡ some v → MayBeOf b v.front
+first_known b zero v at =
+    let is : unseen ≡ v = cc (at) in subst (λ (w : Sight). MayBeOf b w.front) is tt
+first_known b (suc n) v at = absurd (cc (at))
+
+pub first_kept : (t : ReadTables) → t.tables ≡ blank → t.front.list ≡ [] → Keeps t (unseen ∷ [])
+first_kept t is none = (first_shows t is none, first_known t.front.book)

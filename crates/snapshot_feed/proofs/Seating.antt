@@ -1,12 +1,11 @@
 -- A seat and what is known.
 use Rattle.std.proofs.Common.{◌≡◌, Bool, true, false, Some, refl, sym, ap, ◌∙◌, subst}
 use Rattle.std.specs.Prelude.{MatchBool}
-use Rattle.feed_book.specs.Feeds.{Beginning}
+use Rattle.event_book.specs.Rules.{Beginning}
 use Rattle.snapshot_feed.specs.declared.seat.Seat.{Seat}
 use Rattle.snapshot_feed.specs.declared.seat.Seat.TheVariants.{Out, In}
-use Rattle.snapshot_feed.specs.Shown.{IsOf, Shows}
+use Rattle.snapshot_feed.specs.Shown.{IsOf, ShowsWell}
 use Rattle.snapshot_feed.specs.Seats.{is_in, known_to, IsSeated, MayRead, IsWithin}
-use Rattle.left_right.specs.Sides.{view}
 
 pub seated_knows : (s : Seat) (f : Beginning) → IsSeated s f → IsOf f.book (known_to s)
 seated_knows (Out r) f h = h
@@ -26,7 +25,7 @@ in_seated (Out r) f g h w = absurd h
 in_seated (In r) f g h w = (
   h.0 ∙ ap Some w,
   w,
-  subst (λ k. Shows r.part.value.tables k) w h.2,
+  subst (λ k. ShowsWell r.part.value.tables k) w h.2,
 )
 
 -- the front is of the list that was known
@@ -35,10 +34,6 @@ same_list (Out r) f g h w = absurd h
 same_list (In r) f g h w = ap (λ k. k.book) (sym w) ∙ h.1
 
 -- ---- a test that came out
-
-pub granted : (A B : Type 0) (b : Bool) → b ≡ true → MatchBool b A B → A
-granted A B true is h = h
-granted A B false is h = absurd (cc is)
 
 pub denied : (A B : Type 0) (b : Bool) → b ≡ false → MatchBool b A B → B
 denied A B true is h = absurd (cc is)

@@ -2,7 +2,7 @@
 use Rattle.std.specs.Prelude.{List, [], ◌∷◌}
 use Rattle.kv_model.specs.Feed.{Published, published}
 use Rattle.store_laws.specs.Snapshots.{Stored, absorb}
-use Rattle.feed_book.specs.Feeds.{Beginning}
+use Rattle.event_book.specs.Rules.{Beginning}
 use Rattle.snapshot_feed.specs.declared.entry.Entry.{Entry}
 use Rattle.snapshot_feed.specs.declared.entry.Entry.TheVariants.{Change, Mark}
 

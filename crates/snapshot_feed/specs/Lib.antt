@@ -1,4 +1,5 @@
 pub mod Entries
+pub mod Showing
 pub mod Shown
 pub mod States
 pub mod Seats

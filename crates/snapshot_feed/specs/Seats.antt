@@ -1,18 +1,19 @@
 -- A reader's seat, within the tables or not.
 use Rattle.std.specs.Prelude.{◌≡◌, ℕ, List, Bool, true, false, Option, Some}
-use Rattle.kv_model.specs.Feed.{Published}
 use Rattle.logbook.specs.Pages.{Book}
 use Rattle.left_right.specs.Sides.{view}
-use Rattle.feed_book.specs.Feeds.{Beginning}
-use Rattle.snapshot_feed.specs.Shown.{Shows, IsOf}
+use Rattle.event_book.specs.Events as events
+use Rattle.event_book.specs.Rules.{Beginning}
+use Rattle.snapshot_feed.specs.Shown.{ShowsWell, IsOf}
 use Rattle.snapshot_feed.specs.declared.rule.Sight.{Sight}
 use Rattle.snapshot_feed.specs.declared.seat.Seat.{Seat}
 use Rattle.snapshot_feed.specs.declared.seat.Seat.TheVariants.{Out, In}
 
--- a reader as plain data: the list that it is of, the operations that it has seen or was told of, and whether it is within
+-- a reader as plain data: the list of events that it is of, the front of it that it has seen or was told of, and whether it is
+-- within
 pub record Reads : Type 0 where
   pub book : Book
-  pub known : List Published
+  pub known : List events.Entry
   pub inside : Bool
 
 -- and how often it has looked at what is shown: each entry is one look, at the tables that are shown then
@@ -40,12 +41,13 @@ known_to s = (sight_of s).front
 -- look
 abbrev pub IsSeated : Seat → Beginning → Type 0
 IsSeated (Out r) f = IsOf f.book (view r.place).front
-IsSeated (In r) f = ((view r.place).front ≡ Some f) × (r.part.value.front ≡ f) × Shows r.part.value.tables f
+IsSeated (In r) f = ((view r.place).front ≡ Some f) × (r.part.value.front ≡ f) × ShowsWell r.part.value.tables f
 
 -- it is within the tables of a front of the list, which was shown at its last look
 abbrev pub MayRead : Book → Seat → Type 0
 MayRead b (Out r) = ⊥
-MayRead b (In r) = ((view r.place).front ≡ Some r.part.value.front) × (r.part.value.front.book ≡ b) × Shows r.part.value.tables r.part.value.front
+MayRead b (In r) = ((view r.place).front ≡ Some r.part.value.front) × (r.part.value.front.book ≡ b)
+    × ShowsWell r.part.value.tables r.part.value.front
 
 -- it is within the tables of this front
 abbrev pub IsWithin : Beginning → Seat → Type 0

@@ -3,7 +3,7 @@ ghost use Rattle.std.specs.Prelude.{◌≡◌, OnOk, OnErr};
 ghost use Rattle.kv_model.specs.Feed.{published};
 ghost use Rattle.store_laws.specs.Snapshots.{absorb, blank};
 
-use feed_book::Front;
+use event_book::Front;
 use kv_model::feed::Op;
 use left_right::Absorb;
 use range_view::Tables;

@@ -1,16 +1,17 @@
 //! The feed of what a store publishes.
-ghost use Rattle.std.specs.Prelude.{◌≡◌, ◌<◌, true, false, [], length, OnOk, OnErr, IfOk, IfErr, MatchBool};
+ghost use Rattle.std.specs.Prelude.{◌≡◌, ◌<◌, false, [], length, OnOk, OnErr, IfOk, IfErr, MatchBool};
 ghost use Rattle.kv_model.specs.Feed.{published};
 ghost use Rattle.kv_model.specs.declared.refusal.Refusal.TheVariants.{NoPlace};
-ghost use Rattle.feed_book.specs.Feeds.{Beginning, IsFeed};
-ghost use Rattle.snapshot_feed.specs.States.{appended, published_by, settled, with_all, with_op};
+ghost use Rattle.event_book.specs.Publishing.{published_by};
+ghost use Rattle.snapshot_feed.specs.Showing.{IsShown};
+ghost use Rattle.snapshot_feed.specs.States.{Settles, appended, tried, unused, with_op};
 
 use crate::entry::ReadTables;
 use crate::reader::SnapReader;
 use crate::rule::Tells;
 use crate::writer::{FeedWriter, mark_all, publish_by, push};
 use core::mem::replace_with;
-use feed_book::{Book, Front, open};
+use event_book::Front;
 use kv_model::feed::{Op, Sink};
 use kv_model::refusal::Refusal;
 use std::alloc::{AllocError, Global};
@@ -21,77 +22,77 @@ use std::sync::Wait;
 /// There are at most so many readers at a time.
 pub const READERS: usize = 64;
 
-/// Two copies of a store's tables, of which readers take one, and the list of what was published.
+/// Two copies of a store's tables, of which readers take one, each at a front of the list of all
+/// events.
 ///
 /// It is ended by [`Feed::close`]. A feed that is dropped in another way leaks both copies, since
 /// only one who may wait for the readers can take them back.
 #[derive(Drop)]
 pub struct Feed {
     writer: ManuallyDrop<FeedWriter>,
-    book: Book,
-    /// What is listed, which is a beginning of what was appended.
-    front: Front,
-    /// What is listed is all that was appended.
-    listed: bool,
-    /// The last mark of the log, or the front that is shown where there is none, has all that was
+    /// The last mark of the log, or the front that is shown where there is none, tells all that was
     /// appended. So a publication that is tried again logs no second mark.
     marked: bool,
-    /// What was appended is known to be a feed.
-    committed: bool,
+    /// How often a publication was tried while an operation waited.
+    attempts: u64,
 }
 
 impl Model for Feed {
     ghost use Rattle.std.specs.Prelude.{◌≡◌, true, drop};
+    ghost use Rattle.std.specs.Coded.{codes};
     ghost use Rattle.core.specs.Mem.{manually_drop_value};
     ghost use Rattle.left_right.specs.Sides as sides;
+    ghost use Rattle.kv_model.specs.contracts.call.Command as commands;
     ghost use Rattle.snapshot_feed.specs.Entries.{marked_by};
-    ghost use Rattle.snapshot_feed.specs.Shown.{Shows, IsOf};
-    ghost use Rattle.feed_book.specs.Feeds.{IsFeed};
-    ghost use Rattle.snapshot_feed.specs.States.{FeedState, appended, state_by};
-    ghost use Rattle.snapshot_feed.specs.States.{HasAll, HasOperation, IsListed};
+    ghost use Rattle.snapshot_feed.specs.Shown.{ShowsWell, IsOf};
+    ghost use Rattle.snapshot_feed.specs.States.{FeedState, HasAll, HasOperation, state_by};
 
     ghost Value = { FeedState };
 
-    ghost view = { λ f. record (state_by (manually_drop_value f.writer).desk.shown.value.front
-        (drop (manually_drop_value f.writer).behind (manually_drop_value f.writer).log.items))
-        { committed = f.committed } };
+    ghost coded = { Prim.hlevel (codes, commands.the_row.coded) };
+
+    ghost view = { λ f. state_by f.attempts
+        (manually_drop_value f.writer).desk.shown.value.front
+        (drop (manually_drop_value f.writer).behind (manually_drop_value f.writer).log.items) };
 
     ghost invariant = { λ f.
-        Shows (manually_drop_value f.writer).desk.shown.value.tables
+        ShowsWell (manually_drop_value f.writer).desk.shown.value.tables
         (manually_drop_value f.writer).desk.shown.value.front
-        × IsListed f.listed f.front (state_by (manually_drop_value f.writer).desk.shown.value.front
-        (drop (manually_drop_value f.writer).behind (manually_drop_value f.writer).log.items))
-        × (f.book ≡ (manually_drop_value f.writer).desk.shown.value.front.book)
-        × IsOf f.book (sides.view (manually_drop_value f.writer).desk.place).front
+        × IsOf (manually_drop_value f.writer).desk.shown.value.front.book
+        (sides.view (manually_drop_value f.writer).desk.place).front
         × HasOperation
         (drop (manually_drop_value f.writer).behind (manually_drop_value f.writer).log.items)
         × (f.marked ≡ true → HasAll
         (marked_by (manually_drop_value f.writer).desk.shown.value.front
         (drop (manually_drop_value f.writer).behind (manually_drop_value f.writer).log.items))
-        (state_by (manually_drop_value f.writer).desk.shown.value.front
-        (drop (manually_drop_value f.writer).behind (manually_drop_value f.writer).log.items)))
-        × (f.committed ≡ true → IsFeed (appended
-        (state_by (manually_drop_value f.writer).desk.shown.value.front
-        (drop (manually_drop_value f.writer).behind (manually_drop_value f.writer).log.items)))) };
+        (manually_drop_value f.writer).desk.shown.value.front
+        (drop (manually_drop_value f.writer).behind (manually_drop_value f.writer).log.items)) };
 }
 
 impl Feed {
     /// A feed of the empty store, with room for 64 readers: [`Feed::with_room`].
-    pub fn new<R: Wait>(alloc: Global, rt: &R) -> Result<Self, AllocError>
-        ensures { IfOk result (λ f. (f.published ≡ []) × (f.pending ≡ [])) }
+    pub fn new<R: Wait>(alloc: Global, rt: &R, front: &Front) -> Result<Self, AllocError>
+        requires { front.now.list ≡ [] }
+        ensures { IfOk result (λ f. f ≡ unused front.now.book) }
     {
-        Feed::with_room(alloc, rt, READERS)
+        Feed::with_room(alloc, rt, READERS, front)
     }
 
-    /// A feed of the empty store, with room for so many readers, but for one at least and for 64 at
-    /// most: each publication visits the place of each, so fewer make it shorter. It publishes
-    /// nothing once, so that it knows its list, and waits for nobody then.
+    /// A feed of the empty store, of the list of which this front has seen nothing, with room for so
+    /// many readers, but for one at least and for 64 at most: each publication visits the place of
+    /// each, so fewer make it shorter. It publishes nothing once, so that it knows its list, and
+    /// waits for nobody then.
     ///
     /// The error is want of memory: for the two copies, and the table of readers' places.
-    pub fn with_room<R: Wait>(alloc: Global, rt: &R, readers: usize) -> Result<Self, AllocError>
-        ensures { IfOk result (λ f. (f.published ≡ []) × (f.pending ≡ [])) }
+    pub fn with_room<R: Wait>(
+        alloc: Global,
+        rt: &R,
+        readers: usize,
+        front: &Front,
+    ) -> Result<Self, AllocError>
+        requires { front.now.list ≡ [] }
+        ensures { IfOk result (λ f. f ≡ unused front.now.book) }
     {
-        let (book, front) = open();
         let first = ReadTables::new(alloc, front.again());
         let second = ReadTables::new(alloc, front.again());
         let writer = FeedWriter::new(alloc, first, second, readers.clamp(1, READERS))?;
@@ -100,11 +101,8 @@ impl Feed {
             Ok(()) => Ok(Feed {
                 // It is taken out again by `close`.
                 writer: unsafe { ManuallyDrop::new_unchecked(writer) },
-                book,
-                front,
-                listed: true,
                 marked: false,
-                committed: false,
+                attempts: 0,
             }),
             Err(error) => {
                 drop(writer.take(rt));
@@ -124,74 +122,50 @@ impl Feed {
     {
         let Feed {
             writer,
-            book: _book,
-            front: _front,
-            listed,
             marked,
-            committed,
+            attempts: _attempts,
         } = self;
         if !push(&mut **writer, op) {
             return Err(AllocError);
         }
-        *listed = false;
         *marked = false;
-        *committed = false;
         Ok(())
     }
 
-    /// Says that all that was appended stands, so that it may be published: a core hands each change
-    /// to its sink before the change stands, and whoever has both says so behind it. What was
-    /// appended has to be a feed: a history and its compaction, of which the stored versions answer
-    /// each question. Takes no memory, and constant time.
-    pub fn commit(&mut self)
-        requires { IsFeed (appended self.old) }
-        ensures { self.new ≡ with_all self.old }
-    {
-        self.committed = true;
-    }
-
-    /// Makes all that was appended visible at once, where all of it is committed ([`Feed::commit`]).
-    /// Else nothing is done, nor is it where no operation waits.
+    /// Makes all that was appended visible at once, at this front of the list of all events: what
+    /// readers are told of its events is all that was appended, so each change of them stands, and
+    /// they are events that readers may be shown. Where no operation waits nothing is done.
+    ///
+    /// What is shown then is this front, or, where a publication of the same operations was tried
+    /// before and found no memory, the front that was handed to that one.
     ///
     /// The error is want of memory, for the mark or within a copy's tables. Readers then see what
-    /// they saw, and the next publication goes on where this one stopped.
+    /// they saw, and the next publication goes on where this one stopped. Each call that finds an
+    /// operation waiting counts as an attempt, whether it finds memory or not.
     ///
     /// It waits for the readings that began before the last publication. The copy that is not shown
     /// takes in what was appended since the publication before the last: each operation is taken in
     /// twice, once by each copy, each time as it was by the store's own tables. The place of each
     /// reader that there is room for is visited three times.
-    pub fn publish<R: Wait>(&mut self, rt: &R) -> Result<(), AllocError>
-        ensures ok { OnOk result (self.new ≡ published_by self.old) }
-        ensures err { OnErr result (self.new ≡ self.old) }
-    {
-        if !self.committed {
-            return Ok(());
-        }
-        self.show(rt)
-    }
-
-    /// Makes all that was appended visible, which is committed.
-    fn show<R: Wait>(&mut self, rt: &R) -> Result<(), AllocError>
-        requires { self.old.committed ≡ true }
-        ensures ok { OnOk result (self.new ≡ settled self.old) }
-        ensures err { OnErr result (self.new ≡ self.old) }
+    pub fn publish<R: Wait>(&mut self, rt: &R, front: &Front) -> Result<(), AllocError>
+        requires book { front.now.book ≡ self.old.book }
+        requires all { published_by front.now.list ≡ appended self.old }
+        requires shown { IsShown front.now.list }
+        ensures ok { OnOk result (Settles self.old self.new) }
+        ensures err { OnErr result (self.new ≡ tried self.old) }
     {
         if self.is_settled() {
             return Ok(());
         }
+        front.agree(&self.writer.published().front);
         let Feed {
             writer,
-            book,
-            front,
-            listed,
             marked,
-            committed: _committed,
+            attempts,
         } = self;
-        if !*marked {
-            if !mark_all(&mut **writer, book, front, listed) {
-                return Err(AllocError);
-            }
-            *marked = true;
+        *attempts = attempts.wrapping_add(1);
+        if !mark_all(&mut **writer, marked, front) {
+            return Err(AllocError);
         }
         replace_with(&mut **writer, rt, publish_by::<R>)
     }
@@ -200,7 +174,7 @@ impl Feed {
     pub fn told(&self) -> Front
         ensures book { result.book ≡ self.now.book }
         ensures list { result.list ≡ self.now.published }
-        ensures feed { IsFeed result.list }
+        ensures shown { IsShown result.list }
     {
         self.writer.published().front.again()
     }
@@ -236,11 +210,8 @@ impl Feed {
     pub fn close<R: Wait>(self, rt: &R) {
         let Feed {
             writer,
-            book: _book,
-            front: _front,
-            listed: _listed,
             marked: _marked,
-            committed: _committed,
+            attempts: _attempts,
         } = self;
         drop(ManuallyDrop::into_inner(writer).take(rt));
     }

@@ -3,15 +3,17 @@ ghost use Rattle.std.specs.Prelude.{◌≡◌, suc, true, false, OnOk, OnErr, If
 ghost use mathlib.Core.List.{IsPrefix};
 ghost use Rattle.left_right.specs.Sides.{view};
 ghost use Rattle.kv_model.specs.declared.refusal.Refusal.TheVariants as refusal;
-ghost use Rattle.store_laws.specs.Snapshots.{untrimmed_of};
-ghost use Rattle.feed_book.specs.Feeds.{IsFeed, IsShorter};
+ghost use Rattle.store_laws.specs.Changes.{untrimmed};
+ghost use Rattle.event_book.specs.Events.{led_to};
+ghost use Rattle.event_book.specs.Rules.{IsShorter};
 ghost use Rattle.snapshot_feed.specs.Answers.{Answers, AnswersOf};
 ghost use Rattle.snapshot_feed.specs.Seats.{Looking, Reads, MayRead, IsWithin, known_to, is_in, out};
+ghost use Rattle.snapshot_feed.specs.Showing.{IsShown};
 ghost use Rattle.snapshot_feed.specs.Shown.{IsOf};
 
 use crate::seat::{FeedReader, Seat, entered, left};
 use core::mem::replace_with;
-use feed_book::Front;
+use event_book::Front;
 use kv_model::call::RangeQuery;
 use kv_model::refusal::Refusal;
 use range_view::{RangeReply, Tables};
@@ -31,9 +33,13 @@ pub struct SnapReader {
 }
 
 impl Model for SnapReader {
+    ghost use Rattle.std.specs.Coded.{codes};
+    ghost use Rattle.kv_model.specs.contracts.call.Command as commands;
     ghost use Rattle.snapshot_feed.specs.Seats.{Looking, is_in, sight_of, IsSeated};
 
     ghost Value = { Looking };
+
+    ghost coded = { Prim.hlevel (codes, commands.the_row.coded) };
 
     ghost view = { λ r. record {
       reads = record { book = r.known.book; known = r.known.list; inside = is_in r.seat };
@@ -48,7 +54,7 @@ fn newer(seat: &Seat, known: &Front) -> Option<Front>
     requires { MayRead known.now.book seat.now }
     ensures within { IfSome result (λ f. IsWithin f seat.now) }
     ensures begins { IfSome result (λ f. IsPrefix known.now.list f.list) }
-    ensures feed { IfSome result (λ f. IsFeed f.list) }
+    ensures shown { IfSome result (λ f. IsShown f.list) }
 {
     match seat {
         Seat::Out(_) => None,
@@ -95,9 +101,10 @@ impl SnapReader {
         }
     }
 
-    /// Takes the tables that are shown now, and leaves those that it was within. They have all that
-    /// this reader has seen and was told of, and show a feed. What is shown is looked at once, and the tables are those
-    /// of that look (`Sees`, the one step by which a reader's looks are counted).
+    /// Takes the tables that are shown now, and leaves those that it was within. They stand at a front
+    /// that begins with all that this reader has seen and was told of, and that may be shown. What is
+    /// shown is looked at once, and the tables are those of that look (`Sees`, the one step by which a
+    /// reader's looks are counted).
     ///
     /// The only refusal is `NoPlace`, where the feed is closed, or where the tables are older than
     /// what is known, which never comes. The reader is then within no tables. Takes no memory,
@@ -107,7 +114,7 @@ impl SnapReader {
         ensures looks { OnOk result (self.new.looks ≡ suc self.old.looks) }
         ensures begins { IsPrefix self.old.reads.known self.new.reads.known }
         ensures book { self.new.reads.book ≡ self.old.reads.book }
-        ensures feed { OnOk result (IsFeed self.new.reads.known) }
+        ensures shown { OnOk result (IsShown self.new.reads.known) }
         ensures err { OnErr result (self.new.reads ≡ record self.old.reads { inside = false }) }
         ensures refusal { IfErr result (λ e. e ≡ refusal.NoPlace) }
     {
@@ -123,6 +130,14 @@ impl SnapReader {
         Ok(())
     }
 
+    /// The front of all that it has seen or was told of. Takes no memory, and copies a number.
+    pub fn known(&self) -> Front
+        ensures book { result.book ≡ self.now.reads.book }
+        ensures list { result.list ≡ self.now.reads.known }
+    {
+        self.known.again()
+    }
+
     /// Leaves the tables, if it is within any. Takes no memory, constant time, and waits for nobody.
     pub fn leave(&mut self)
         ensures { self.new ≡ out self.old }
@@ -135,8 +150,9 @@ impl SnapReader {
     }
 
     /// Leaves the tables, and takes note of a front that it was told of: from then on it enters no
-    /// older tables. It does not where what it knows begins with the front and has more, and says so.
-    /// Takes no memory, constant time, and waits for nobody.
+    /// older tables. So a front that is not shown yet keeps it out until one is that begins with it:
+    /// hand it what [`Feed::told`](crate::Feed::told) told. It takes no note where what it knows begins
+    /// with the front and has more, and says so. Takes no memory, constant time, and waits for nobody.
     pub fn learn(&mut self, told: &Front) -> bool
         requires { told.now.book ≡ self.old.reads.book }
         ensures told { MatchBool result
@@ -156,18 +172,17 @@ impl SnapReader {
         true
     }
 
-    /// The answer to a Range, lent from the tables that the reader is within: that of the whole
-    /// history which the known operations say, of which nothing is trimmed, with its compaction and
-    /// its revision.
+    /// The answer to a Range, lent from the tables that the reader is within: the model's in the
+    /// world that the known events lead to, over all versions, of which nothing is trimmed, with its
+    /// compaction and its revision.
     ///
     /// The refusals are those of the model: `NoKey` where the key is empty, `Compacted` and `Future`
     /// where the revision asked for is not kept. `Memory` comes where a list of what is found, or a
     /// sort, found none. The cost is that of `range_view`'s [`View::range`](range_view::View::range).
     pub fn range(&self, alloc: Global, query: &RangeQuery) -> Result<RangeReply<'_>, Refusal>
         requires { self.now.reads.inside ≡ true }
-        ensures { AnswersOf (untrimmed_of self.now.reads.known) query.now result }
+        ensures { AnswersOf (untrimmed (led_to self.now.reads.known)) query.now result }
     {
-        self.known.audit();
         match &self.seat {
             Seat::In(reading) => answer(&reading.get().tables, alloc, query),
             Seat::Out(_) => Err(Refusal::NoPlace),
@@ -181,7 +196,7 @@ impl SnapReader {
     pub fn read(&mut self) -> Result<&SnapReader, Refusal>
         ensures* after { sem 𝓛 (LendsReading self.entry result) }
         ensures enters { IfOk result (λ r. EntersAtOnce self.old r.now) }
-        ensures feed { IfOk result (λ r. IsFeed r.now.reads.known) }
+        ensures shown { IfOk result (λ r. IsShown r.now.reads.known) }
         ensures refusal { IfErr result (λ e. e ≡ refusal.NoPlace) }
     {
         match self.enter() {

@@ -1,9 +1,9 @@
-//! What readers and the writer know: which list of publications the shown tables are of, and how often
+//! What readers and the writer know: which list of events the shown tables are of, and how often
 //! each has looked at them.
 use crate::entry::ReadTables;
 use atomic_table::{Join, Split};
 use crossbeam_utils::rule::{Outcome, Protocol};
-use feed_book::Front;
+use event_book::Front;
 
 /// What one knows: the front that was shown when one looked last, and how often one has looked. No
 /// value of it is made.
@@ -12,7 +12,8 @@ pub struct Sight {
     looks: u64,
 }
 
-/// The shown tables are those of the shown front, and whoever knows of a list knows of its list.
+/// The shown tables are those of the shown front, which readers may be shown, and whoever knows of a
+/// list knows of its list.
 pub struct Shown;
 
 impl Protocol<ReadTables, Sight> for Shown {

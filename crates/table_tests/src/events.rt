@@ -26,7 +26,7 @@ fn step<L: ListName, R: Wait>(rt: &R, listing: &mut Listing<L>, holder: &mut Hol
 }
 
 /// The number of each of two holders, how many events each made, and whether the first has then seen
-/// what the second has, before the list is shown to it and behind that.
+/// all of the list, before it is shown to it and behind that.
 #[derive(Debug, Drop, PartialEq, Eq)]
 struct Found {
     numbers: (usize, usize),
@@ -44,12 +44,12 @@ fn two<L: ListName, R: Wait>(
     step(rt, listing, first);
     step(rt, listing, second);
     step(rt, listing, second);
-    let before = first.front().begins_with(&second.front());
+    let before = first.front().begins_with(&listing.front());
     listing.show(rt, first);
     Found {
         numbers: (first.number(), second.number()),
         made: (first.made(), second.made()),
-        seen: (before, first.front().begins_with(&second.front())),
+        seen: (before, first.front().begins_with(&listing.front())),
     }
 }
 

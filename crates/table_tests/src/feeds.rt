@@ -1,15 +1,42 @@
 //! A feed and its readers.
-ghost use Rattle.std.specs.Prelude.{◌≡◌, ◌∷◌, [], IfOk};
+ghost use Rattle.std.specs.Prelude.{◌≡◌, ◌∷◌, [], IfOk, IfSome};
 ghost use Rattle.kv_model.specs.Feed.{Published, published};
-ghost use Rattle.table_tests.specs.Puts.{first_put};
+ghost use Rattle.snapshot_feed.specs.States.{unused};
+ghost use Rattle.table_tests.specs.Puts.{first_event, first_put};
 
 use bytes::Bytes;
+use event_book::{Book, Front, Noted, Opening, open};
 use kv_model::call::{RangeQuery, SortOrder, SortTarget};
 use kv_model::feed::Op;
 use kv_model::version::{Body, KeyRange, Rev, Version};
+use logbook::Plain;
 use snapshot_feed::{Feed, SnapReader};
 use std::alloc::{AllocError, Global};
 use std::sync::Wait;
+
+/// The put of `a`, as an event.
+struct Puts;
+
+impl Plain<(), Noted, u64> for Puts {
+    ghost use Rattle.std.specs.Prelude.{None};
+    ghost use Rattle.table_tests.specs.Puts.{first_event};
+
+    ghost ask = { λ n. first_event };
+
+    ghost state = { λ n. None };
+}
+
+/// The front of a new list that has the put, if there is room for it.
+fn front_of_put(book: &Book, first: &Front) -> Option<Front>
+    requires { (book.now ≡ first.now.book) × (first.now.list ≡ []) }
+    ensures { IfSome result (λ f. (f.book ≡ first.now.book) × (f.list ≡ first_event ∷ [])) }
+{
+    let mut all = first.again();
+    if !all.add::<(), Puts>(book, &mut first.again(), &()) {
+        return None;
+    }
+    Some(all)
+}
 
 /// The put of `a` at revision 2, as an operation.
 fn put(alloc: Global) -> Result<Op, AllocError>
@@ -61,25 +88,25 @@ fn seen(alloc: Global, reader: &mut SnapReader) -> (u64, u64) {
     }
 }
 
-/// Publishes the put, and tells what a reader sees before it is committed, within the tables that
+/// Publishes the put, and tells what a reader sees before it is published, within the tables that
 /// it had entered, and when it enters again.
-#[tactic(auto, using(crate::proofs::OnePut::put_is_feed))]
+#[tactic(auto, using(crate::proofs::OnePut::put_is_told, crate::proofs::OnePut::put_is_shown))]
 fn put_and_read<R: Wait>(
     rt: &R,
     alloc: Global,
     feed: &mut Feed,
     reader: &mut SnapReader,
+    front: &Front,
 ) -> Option<[(u64, u64); 3]>
-    requires { (feed.old.published ≡ []) × (feed.old.pending ≡ []) }
+    requires feed { feed.old ≡ unused front.now.book }
+    requires front { front.now.list ≡ first_event ∷ [] }
 {
     feed.append(put(alloc).ok()?).ok()?;
-    feed.publish(rt).ok()?;
     let before = seen(alloc, reader);
     if reader.enter().is_err() {
         return None;
     }
-    feed.commit();
-    feed.publish(rt).ok()?;
+    feed.publish(rt, front).ok()?;
     let within = match reader.range(alloc, &query()) {
         Ok(reply) => (reply.revision, reply.count),
         Err(_) => (0, 0),
@@ -88,11 +115,13 @@ fn put_and_read<R: Wait>(
 }
 
 fn run_put<R: Wait>(rt: &R, alloc: Global) -> Option<[(u64, u64); 3]> {
-    let mut feed = Feed::new(alloc, rt).ok()?;
+    let (book, first) = open();
+    let front = front_of_put(&book, &first)?;
+    let mut feed = Feed::new(alloc, rt, &first).ok()?;
     let Ok(mut reader) = feed.reader() else {
         return None;
     };
-    let read = put_and_read(rt, alloc, &mut feed, &mut reader);
+    let read = put_and_read(rt, alloc, &mut feed, &mut reader, &front);
     drop(reader);
     feed.close(rt);
     read
@@ -117,7 +146,7 @@ fn readers(alloc: Global, feed: &mut Feed) -> (usize, bool) {
 }
 
 fn run_readers<R: Wait>(rt: &R, alloc: Global) -> (usize, bool) {
-    let Ok(mut feed) = Feed::new(alloc, rt) else {
+    let Ok(mut feed) = Feed::new(alloc, rt, &Opening::new().front()) else {
         return (0, false);
     };
     let found = readers(alloc, &mut feed);

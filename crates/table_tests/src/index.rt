@@ -111,6 +111,13 @@ fn remove(index: &mut KeyIndex, letter: &'static [u8], rev: Rev) {
     drop(key);
 }
 
+fn trim(index: &mut KeyIndex, letter: &'static [u8], rev: Rev, main: u64, anyway: bool) -> bool {
+    let key = Bytes::from_static(letter);
+    let goes = index.trim(&key, rev, main, anyway);
+    drop(key);
+    goes
+}
+
 /// What is done with an index, and what it is to answer: of a key, at a main revision and a number
 /// within it.
 #[derive(Clone, Copy)]
@@ -126,6 +133,10 @@ enum Row {
     Retract(u64),
     DropFront(&'static [u8]),
     Remove(&'static [u8], u64, u64),
+    /// A revision that goes where the next one is of a main revision up to another.
+    Trim(&'static [u8], u64, u64, u64, bool),
+    /// A revision that goes anyway.
+    Forget(&'static [u8], u64, u64),
 }
 
 fn is_so(index: &mut KeyIndex, row: Row) -> bool {
@@ -150,6 +161,10 @@ fn is_so(index: &mut KeyIndex, row: Row) -> bool {
             remove(index, key, Rev { main, sub });
             true
         }
+        Row::Trim(key, main, sub, up_to, expected) => {
+            trim(index, key, Rev { main, sub }, up_to, false) == expected
+        }
+        Row::Forget(key, main, sub) => trim(index, key, Rev { main, sub }, 0, true),
     }
 }
 
@@ -254,6 +269,23 @@ static REMOVED: [Row; 12] = [
 #[test]
 fn takes_out_one_revision(rt: HostRuntime) {
     assert_eq!(rt; first_wrong_of_three(rt.alloc(), REMOVED.as_slice()), None);
+}
+
+static TRIMMED: [Row; 9] = [
+    Row::Trim(b"a", 2, 0, 2, false),
+    Row::After(b"a", 0, 0, Some((2, 0))),
+    Row::Trim(b"a", 2, 0, 3, true),
+    Row::After(b"a", 0, 0, Some((3, 0))),
+    Row::Trim(b"c", 6, 2, 9, false),
+    Row::At(b"c", 6, 2, Some((6, 2))),
+    Row::Forget(b"c", 6, 2),
+    Row::At(b"c", 6, 2, None),
+    Row::Trim(b"x", 1, 0, 9, false),
+];
+
+#[test]
+fn takes_out_what_is_followed(rt: HostRuntime) {
+    assert_eq!(rt; first_wrong_of_three(rt.alloc(), TRIMMED.as_slice()), None);
 }
 
 static LISTED: [Row; 7] = [

@@ -19,6 +19,8 @@ mod leases;
 #[cfg(test)]
 mod pages;
 #[cfg(test)]
+mod sorted_map;
+#[cfg(test)]
 mod spans;
 #[cfg(test)]
 mod table;

@@ -16,7 +16,7 @@ use Rattle.store_laws.proofs.RevOrder.{rev_lt-main, is_rev-self, is_rev-before}
 use Rattle.store_laws.proofs.Rising.{IsAbove, rising-parts}
 use Rattle.version_table.specs.Rising.{IsRising}
 use Rattle.version_table.proofs.Changes.{without_rev-middle}
-use Rattle.key_index.specs.KeyRevisions.{after_place}
+use Rattle.key_index.specs.KeyRevisions.{after_place, is_followed, is_rev_up_to}
 use Rattle.key_index.specs.Index.{Index, revisions, without_revision}
 use Rattle.key_index.specs.Agrees.{Agrees, revisions_of}
 use Rattle.key_index.proofs.Agrees.{revisions_of-cons, remove-agrees}
@@ -131,10 +131,6 @@ trimmed-keeps P vs p c h f = by (find (λ u. not (rev_lt u.rev p)) vs)
 
 -- ---- whether a later version of the key is there
 
-abbrev is_by : ℕ → Option Rev → Bool
-is_by c None = false
-is_by c (Some q) = nat_le q.main c
-
 pub above-number : (a b c : ℕ) → a ≤ b → nat_le a c ≡ false → nat_le b c ≡ false
 above-number a b c h g = grind (arith, nat_tests)
 
@@ -155,34 +151,30 @@ module _ (k : List ℕ) (p : Rev) (c : ℕ) where
       ∙ ap (λ b. b || list_any later us) (none-of (same_key u.key k) (rev_lt p u.rev))
       ∙ none-later q us a.1 h
 
-  superseded : (vs : List Version) → IsRising vs → list_any later vs ≡ is_by c (after_place p (revisions_of k vs))
+  superseded : (vs : List Version) → IsRising vs → list_any later vs ≡ is_rev_up_to c (after_place p (revisions_of k vs))
   superseded [] r = refl
   superseded (v ∷ vs) r =
       by (same_key v.key k) (rev_lt p v.rev) refl (nat_le v.rev.main c) refl (superseded vs r.1)
-      ∙ sym (ap (λ qs. is_by c (after_place p qs)) (revisions_of-cons k v vs))
+      ∙ sym (ap (λ qs. is_rev_up_to c (after_place p qs)) (revisions_of-cons k v vs))
     where
       here : (d : Bool) → nat_le v.rev.main c ≡ d → (d || list_any later vs) ≡ nat_le v.rev.main c
       here true f = sym f
       here false f = none-later v.rev vs r.0 f ∙ sym f
 
       by : (a b : Bool) → rev_lt p v.rev ≡ b → (d : Bool) → nat_le v.rev.main c ≡ d
-          → list_any later vs ≡ is_by c (after_place p (revisions_of k vs))
-          → ((a && b && d) || list_any later vs) ≡ is_by c (after_place p (cond a (v.rev ∷ revisions_of k vs) (revisions_of k vs)))
+          → list_any later vs ≡ is_rev_up_to c (after_place p (revisions_of k vs))
+          → ((a && b && d) || list_any later vs) ≡ is_rev_up_to c (after_place p (cond a (v.rev ∷ revisions_of k vs) (revisions_of k vs)))
       by true true e d f rest =
-          here d f ∙ sym (ap (λ b. is_by c (cond b (Some v.rev) (after_place p (revisions_of k vs)))) e)
+          here d f ∙ sym (ap (λ b. is_rev_up_to c (cond b (Some v.rev) (after_place p (revisions_of k vs)))) e)
       by true false e d f rest =
-          rest ∙ sym (ap (λ b. is_by c (cond b (Some v.rev) (after_place p (revisions_of k vs)))) e)
+          rest ∙ sym (ap (λ b. is_rev_up_to c (cond b (Some v.rev) (after_place p (revisions_of k vs)))) e)
       by false b e d f rest = rest
 
-pub superseded-some : (i : Index) (vs : List Version) (v : Version) (c : ℕ) (q : Rev) → IsRising vs → Agrees i vs
-    → Some q ≡ after_place v.rev (revisions v.key i) → nat_le q.main c ≡ is_superseded vs c v
+pub superseded-followed : (i : Index) (vs : List Version) (v : Version) (c : ℕ) → IsRising vs → Agrees i vs
+    → is_followed v.rev c (revisions v.key i) ≡ is_superseded vs c v
 unfolding is_superseded
-superseded-some i vs v c q r a e = ap (is_by c) (e ∙ ap (after_place v.rev) (a.each v.key)) ∙ sym (superseded v.key v.rev c vs r)
-
-pub superseded-none : (i : Index) (vs : List Version) (v : Version) (c : ℕ) → IsRising vs → Agrees i vs
-    → None ≡ after_place v.rev (revisions v.key i) → false ≡ is_superseded vs c v
-unfolding is_superseded
-superseded-none i vs v c r a e = ap (is_by c) (e ∙ ap (after_place v.rev) (a.each v.key)) ∙ sym (superseded v.key v.rev c vs r)
+superseded-followed i vs v c r a =
+    ap (λ qs. is_rev_up_to c (after_place v.rev qs)) (a.each v.key) ∙ sym (superseded v.key v.rev c vs r)
 
 -- ---- the index of what is left
 

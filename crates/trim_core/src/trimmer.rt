@@ -5,7 +5,7 @@ ghost use Rattle.key_index.specs.Agrees.{Agrees};
 ghost use Rattle.std.specs.Prelude.{option_copied};
 ghost use Rattle.trim_core.specs.Steps.{next_version, step_of};
 
-use crate::rule::{is_trimmed, next_version, place_after};
+use crate::rule::{next_version, place_after, unindex};
 use key_index::KeyIndex;
 use kv_model::version::{Rev, Version};
 use std::marker::Model;
@@ -83,8 +83,7 @@ impl Trimmer {
             Some(version) => {
                 let rev = version.rev;
                 self.place = place_after(rev);
-                if is_trimmed(index, version, compacted) {
-                    index.remove(&version.key, rev);
+                if unindex(index, version, compacted) {
                     table.remove(rev);
                     Trim::Removed(rev)
                 } else {

@@ -1,19 +1,18 @@
--- What goes out by a turn is just what the client was given of the watch.
-use Rattle.std.proofs.Common.{◌≡◌, ◌⊎◌, inl, inr, ℕ, ◌==◌, List, [], ◌∷◌, ◌++◌, take, drop, length, ◌≤◌, Bool, true, false, Option, None, Some, Result, Ok, Err, refl, sym, ◌∙◌, ap, subst, append_assoc, if◌then◌else◌, arith, rules, map, true≢false}
-use Rattle.std.specs.List.{concat}
-use Rattle.std.proofs.lemmas.Bool.Decides.{nat_tests}
+-- What goes out by a turn is just what the client's events tell the watch.
+use Rattle.std.proofs.Common.{◌≡◌, ◌⊎◌, inl, inr, ℕ, ◌==◌, List, [], ◌∷◌, ◌++◌, take, drop, length, ◌≤◌, Bool, true, false, Option, None, Some, Result, Ok, Err, refl, sym, ◌∙◌, ap, subst, append_assoc, if◌then◌else◌, true≢false}
 use Rattle.std.proofs.lemmas.List.{append-nil, take-append-drop}
 use Rattle.std.specs.Io.KnownBytes.{Appends, Keeps, append_known}
 use Rattle.kv_model.specs.declared.ids.Ids.{Ids}
-use Rattle.json_gateway.specs.declared.outcome.Message.{Message}
-use Rattle.json_gateway.specs.declared.outcome.Message.TheVariants as message
-use Rattle.engine_lock.specs.Locked.{Caller, TellsTo, left, plus}
-use Rattle.engine_lock.specs.declared.past.Given.{Given}
-use Rattle.engine_lock.specs.declared.past.Given.TheVariants as given
+use Rattle.kv_model.specs.Follows.Outcome.{memory, said}
+use Rattle.kv_model.specs.Wire.{WireOutcome, WireTold}
+use Rattle.event_book.specs.Events.{Entry, Event, entry}
+use Rattle.event_book.proofs.Giving.{adds_one, gives_both, shows_none}
+use Rattle.engine_lock.specs.Entering.{EntersAlone}
+use Rattle.engine_lock.specs.Locked.{Caller}
 use Rattle.http_reply.specs.Replies.{chunk, last_chunk}
-use Rattle.watch_streams.specs.Lines.{LineState, Sends, is_out, is_stale, with_unsent}
-use Rattle.watch_streams.specs.Streams.{IsGiven, TellsNext}
-use Rattle.watch_streams.specs.Turns.{Goes, IsExact, SentIs, Steps, Turned, bytes_of, chunk_of, goes_out, goes_out_of, is_cut, most_looks, unsent_turn}
+use Rattle.watch_streams.specs.Lines.{LineState, Sends, aged, is_out, is_stale}
+use Rattle.watch_streams.specs.Streams.{Asks, TellsNext}
+use Rattle.watch_streams.specs.Turns.{Goes, Grows, IsExact, SentIs, Steps, Tells, TellsOnly, Turned, bytes_of, chunk_of, goes_out, goes_out_of, is_cut, most_looks, unsent_turn}
 use Rattle.watch_streams.specs.declared.telling.Next.{Next}
 use Rattle.watch_streams.specs.declared.telling.Next.TheVariants as next
 use Rattle.watch_streams.specs.declared.turning.Turn.{Turn}
@@ -51,175 +50,141 @@ known_kept None b x p = tt
 known_kept (Some a) None x p = absurd p
 known_kept (Some a) (Some b) x p = ap (λ z. z ++ x) p ∙ sym (append-nil (a ++ x))
 
--- ---- what goes out of a list
+-- ---- what the events of a client tell
 
-pub goes_out_both : (n : ℕ) (xs ys : List Given) → goes_out n (xs ++ ys) ≡ goes_out n xs ++ goes_out n ys
+goes_out_both : (n : ℕ) (xs ys : List Entry) → goes_out n (xs ++ ys) ≡ goes_out n xs ++ goes_out n ys
 goes_out_both n [] ys = refl
 goes_out_both n (x ∷ xs) ys = ap (λ z. goes_out_of n x ++ z) (goes_out_both n xs ys) ∙ sym (append_assoc (goes_out_of n x) (goes_out n xs) (goes_out n ys))
 
-same_number : (n : ℕ) → (n == n) ≡ true
-same_number n = grind (arith, nat_tests)
+pub tells_none : (n : ℕ) (c : Caller) → Tells n c [] c
+tells_none n c = record {
+  more = [];
+  gives = shows_none c.holder c.holder (record { between = []; others = refl; grows = sym (append-nil c.holder.front); number = refl });
+  out = refl;
+}
 
-goes_out_one : (n : ℕ) (m : Message) → goes_out n (given.Told n m ∷ []) ≡ chunk_of m
-goes_out_one n m = append-nil (goes_out_of n (given.Told n m)) ∙ ap (λ (b : Bool). if b then chunk_of m else []) (same_number n)
-
--- ---- steps
-
-pub exact_stays : (c : Caller) (l : LineState) → IsExact c l c l
-exact_stays c l = record { more = []; grows = sym (append-nil c.given); bytes = nothing_more (bytes_of l); number = refl; ended = λ e. (refl, e) }
-
-pub no_more : {xs ys : List ℕ} → xs ≡ [] → ys ≡ [] → xs ++ ys ≡ []
-no_more p q = λ i. p i ++ q i
-
-exact_both : (c d e : Caller) (l m k : LineState) → IsExact c l d m → IsExact d m e k → IsExact c l e k
-exact_both c d e l m k p q = record {
+pub tells_both : (n : ℕ) (c d e : Caller) (x y : List ℕ) → Tells n c x d → Tells n d y e → Tells n c (x ++ y) e
+tells_both n c d e x y p q = record {
   more = p.more ++ q.more;
-  grows = q.grows ∙ ap (λ z. z ++ q.more) p.grows ∙ append_assoc c.given p.more q.more;
-  bytes = subst (Appends (bytes_of l) (bytes_of k)) (sym (goes_out_both l.number p.more q.more))
-      (more_after (bytes_of l) (bytes_of m) (bytes_of k) (goes_out l.number p.more) (goes_out l.number q.more) p.bytes
-      (subst (λ (n : ℕ). Appends (bytes_of m) (bytes_of k) (goes_out n q.more)) p.number q.bytes));
-  number = q.number ∙ p.number;
-  ended = λ was.
-      let first = p.ended was in
-      let second = q.ended first.1 in
-      (goes_out_both l.number p.more q.more ∙ no_more first.0 (subst (λ (n : ℕ). goes_out n q.more ≡ []) p.number second.0), second.1);
+  gives = gives_both c.holder d.holder e.holder p.more q.more p.gives q.gives;
+  out = goes_out_both n p.more q.more ∙ (λ i. p.out i ++ q.out i);
 }
 
--- a message, which is then to go out
-exact_given : (ids : Ids) (c d : Caller) (l m : LineState) (x : Message) → IsGiven ids c l x d → l.unsent ≡ [] → l.ended ≡ false
-    → m.wrote ≡ l.wrote → m.unsent ≡ chunk_of x → m.number ≡ l.number → IsExact c l d m
-exact_given ids c d l m x g out goes wrote unsent number = record {
-  more = given.Told l.number x ∷ [];
-  grows = ap (λ (e : Caller). e.given) g.given;
-  bytes = subst (Appends (bytes_of l) (bytes_of m)) (sym (goes_out_one l.number x))
-      (subst (λ (b : Option (List ℕ)). Appends (bytes_of l) b (chunk_of x)) (λ i. append_known (sym wrote i) (sym unsent i))
-      (subst (λ (u : List ℕ). Appends (append_known l.wrote u) (append_known l.wrote (chunk_of x)) (chunk_of x)) (sym out) (known_more l.wrote (chunk_of x))));
-  number = number;
+pub tells_one : (ids : Ids) (n : ℕ) (c : Caller) (e : Event) (o : WireOutcome) (d : Caller) → EntersAlone ids c e o d
+    → Tells n c (goes_out n (entry c.holder.number c.about e o ∷ [])) d
+tells_one ids n c e o d a = record {
+  more = entry c.holder.number c.about e o ∷ [];
+  gives = adds_one ids c.holder c.about e o d.holder a.0.adds;
+  out = refl;
+}
+
+-- ---- and no other watch
+
+if_none : (b : Bool) (x : List ℕ) → x ≡ (if b then x else x)
+if_none true x = refl
+if_none false x = refl
+
+if_both : (b : Bool) (x y : List ℕ) → (if b then x else []) ++ (if b then y else []) ≡ (if b then x ++ y else [])
+if_both true x y = refl
+if_both false x y = refl
+
+only_none : (k : ℕ) (c : Caller) → TellsOnly k c [] c
+only_none k c n = subst (λ z. Tells n c z c) (if_none (k == n) []) (tells_none n c)
+
+only_both : (k : ℕ) (c d e : Caller) (x y : List ℕ) → TellsOnly k c x d → TellsOnly k d y e → TellsOnly k c (x ++ y) e
+only_both k c d e x y p q n = subst (λ z. Tells n c z e) (if_both (k == n) x y) (tells_both n c d e _ _ (p n) (q n))
+
+asked : (ids : Ids) (c : Caller) (l : LineState) (o : WireOutcome) (d : Caller) → Asks ids c l o d → TellsOnly l.number c (chunk_of o) d
+asked ids c l o d a n = subst (λ z. Tells n c z d) (append-nil (if l.number == n then chunk_of o else [])) (tells_one ids n c (Event.delivery l.number) o d a)
+
+-- ---- how the bytes of a stream grow
+
+pub grows_same : (l m : LineState) → m ≡ l → Grows l [] m
+grows_same l m is = subst (Grows l []) (sym is) (record { bytes = nothing_more (bytes_of l); number = refl; ended = λ was. (refl, was) })
+
+looked : (b : Bool) (l : LineState) (looks : ℕ) → Grows l [] (if b then l else record l { looks = looks })
+looked true l looks = grows_same l l refl
+looked false l looks = record { bytes = nothing_more (bytes_of l); number = refl; ended = λ was. (refl, was) }
+
+pub grows_aged : (l : LineState) → Grows l [] (aged l)
+grows_aged l = looked (is_out l) l _
+
+grows_told : (l m : LineState) (x : List ℕ) (ends : Bool) → l.unsent ≡ [] → l.ended ≡ false → m ≡ record l { unsent = x; ended = ends } → Grows l x m
+grows_told l m x ends out goes is = subst (Grows l x) (sym is) (record {
+  bytes = subst (λ (u : List ℕ). Appends (append_known l.wrote u) (append_known l.wrote x) x) (sym out) (known_more l.wrote x);
+  number = refl;
   ended = λ was. absurd (true≢false (sym was ∙ goes));
+})
+
+grows_sent : (l m : LineState) (r : Result ℕ Bool) → Sends l m r → Grows l [] m
+grows_sent l m (Ok n) s = subst (Grows l []) (sym s.2) (record { bytes = known_sent l.wrote m.wrote n l.unsent s.1; number = refl; ended = λ was. (refl, was) })
+grows_sent l m (Err again) s = subst (Grows l []) (sym s.1) (record { bytes = known_kept l.wrote m.wrote l.unsent s.0; number = refl; ended = λ was. (refl, was) })
+
+sent_is : (l m : LineState) (r : Option Turn) → SentIs l r m → Grows l [] m
+sent_is l m _ (SentIs.some n s) = grows_sent l m (Ok n) s
+sent_is l _ _ (SentIs.none out) = grows_same l l refl
+sent_is l m _ (SentIs.unsent again s) = grows_sent l m (Err again) s
+
+grows_both : (l m k : LineState) (x y : List ℕ) → Grows l x m → Grows m y k → Grows l (x ++ y) k
+grows_both l m k x y p q = record {
+  bytes = more_after (bytes_of l) (bytes_of m) (bytes_of k) x y p.bytes q.bytes;
+  number = q.number ∙ p.number;
+  ended = λ was. let first = p.ended was in let second = q.ended first.1 in ((λ i. first.0 i ++ second.0 i), second.1);
 }
 
--- nothing that goes out, and a client that was given nothing
-exact_same : (c d : Caller) (l m : LineState) → d.given ≡ c.given → m ≡ l → IsExact c l d m
-exact_same c d l m given same = record {
-  more = [];
-  grows = given ∙ sym (append-nil c.given);
-  bytes = subst (λ (k : LineState). Appends (bytes_of l) (bytes_of k) []) (sym same) (nothing_more (bytes_of l));
-  number = ap (λ (k : LineState). k.number) same;
-  ended = λ was. (refl, ap (λ (k : LineState). k.ended) same ∙ was);
-}
+-- ---- turns
 
--- a write
-exact_sent : (c d : Caller) (l m : LineState) (r : Result ℕ Bool) → d.given ≡ c.given → Sends l m r → IsExact c l d m
-exact_sent c d l m (Ok n) given s = record {
-  more = [];
-  grows = given ∙ sym (append-nil c.given);
-  bytes = subst (λ (k : LineState). Appends (bytes_of l) (bytes_of k) []) (sym s.2) (known_sent l.wrote m.wrote n l.unsent s.1);
-  number = ap (λ (k : LineState). k.number) s.2;
-  ended = λ was. (refl, ap (λ (k : LineState). k.ended) s.2 ∙ was);
-}
-exact_sent c d l m (Err again) given s = record {
-  more = [];
-  grows = given ∙ sym (append-nil c.given);
-  bytes = subst (λ (k : LineState). Appends (bytes_of l) (bytes_of k) []) (sym s.1) (known_kept l.wrote m.wrote l.unsent s.0);
-  number = ap (λ (k : LineState). k.number) s.1;
-  ended = λ was. (refl, ap (λ (k : LineState). k.ended) s.1 ∙ was);
-}
+-- what a turn does, also where a message was lost by it: then it told more than goes out
+pub record Does (c : Caller) (l : LineState) (cut : Bool) (d : Caller) (m : LineState) : Type 0 where
+  pub told : List ℕ
+  pub text : List ℕ
+  pub tells : TellsOnly l.number c told d
+  pub grows : Grows l text m
+  pub kept : cut ≡ false → told ≡ text
 
-sent_is : (c d : Caller) (l m : LineState) (r : Option Turn) → d.given ≡ c.given → SentIs l r m → IsExact c l d m
-sent_is c d l m _ given (SentIs.some n s) = exact_sent c d l m (Ok n) given s
-sent_is c d l _ _ given (SentIs.none out) = exact_same c d l l given refl
-sent_is c d l m _ given (SentIs.unsent again s) = exact_sent c d l m (Err again) given s
+does : (c d : Caller) (l m : LineState) (cut : Bool) (x : List ℕ) → TellsOnly l.number c x d → Grows l x m → Does c l cut d m
+does c d l m cut x tells grows = record { told = x; text = x; tells = tells; grows = grows; kept = λ k. refl }
+
+loses : (c d : Caller) (l m : LineState) (x : List ℕ) → TellsOnly l.number c x d → m ≡ l → Does c l true d m
+loses c d l m x tells same = record { told = x; text = []; tells = tells; grows = grows_same l m same; kept = λ k. absurd (true≢false k) }
+
+pub exact_of : (c d : Caller) (l m : LineState) (cut : Bool) → cut ≡ false → Does c l cut d m → IsExact c l d m
+exact_of c d l m cut k t = (t.told, t.tells, subst (λ x. Grows l x m) (sym (t.kept k)) t.grows)
+
+exact_then : (c d e : Caller) (l m k : LineState) (cut : Bool) → IsExact c l d m → Does d m cut e k → Does c l cut e k
+exact_then c d e l m k cut p q = record {
+  told = p.0 ++ q.told;
+  text = p.0 ++ q.text;
+  tells = only_both l.number c d e p.0 q.told p.1 (subst (λ (n : ℕ). TellsOnly n d q.told e) p.2.number q.tells);
+  grows = grows_both l m k p.0 q.text p.2 q.grows;
+  kept = λ is. ap (λ z. p.0 ++ z) (q.kept is);
+}
 
 -- whether a step lost a message
 abbrev cuts : Option Turn → Bool
 cuts None = false
 cuts (Some t) = is_cut t
 
-exact_step : (ids : Ids) (c d : Caller) (l m : LineState) (r : Option Turn) → cuts r ≡ false → Steps ids c l r d m → IsExact c l d m
-exact_step ids c d l m _ k (Steps.told t) =
-    exact_given ids c d l m (message.Text t.0) t.1 t.2 t.3 (ap (λ (n : LineState). n.wrote) t.4) (ap (λ (n : LineState). n.unsent) t.4) (ap (λ (n : LineState). n.number) t.4)
-exact_step ids c d l m _ k (Steps.ended t) =
-    exact_given ids c d l m message.NoWatch t.0 t.1 t.2 (ap (λ (n : LineState). n.wrote) t.3) (ap (λ (n : LineState). n.unsent) t.3) (ap (λ (n : LineState). n.number) t.3)
-exact_step ids c d l m _ k (Steps.quiet t) = exact_same c d l m (ap (λ (e : Caller). e.given) t.1) t.2
-exact_step ids c d l m _ k (Steps.wanting t) = exact_same c d l m (ap (λ (e : Caller). e.given) t.0) t.1
-exact_step ids c d l m _ k (Steps.cut t) = absurd (true≢false k)
-exact_step ids c d l m r k (Steps.sent {c'} {l'} t s) =
-    sent_is c d l m r (ap (λ (e : Caller). e.given) t.1) (subst (λ (n : LineState). SentIs n r m) t.2 s)
+step_is : (ids : Ids) (c d : Caller) (l m : LineState) (r : Option Turn) → Steps ids c l r d m → Does c l (cuts r) d m
+step_is ids c d l m _ (Steps.told t) =
+    does c d l m false (chunk t.0) (asked ids c l (said (WireTold.message t.0)) d t.1) (grows_told l m (chunk t.0) l.ended t.2 t.3 t.4)
+step_is ids c d l m _ (Steps.ended t) = does c d l m false last_chunk (asked ids c l (said WireTold.no_watch) d t.0) (grows_told l m last_chunk true t.1 t.2 t.3)
+step_is ids c d l m _ (Steps.quiet t) = does c d l m false [] (asked ids c l (said WireTold.nothing) d t.0) (grows_same l m t.1)
+step_is ids c d l m _ (Steps.wanting t) = does c d l m false [] (asked ids c l memory d t.0) (grows_same l m t.1)
+step_is ids c d l m _ (Steps.cut (inl a, same)) = loses c d l m (chunk a.0) (asked ids c l (said (WireTold.message a.0)) d a.1) same
+step_is ids c d l m _ (Steps.cut (inr a, same)) = loses c d l m last_chunk (asked ids c l (said WireTold.no_watch) d a) same
+step_is ids c d l m r (Steps.sent {c'} {l'} t s) =
+    does c d l m (cuts r) [] (subst (TellsOnly l.number c []) (sym t.1) (only_none l.number c)) (subst (λ (k : LineState). Grows k [] m) t.2 (sent_is l' m r s))
 
-pub exact_goes : (ids : Ids) (c : Caller) (l : LineState) (d : Caller) (m : LineState) → Goes ids c l d m → IsExact c l d m
-exact_goes ids c l _ _ Goes.stays = exact_stays c l
-exact_goes ids c l d m (Goes.more {c'} {l'} goes step) = exact_both c c' d l l' m (exact_goes ids c l c' l' goes) (exact_step ids c' d l' m None refl step)
+pub goes_is : (ids : Ids) (c : Caller) (l : LineState) (d : Caller) (m : LineState) → Goes ids c l d m → IsExact c l d m
+goes_is ids c l _ _ Goes.stays = ([], only_none l.number c, grows_same l l refl)
+goes_is ids c l d m (Goes.more {c'} {l' = l'} goes step) =
+    exact_of c d l m false refl (exact_then c c' d l l' m false (goes_is ids c l c' l' goes) (step_is ids c' d l' m None step))
 
-pub exact_last : (ids : Ids) (c c' d : Caller) (l l' m : LineState) (t : Turn) → Goes ids c l c' l' → Steps ids c' l' (Some t) d m → is_cut t ≡ false → IsExact c l d m
-exact_last ids c c' d l l' m t goes step k = exact_both c c' d l l' m (exact_goes ids c l c' l' goes) (exact_step ids c' d l' m (Some t) k step)
-
-pub exact_turned : (ids : Ids) (c : Caller) (l : LineState) (t : Turn) (d : Caller) (m : LineState) → Turned ids c l t d m → is_cut t ≡ false → IsExact c l d m
-exact_turned ids c l _ d m (Turned.on goes) k = exact_goes ids c l d m goes
-exact_turned ids c l t d m (Turned.last {c'} {l' = l'} goes step) k = exact_last ids c c' d l l' m t goes step k
-
--- ---- the number stays, also where a message was lost
-
-sent_number : (l m : LineState) (r : Option Turn) → SentIs l r m → m.number ≡ l.number
-sent_number l m _ (SentIs.some n s) = ap (λ (k : LineState). k.number) s.2
-sent_number l _ _ (SentIs.none out) = refl
-sent_number l m _ (SentIs.unsent again s) = ap (λ (k : LineState). k.number) s.1
-
-step_number : (ids : Ids) (c d : Caller) (l m : LineState) (r : Option Turn) → Steps ids c l r d m → m.number ≡ l.number
-step_number ids c d l m _ (Steps.told t) = ap (λ (k : LineState). k.number) t.4
-step_number ids c d l m _ (Steps.ended t) = ap (λ (k : LineState). k.number) t.3
-step_number ids c d l m _ (Steps.quiet t) = ap (λ (k : LineState). k.number) t.2
-step_number ids c d l m _ (Steps.wanting t) = ap (λ (k : LineState). k.number) t.1
-step_number ids c d l m _ (Steps.cut t) = ap (λ (k : LineState). k.number) t.3
-step_number ids c d l m r (Steps.sent {c'} {l'} t s) = sent_number l' m r s ∙ ap (λ (k : LineState). k.number) t.2
-
-pub turned_number : (ids : Ids) (c : Caller) (l : LineState) (t : Turn) (d : Caller) (m : LineState) → Turned ids c l t d m → m.number ≡ l.number
-turned_number ids c l _ d m (Turned.on goes) = (exact_goes ids c l d m goes).number
-turned_number ids c l t d m (Turned.last {c'} {l' = l'} goes step) = step_number ids c' d l' m (Some t) step ∙ (exact_goes ids c l c' l' goes).number
-
--- ---- of another watch nothing goes out
-
--- a client was given more, and nothing of this watch
-pub record Besides (n : ℕ) (c d : Caller) : Type 0 where
-  pub more : List Given
-  pub grows : d.given ≡ c.given ++ more
-  pub silent : goes_out n more ≡ []
-
-pub besides_same : (n : ℕ) (c d : Caller) → d.given ≡ c.given → Besides n c d
-besides_same n c d e = record { more = []; grows = e ∙ sym (append-nil c.given); silent = refl }
-
-besides_both : (n : ℕ) (c d e : Caller) → Besides n c d → Besides n d e → Besides n c e
-besides_both n c d e p q = record {
-  more = p.more ++ q.more;
-  grows = q.grows ∙ ap (λ z. z ++ q.more) p.grows ∙ append_assoc c.given p.more q.more;
-  silent = goes_out_both n p.more q.more ∙ no_more p.silent q.silent;
-}
-
-besides_given : (ids : Ids) (n : ℕ) (c d : Caller) (l : LineState) (x : Message) → (l.number == n) ≡ false → IsGiven ids c l x d → Besides n c d
-besides_given ids n c d l x other g = record {
-  more = given.Told l.number x ∷ [];
-  grows = ap (λ (e : Caller). e.given) g.given;
-  silent = append-nil (goes_out_of n (given.Told l.number x)) ∙ ap (λ (b : Bool). if b then chunk_of x else []) other;
-}
-
-besides_step : (ids : Ids) (n : ℕ) (c d : Caller) (l m : LineState) (r : Option Turn) → (l.number == n) ≡ false → Steps ids c l r d m → Besides n c d
-besides_step ids n c d l m _ other (Steps.told t) = besides_given ids n c d l (message.Text t.0) other t.1
-besides_step ids n c d l m _ other (Steps.ended t) = besides_given ids n c d l message.NoWatch other t.0
-besides_step ids n c d l m _ other (Steps.quiet t) = besides_same n c d (ap (λ (e : Caller). e.given) t.1)
-besides_step ids n c d l m _ other (Steps.wanting t) = besides_same n c d (ap (λ (e : Caller). e.given) t.0)
-besides_step ids n c d l m _ other (Steps.cut t) = besides_given ids n c d l t.0 other t.2
-besides_step ids n c d l m r other (Steps.sent t s) = besides_same n c d (ap (λ (e : Caller). e.given) t.1)
-
-besides_goes : (ids : Ids) (n : ℕ) (c : Caller) (l : LineState) (d : Caller) (m : LineState) → (l.number == n) ≡ false → Goes ids c l d m → Besides n c d
-besides_goes ids n c l _ _ other Goes.stays = besides_same n c c refl
-besides_goes ids n c l d m other (Goes.more {c'} {l' = l'} goes step) =
-    besides_both n c c' d (besides_goes ids n c l c' l' other goes)
-    (besides_step ids n c' d l' m None (ap (λ (k : ℕ). k == n) (exact_goes ids c l c' l' goes).number ∙ other) step)
-
-pub besides_turned : (ids : Ids) (n : ℕ) (c : Caller) (l : LineState) (t : Turn) (d : Caller) (m : LineState) → (l.number == n) ≡ false → Turned ids c l t d m → Besides n c d
-besides_turned ids n c l _ d m other (Turned.on goes) = besides_goes ids n c l d m other goes
-besides_turned ids n c l t d m other (Turned.last {c'} {l' = l'} goes step) =
-    besides_both n c c' d (besides_goes ids n c l c' l' other goes)
-    (besides_step ids n c' d l' m (Some t) (ap (λ (k : ℕ). k == n) (exact_goes ids c l c' l' goes).number ∙ other) step)
+pub turned_is : (ids : Ids) (c : Caller) (l : LineState) (t : Turn) (d : Caller) (m : LineState) → Turned ids c l t d m → Does c l (is_cut t) d m
+turned_is ids c l _ d m (Turned.on goes) = let e = goes_is ids c l d m goes in does c d l m false e.0 e.1 e.2
+turned_is ids c l t d m (Turned.last {c'} {l' = l'} goes step) =
+    exact_then c c' d l l' m (is_cut t) (goes_is ids c l c' l' goes) (step_is ids c' d l' m (Some t) step)
 
 -- ---- what a step comes to
 

@@ -1,54 +1,27 @@
--- What goes out of a stream over its whole life is just what the client was given of its watch.
-use Rattle.std.proofs.Common.{◌≡◌, ◌⊎◌, inl, inr, ℕ, ◌+◌, ◌-◌, ◌^◌, min, ◌==◌, List, [], ◌∷◌, ◌++◌, Bool, true, false, Option, Some, refl, sym, ◌∙◌, ap, subst, append_assoc, if◌then◌else◌, true≢false}
+-- What goes out of a stream over its whole life is just what the client's events tell its watch.
+use Rattle.std.proofs.Common.{◌≡◌, ◌⊎◌, inl, inr, ℕ, ◌==◌, List, [], ◌∷◌, ◌++◌, Bool, true, false, Option, Some, refl, sym, ◌∙◌, ap, subst, if◌then◌else◌, true≢false, arith}
+use Rattle.std.proofs.lemmas.Bool.Decides.{nat_tests}
 use Rattle.std.proofs.lemmas.List.{append-nil}
 use Rattle.std.specs.BTreeMap.{is_at}
 use Rattle.std.specs.Map.{lookup, set_value}
 use Rattle.std.specs.Ordering.{nat_cmp}
 use Rattle.std.specs.Io.KnownBytes.{Appends, append_known}
 use Rattle.kv_model.specs.declared.ids.Ids.{Ids}
+use Rattle.event_book.specs.Events.{Event}
 use Rattle.engine_lock.specs.Locked.{Caller}
-use Rattle.engine_lock.specs.declared.past.Given.{Given}
-use Rattle.engine_lock.specs.declared.past.Given.TheVariants as given
 use Rattle.http_reply.specs.Replies.{last_chunk}
-use Rattle.watch_streams.specs.Lines.{LineState, aged, begun_at, closed, is_out}
+use Rattle.watch_streams.specs.Lines.{LineState, aged, begun_at, closed}
 use Rattle.watch_streams.specs.Lives.{AreWhole, IsWhole, Lives, Passes}
-use Rattle.watch_streams.specs.Sets.{ChangesOne, IsEnded, LetsGo, SetState, TurnsOf, begun, line_at}
-use Rattle.watch_streams.specs.Turns.{IsExact, bytes_of, goes_out, is_cut}
+use Rattle.watch_streams.specs.Sets.{ChangesOne, SetState, TurnsOf, line_at}
+use Rattle.watch_streams.specs.Turns.{Grows, Tells, bytes_of, is_cut}
 use Rattle.watch_streams.specs.declared.turning.Turn.{Turn}
-use Rattle.watch_streams.proofs.Exact.{Besides, besides_same, besides_turned, exact_turned, goes_out_both, known_longer, more_after, no_more, nothing_more}
+use Rattle.watch_streams.proofs.Exact.{exact_of, grows_aged, grows_same, known_longer, more_after, nothing_more, tells_both, tells_none, tells_one, turned_is}
 use Rattle.watch_streams.proofs.Standing.{here_set, other_inserted, other_removed, other_set, same_key}
-
--- ---- one stream, in one call
-
--- what went out of it is what the client was given of this watch, and behind its end nothing is
-record IsOn (n : ℕ) (c : Caller) (l : LineState) (d : Caller) (m : LineState) : Type 0 where
-  more : List Given
-  grows : d.given ≡ c.given ++ more
-  bytes : Appends (bytes_of l) (bytes_of m) (goes_out n more)
-  ended : l.ended ≡ true → (goes_out n more ≡ []) × (m.ended ≡ true)
-
-on_exact : (n : ℕ) (c : Caller) (l : LineState) (d : Caller) (m : LineState) → l.number ≡ n → IsExact c l d m → IsOn n c l d m
-on_exact n c l d m is e = record {
-  more = e.more;
-  grows = e.grows;
-  bytes = subst (λ (k : ℕ). Appends (bytes_of l) (bytes_of m) (goes_out k e.more)) is e.bytes;
-  ended = λ was. (subst (λ (k : ℕ). goes_out k e.more ≡ []) is (e.ended was).0, (e.ended was).1);
-}
-
--- its bytes stay, and whether it has ended
-on_still : (n : ℕ) (c : Caller) (l : LineState) (d : Caller) (m : LineState) → Besides n c d → bytes_of m ≡ bytes_of l → m.ended ≡ l.ended
-    → IsOn n c l d m
-on_still n c l d m b bytes ended = record {
-  more = b.more;
-  grows = b.grows;
-  bytes = subst (Appends (bytes_of l) (bytes_of m)) (sym b.silent) (subst (λ (k : Option (List ℕ)). Appends (bytes_of l) k []) (sym bytes) (nothing_more (bytes_of l)));
-  ended = λ was. (b.silent, ended ∙ was);
-}
 
 -- ---- over its life
 
 whole_stays : (n : ℕ) (c : Caller) (l : LineState) → IsWhole n c l c l
-whole_stays n c l = record { more = []; grows = sym (append-nil c.given); last = []; bytes = nothing_more (bytes_of l); behind = inl refl }
+whole_stays n c l = record { text = []; tells = tells_none n c; last = []; bytes = nothing_more (bytes_of l); behind = inl refl }
 
 -- a last part that is nothing, or behind which nothing comes
 last_moves : (a b last : List ℕ) → (last ≡ []) ⊎ (b ≡ []) → (a ++ last) ++ b ≡ (a ++ b) ++ last
@@ -57,35 +30,34 @@ last_moves a b last (inl e) =
 last_moves a b last (inr e) =
     ap (λ z. (a ++ last) ++ z) e ∙ append-nil (a ++ last) ∙ ap (λ z. z ++ last) (sym (append-nil a)) ∙ ap (λ z. (a ++ z) ++ last) (sym e)
 
-whole_goes : (n : ℕ) (c d e : Caller) (l m k : LineState) → IsWhole n c l d m → IsOn n d m e k → IsWhole n c l e k
-whole_goes n c d e l m k p q = record {
-  more = p.more ++ q.more;
-  grows = q.grows ∙ ap (λ z. z ++ q.more) p.grows ∙ append_assoc c.given p.more q.more;
+whole_goes : (n : ℕ) (c d e : Caller) (l m k : LineState) (x : List ℕ) → IsWhole n c l d m → Tells n d x e → Grows m x k → IsWhole n c l e k
+whole_goes n c d e l m k x p t g = record {
+  text = p.text ++ x;
+  tells = tells_both n c d e p.text x p.tells t;
   last = p.last;
-  bytes = subst (Appends (bytes_of l) (bytes_of k))
-      (last_moves (goes_out n p.more) (goes_out n q.more) p.last (silent p.behind) ∙ ap (λ z. z ++ p.last) (sym (goes_out_both n p.more q.more)))
-      (more_after (bytes_of l) (bytes_of m) (bytes_of k) (goes_out n p.more ++ p.last) (goes_out n q.more) p.bytes q.bytes);
+  bytes = subst (Appends (bytes_of l) (bytes_of k)) (last_moves p.text x p.last (silent p.behind))
+      (more_after (bytes_of l) (bytes_of m) (bytes_of k) (p.text ++ p.last) x p.bytes g.bytes);
   behind = on p.behind;
 }
   where
-    silent : (p.last ≡ []) ⊎ ((p.last ≡ last_chunk) × (m.ended ≡ true)) → (p.last ≡ []) ⊎ (goes_out n q.more ≡ [])
+    silent : (p.last ≡ []) ⊎ ((p.last ≡ last_chunk) × (m.ended ≡ true)) → (p.last ≡ []) ⊎ (x ≡ [])
     silent (inl h) = inl h
-    silent (inr h) = inr (q.ended h.1).0
+    silent (inr h) = inr (g.ended h.1).0
 
     on : (p.last ≡ []) ⊎ ((p.last ≡ last_chunk) × (m.ended ≡ true)) → (p.last ≡ []) ⊎ ((p.last ≡ last_chunk) × (k.ended ≡ true))
     on (inl h) = inl h
-    on (inr h) = inr (h.0, (q.ended h.1).1)
+    on (inr h) = inr (h.0, (g.ended h.1).1)
 
 -- its last chunk is to go out, where it had not ended
 whole_ends : (n : ℕ) (c d : Caller) (l m : LineState) → m.ended ≡ false → IsWhole n c l d m
     → IsWhole n c l d (record m { unsent = m.unsent ++ last_chunk; ended = true })
 whole_ends n c d l m goes p = record {
-  more = p.more;
-  grows = p.grows;
+  text = p.text;
+  tells = p.tells;
   last = last_chunk;
   bytes = subst (Appends (bytes_of l) (append_known m.wrote (m.unsent ++ last_chunk)))
-      (ap (λ z. (goes_out n p.more ++ z) ++ last_chunk) (none p.behind) ∙ ap (λ z. z ++ last_chunk) (append-nil (goes_out n p.more)))
-      (more_after (bytes_of l) (bytes_of m) (append_known m.wrote (m.unsent ++ last_chunk)) (goes_out n p.more ++ p.last) last_chunk p.bytes
+      (ap (λ z. (p.text ++ z) ++ last_chunk) (none p.behind) ∙ ap (λ z. z ++ last_chunk) (append-nil p.text))
+      (more_after (bytes_of l) (bytes_of m) (append_known m.wrote (m.unsent ++ last_chunk)) (p.text ++ p.last) last_chunk p.bytes
       (known_longer m.wrote m.unsent last_chunk));
   behind = inr (refl, refl);
 }
@@ -101,22 +73,13 @@ whole_closed n c d l m p = by m.ended refl
     by true e = p
     by false e = whole_ends n c d l m e p
 
-chosen_bytes : (b : Bool) (x y m : LineState) → bytes_of x ≡ bytes_of m → bytes_of y ≡ bytes_of m → bytes_of (if b then x else y) ≡ bytes_of m
-chosen_bytes true x y m p q = p
-chosen_bytes false x y m p q = q
-
-chosen_ended : (b : Bool) (x y m : LineState) → x.ended ≡ m.ended → y.ended ≡ m.ended → (if b then x else y).ended ≡ m.ended
-chosen_ended true x y m p q = p
-chosen_ended false x y m p q = q
-
-abbrev looked : LineState → LineState
-looked m = record m { looks = min (m.looks + 1) (2 ^ 32 - 1) }
-
 whole_aged : (n : ℕ) (c d : Caller) (l m : LineState) → IsWhole n c l d m → IsWhole n c l d (aged m)
-whole_aged n c d l m p = whole_goes n c d d l m (aged m) p (on_still n d m d (aged m) (besides_same n d d refl)
-    (chosen_bytes (is_out m) m (looked m) m refl refl) (chosen_ended (is_out m) m (looked m) m refl refl))
+whole_aged n c d l m p = whole_goes n c d d l m (aged m) [] p (tells_none n d) (grows_aged m)
 
 -- ---- what stands, and its life
+
+same_number : (n : ℕ) → (n == n) ≡ true
+same_number n = grind (arith, nat_tests)
 
 -- the stream of the watch stands, and what went out of it is whole
 abbrev Stands : ℕ → Caller → LineState → SetState → Type 0
@@ -155,34 +118,35 @@ stands_turned : (ids : Ids) (n : ℕ) (c : Caller) (l : LineState) (s t : SetSta
     → Stands n c l s → Stands n c l t
 stands_turned ids n c l s t came kept turn (m, here, whole) =
     let whole' : IsWhole n c l s.client turn.before = subst (IsWhole n c l s.client) (sym (same_line (line_at n s) m turn.before here turn.stood)) whole in
-    let exact = exact_turned ids s.client turn.before came t.client turn.after turn.turned kept in (
+    let e = exact_of s.client t.client turn.before turn.after (is_cut came) kept (turned_is ids s.client turn.before came t.client turn.after turn.turned) in
+    let own : (turn.before.number == n) ≡ true = ap (λ k. k == n) turn.number ∙ same_number n in (
       turn.after,
       ap (lookup (at n)) turn.lines ∙ here_set (at n) s.lines turn.before turn.after turn.stood,
-      whole_goes n c s.client t.client l turn.before turn.after whole' (on_exact n s.client turn.before t.client turn.after turn.number exact),
+      whole_goes n c s.client t.client l turn.before turn.after e.0 whole'
+          (subst (λ (b : Bool). Tells n s.client (if b then e.0 else []) t.client) own (e.1 n)) e.2,
     )
 
--- the client was given nothing of this watch, and its stream stands as it was
-stands_beside : (n : ℕ) (c : Caller) (l : LineState) (s t : SetState) → Besides n s.client t.client → line_at n t ≡ line_at n s
+-- the client's events tell nothing to this watch, and its stream stands as it was
+stands_beside : (n : ℕ) (c : Caller) (l : LineState) (s t : SetState) → Tells n s.client [] t.client → line_at n t ≡ line_at n s
     → Stands n c l s → Stands n c l t
 stands_beside n c l s t b same (m, here, whole) =
-    (m, same ∙ here, whole_goes n c s.client t.client l m m whole (on_still n s.client m t.client m b refl refl))
+    (m, same ∙ here, whole_goes n c s.client t.client l m m [] whole b (grows_same m m refl))
 
 stands_passed : (ids : Ids) (n : ℕ) (c : Caller) (l : LineState) (s t : SetState) → Passes ids n s t → Stands n c l s → Stands n c l t
 stands_passed ids n c l s t (Passes.turns came kept turn) h = stands_turned ids n c l s t came kept turn h
 stands_passed ids n c l s t (Passes.another k came other turn) h =
-    stands_beside n c l s t (besides_turned ids n s.client turn.before came t.client turn.after (ap (λ (j : ℕ). j == n) turn.number ∙ other) turn.turned)
+    let does = turned_is ids s.client turn.before came t.client turn.after turn.turned in
+    stands_beside n c l s t
+    (subst (λ (b : Bool). Tells n s.client (if b then does.told else []) t.client) (ap (λ j. j == n) turn.number ∙ other) (does.tells n))
     (ap (lookup (at n)) turn.lines ∙ other_set n k other s.lines turn.after) h
 stands_passed ids n c l s t (Passes.begins k call wrote other e) h =
-    stands_beside n c l s t (besides_same n s.client t.client (ap (λ (u : SetState). u.client.given) e))
+    stands_beside n c l s t (subst (λ (u : SetState). Tells n s.client [] u.client) (sym e) (tells_none n s.client))
     (ap (line_at n) e ∙ other_inserted n k other s.lines (begun_at k call wrote)) h
 stands_passed ids n c l s t (Passes.ends k other go) h =
-    stands_beside n c l s t
-    (record { more = given.Dropped k go.ended.stood ∷ []; grows = ap (λ (d : Caller). d.given) go.ended.given; silent = refl })
+    stands_beside n c l s t (tells_one ids n s.client (Event.ending k) _ t.client go.ended.1)
     (ap (lookup (at n)) go.lines ∙ other_removed n k other s.lines) h
 stands_passed ids n c l s t (Passes.refuses k r) h =
-    stands_beside n c l s t
-    (record { more = given.Dropped k r.ended.stood ∷ []; grows = ap (λ (d : Caller). d.given) r.ended.given; silent = refl })
-    (ap (lookup (at n)) r.lines) h
+    stands_beside n c l s t (tells_one ids n s.client (Event.ending k) _ t.client r.ended.1) (ap (lookup (at n)) r.lines) h
 stands_passed ids n c l s t (Passes.closes k change) h = stands_changed closed whole_closed n c l k s t change h
 stands_passed ids n c l s t (Passes.ages k change) h = stands_changed aged whole_aged n c l k s t change h
 

@@ -1,5 +1,5 @@
 -- The streams that stand, by the numbers of their watches.
-use Rattle.std.proofs.Common.{◌≡◌, ℕ, ◌+◌, ◌-◌, ◌^◌, min, ◌==◌, List, [], ◌∷◌, ◌++◌, Bool, true, false, cond, Option, None, Some, Result, Ok, Err, OnOk, OnErr, ◌⊎◌, inl, inr, refl, sym, ◌∙◌, ap, subst, if◌then◌else◌, arith}
+use Rattle.std.proofs.Common.{◌≡◌, ℕ, ◌==◌, List, [], ◌∷◌, ◌++◌, Bool, true, false, cond, Option, None, Some, Result, Ok, Err, OnOk, OnErr, ◌⊎◌, inl, inr, refl, sym, ◌∙◌, ap, subst, if◌then◌else◌, arith}
 use Rattle.std.specs.BTreeMap.{insert_entry, is_at}
 use Rattle.std.specs.Map.{lookup, remove_entry, set_value}
 use Rattle.std.specs.Ordering.{is_eq, match_ordering, nat_cmp}
@@ -8,7 +8,7 @@ use Rattle.std.specs.declared.cmp.Ordering.TheVariants.{Less, Equal, Greater}
 use Rattle.std.proofs.lemmas.Bool.Decides.{nat_tests}
 use Rattle.std.proofs.lemmas.Map.Lookups.{exact_unsigned}
 use Rattle.http_reply.specs.Replies.{last_chunk}
-use Rattle.watch_streams.specs.Lines.{LineState, aged, closed, is_out}
+use Rattle.watch_streams.specs.Lines.{LineState, closed}
 use Rattle.std.proofs.lemmas.Map.Steps.{set_value_same}
 use Rattle.watch_streams.specs.Sets.{AreNumbered, ChangesOne, SetState, line_at, with_line}
 
@@ -113,17 +113,14 @@ numbered_removed n (e ∷ es) h = by (at n e.0) (numbered_removed n es h.1)
     by true later = h.1
     by false later = (h.0, later)
 
--- ---- changes that keep the number
+-- ---- a change that keeps the number
 
-chosen : (b : Bool) (x y : LineState) (n : ℕ) → x.number ≡ n → y.number ≡ n → (if b then x else y).number ≡ n
-chosen true x y n p q = p
-chosen false x y n p q = q
-
-pub closed_number : (l : LineState) → (closed l).number ≡ l.number
-closed_number l = chosen l.ended l (record l { unsent = l.unsent ++ last_chunk; ended = true }) l.number refl refl
-
-pub aged_number : (l : LineState) → (aged l).number ≡ l.number
-aged_number l = chosen (is_out l) l (record l { looks = min (l.looks + 1) (2 ^ 32 - 1) }) l.number refl refl
+closed_number : (l : LineState) → (closed l).number ≡ l.number
+closed_number l = by l.ended
+  where
+    by : (b : Bool) → (if b then l else record l { unsent = l.unsent ++ last_chunk; ended = true }).number ≡ l.number
+    by true = refl
+    by false = refl
 
 -- ---- a change of one stream
 

@@ -12,7 +12,7 @@ use Rattle.watch_streams.specs.declared.turning.Turn.{Turn}
 pub record Serves (ids : Ids) (n : ℕ) (old : SetState) (t : Turn) (new : SetState) : Type 0 where
   pub turned : SetState
   pub turns : TurnsOf ids n old t turned
-  pub behind : MatchBool (is_over t) (LetsGo n turned new) (new ≡ turned)
+  pub behind : MatchBool (is_over t) (LetsGo ids n turned new) (new ≡ turned)
 
 -- it had a turn, if it stands
 abbrev pub MayTurn : Ids → ℕ → SetState → Option Turn → SetState → Type 0
@@ -25,7 +25,7 @@ pub record Parts (ids : Ids) (n : ℕ) (old new : SetState) : Type 0 where
   pub turn : Option Turn
   pub turned : SetState
   pub turns : MayTurn ids n closing turn turned
-  pub goes : LetsGo n turned new
+  pub goes : LetsGo ids n turned new
 
 -- its client was heard, and where it has left, the stream has parted, and only there
 abbrev pub Hears : Ids → Type 0 → ℕ → SetState → Heard → SetState → Type 0
@@ -38,6 +38,6 @@ abbrev pub AtEnd : Type 0 → Bool → Type 0 → SetState → SetState → Type
 AtEnd Ends ends Changes old new = MatchBool ends (Ends × Changes) (new ≡ old)
 
 -- the watch was ended of a stream that could not begin, and no stream has changed
-pub record Refuses (n : ℕ) (old new : SetState) : Type 0 where
+pub record Refuses (ids : Ids) (n : ℕ) (old new : SetState) : Type 0 where
   pub lines : new.lines ≡ old.lines
-  pub ended : IsEnded n old.client new.client
+  pub ended : IsEnded ids n old.client new.client

@@ -3,12 +3,11 @@ use Rattle.std.specs.Prelude.{◌≡◌, ◌⊎◌, ℕ, ◌==◌, List, [], ◌
 use Rattle.std.specs.Io.KnownBytes.{Appends}
 use Rattle.kv_model.specs.declared.ids.Ids.{Ids}
 use Rattle.engine_lock.specs.Locked.{Caller}
-use Rattle.engine_lock.specs.declared.past.Given.{Given}
 use Rattle.http_reply.specs.Replies.{last_chunk}
 use Rattle.watch_streams.specs.Ends.{Refuses}
 use Rattle.watch_streams.specs.Lines.{LineState, aged, closed}
 use Rattle.watch_streams.specs.Sets.{ChangesOne, LetsGo, SetState, TurnsOf, begun, line_at}
-use Rattle.watch_streams.specs.Turns.{bytes_of, goes_out, is_cut}
+use Rattle.watch_streams.specs.Turns.{Tells, bytes_of, is_cut}
 use Rattle.watch_streams.specs.declared.turning.Turn.{Turn}
 
 -- one call while the stream of a watch stands: a turn of it by which no message was lost; or of another one any turn, its
@@ -17,8 +16,8 @@ pub data Passes (ids : Ids) (n : ℕ) (old new : SetState) : Type 0 where
   turns : (t : Turn) → is_cut t ≡ false → TurnsOf ids n old t new → Passes ids n old new
   another : (k : ℕ) (t : Turn) → (k == n) ≡ false → TurnsOf ids k old t new → Passes ids n old new
   begins : (k call : ℕ) (wrote : Option (List ℕ)) → (k == n) ≡ false → new ≡ begun k call wrote old → Passes ids n old new
-  ends : (k : ℕ) → (k == n) ≡ false → LetsGo k old new → Passes ids n old new
-  refuses : (k : ℕ) → Refuses k old new → Passes ids n old new
+  ends : (k : ℕ) → (k == n) ≡ false → LetsGo ids k old new → Passes ids n old new
+  refuses : (k : ℕ) → Refuses ids k old new → Passes ids n old new
   closes : (k : ℕ) → ChangesOne closed k old new → Passes ids n old new
   ages : (k : ℕ) → ChangesOne aged k old new → Passes ids n old new
 
@@ -27,14 +26,14 @@ pub data Lives (ids : Ids) (n : ℕ) (old : SetState) : SetState → Type 0 wher
   stays : Lives ids n old old
   more : {s t : SetState} → Lives ids n old s → Passes ids n s t → Lives ids n old t
 
--- What went out of the stream of a watch since, with what has not, is just what the client was given of the watch since, in
--- order, each once, whatever else it was given meanwhile; and the last chunk behind it, where the stream was ended before
+-- What went out of the stream of a watch since, with what has not, is just what the client's events since tell the watch, in
+-- order, each once, whatever other events it made meanwhile; and the last chunk behind it, where the stream was ended before
 -- its watch was.
 pub record IsWhole (n : ℕ) (c : Caller) (l : LineState) (d : Caller) (m : LineState) : Type 0 where
-  pub more : List Given
-  pub grows : d.given ≡ c.given ++ more
+  pub text : List ℕ
+  pub tells : Tells n c text d
   pub last : List ℕ
-  pub bytes : Appends (bytes_of l) (bytes_of m) (goes_out n more ++ last)
+  pub bytes : Appends (bytes_of l) (bytes_of m) (text ++ last)
   pub behind : (last ≡ []) ⊎ ((last ≡ last_chunk) × (m.ended ≡ true))
 
 -- so it is of each stream, over its whole life

@@ -6,8 +6,11 @@ use Rattle.std.specs.Map.{lookup, remove_entry, set_value}
 use Rattle.std.specs.Option.{option_map, option_map_or}
 use Rattle.std.specs.Ordering.{nat_cmp}
 use Rattle.kv_model.specs.declared.ids.Ids.{Ids}
-use Rattle.engine_lock.specs.Locked.{Caller, DropsFor, left, plus}
-use Rattle.engine_lock.specs.declared.past.Given.TheVariants as given
+use Rattle.kv_model.specs.Follows.Outcome.{said}
+use Rattle.kv_model.specs.Wire.{WireTold}
+use Rattle.event_book.specs.Events.{Event}
+use Rattle.engine_lock.specs.Entering.{EntersAlone}
+use Rattle.engine_lock.specs.Locked.{Caller}
 use Rattle.watch_streams.specs.Lines.{LineState, begun_at, is_out}
 use Rattle.watch_streams.specs.Turns.{Turned}
 use Rattle.watch_streams.specs.declared.turning.Turn.{Turn}
@@ -58,13 +61,11 @@ pub record TurnsOf (ids : Ids) (n : ℕ) (old : SetState) (t : Turn) (new : SetS
   pub turned : Turned ids old.client before t new.client after
   pub lines : new.lines ≡ with_line n after old
 
--- the watch of this number was ended, if it stood, and the client was given that
-pub record IsEnded (n : ℕ) (old new : Caller) : Type 0 where
-  pub stood : Bool
-  pub drops : DropsFor old.made n stood
-  pub given : new ≡ plus (left old) (given.Dropped n stood)
+-- the watch of this number was ended, if it stood, by one event of the client
+abbrev pub IsEnded : Ids → ℕ → Caller → Caller → Type 0
+IsEnded ids n old new = (stood : Bool) × EntersAlone ids old (Event.ending n) (said (WireTold.closed stood)) new
 
 -- the stream of this watch is let go, and its watch was ended
-pub record LetsGo (n : ℕ) (old new : SetState) : Type 0 where
+pub record LetsGo (ids : Ids) (n : ℕ) (old new : SetState) : Type 0 where
   pub lines : new.lines ≡ remove_entry (is_at (nat_cmp n)) old.lines
-  pub ended : IsEnded n old.client new.client
+  pub ended : IsEnded ids n old.client new.client

@@ -3,11 +3,11 @@ use Rattle.std.specs.List.{concat}
 use Rattle.std.specs.Prelude.{◌≡◌, ℕ, ◌==◌, List, [], ◌++◌, map, Bool, true, false, Option, None, Some, Result, Ok, Err, if◌then◌else◌}
 use Rattle.std.specs.Io.KnownBytes.{Appends, append_known}
 use Rattle.kv_model.specs.declared.ids.Ids.{Ids}
-use Rattle.json_gateway.specs.declared.outcome.Message.{Message}
-use Rattle.json_gateway.specs.declared.outcome.Message.TheVariants as message
+use Rattle.kv_model.specs.Follows.{Outcome}
+use Rattle.kv_model.specs.Wire.{WireOutcome, WireTold}
+use Rattle.event_book.specs.Callers.{Gives}
+use Rattle.event_book.specs.Events.{Entry, Event}
 use Rattle.engine_lock.specs.Locked.{Caller}
-use Rattle.engine_lock.specs.declared.past.Given.{Given}
-use Rattle.engine_lock.specs.declared.past.Given.TheVariants as given
 use Rattle.http_reply.specs.Replies.{chunk, last_chunk}
 use Rattle.watch_streams.specs.Lines.{LineState, Sends, is_out, is_stale}
 use Rattle.watch_streams.specs.Streams.{TellsNext}
@@ -64,29 +64,44 @@ is_over _ = false
 
 -- ---- what goes out by it
 
--- on the stream of the watch of a number, of all that a client was given: the chunk of each message to that watch, and
--- the last chunk where it is no more
-abbrev pub chunk_of : Message → List ℕ
-chunk_of (message.Text x) = chunk x.items
-chunk_of message.NoWatch = last_chunk
-chunk_of message.Nothing = []
+-- by what a watch was told: the chunk of a message, and the last chunk where the watch is no more
+abbrev pub chunk_of : WireOutcome → List ℕ
+chunk_of (Outcome.said (WireTold.message text)) = chunk text
+chunk_of (Outcome.said WireTold.no_watch) = last_chunk
+chunk_of _ = []
 
-abbrev pub goes_out_of : ℕ → Given → List ℕ
-goes_out_of n (given.Told k m) = if k == n then chunk_of m else []
-goes_out_of n _ = []
+-- on the stream of the watch of a number, of the events of a client: of each by which that watch was told
+abbrev pub goes_out_by : ℕ → Event → WireOutcome → List ℕ
+goes_out_by n (Event.delivery k) o = if k == n then chunk_of o else []
+goes_out_by n _ o = []
 
-abbrev pub goes_out : ℕ → List Given → List ℕ
-goes_out n gs = concat (map (goes_out_of n) gs)
+abbrev pub goes_out_of : ℕ → Entry → List ℕ
+goes_out_of n e = goes_out_by n e.event e.outcome
+
+abbrev pub goes_out : ℕ → List Entry → List ℕ
+goes_out n es = concat (map (goes_out_of n) es)
+
+-- by all events of a client since, in order, just this goes out on the stream of this watch
+pub record Tells (n : ℕ) (c : Caller) (text : List ℕ) (d : Caller) : Type 0 where
+  pub more : List Entry
+  pub gives : Gives c.holder more d.holder
+  pub out : goes_out n more ≡ text
+
+-- and on that of any other one nothing
+abbrev pub TellsOnly : ℕ → Caller → List ℕ → Caller → Type 0
+TellsOnly k c text d = (n : ℕ) → Tells n c (if k == n then text else []) d
 
 -- what its writer is known to hold, with what has not gone out
 abbrev pub bytes_of : LineState → Option (List ℕ)
 bytes_of l = append_known l.wrote l.unsent
 
--- what went out since, with what has not, is just what the client was given of this watch since; and one that has ended
--- stays so, and is told nothing more
-pub record IsExact (c : Caller) (l : LineState) (d : Caller) (m : LineState) : Type 0 where
-  pub more : List Given
-  pub grows : d.given ≡ c.given ++ more
-  pub bytes : Appends (bytes_of l) (bytes_of m) (goes_out l.number more)
+-- they grew by just this; and one that has ended stays so, and they grow no more
+pub record Grows (l : LineState) (text : List ℕ) (m : LineState) : Type 0 where
+  pub bytes : Appends (bytes_of l) (bytes_of m) text
   pub number : m.number ≡ l.number
-  pub ended : l.ended ≡ true → (goes_out l.number more ≡ []) × (m.ended ≡ true)
+  pub ended : l.ended ≡ true → (text ≡ []) × (m.ended ≡ true)
+
+-- what went out since, with what has not, is just what the client's events since tell this watch, and they tell no other one
+-- anything
+abbrev pub IsExact : Caller → LineState → Caller → LineState → Type 0
+IsExact c l d m = (text : List ℕ) × TellsOnly l.number c text d × Grows l text m

@@ -2,7 +2,7 @@
 ghost use Rattle.watch_streams.specs.Lives.{AreWhole};
 
 /// What goes out of a stream over its whole life, with what has not gone out yet, is just what the
-/// client was given of its watch meanwhile, in order, each once, whatever turns other streams have.
+/// client's events meanwhile tell its watch, in order, each once, whatever turns other streams have.
 pub fn streams_are_whole()
     ensures { AreWhole }
 {}

@@ -33,13 +33,13 @@ pub struct Streams<L: EngineName, W: Write> {
 
 impl<L: EngineName, W: Write> Model for Streams<L, W> {
     ghost use Rattle.std.specs.Coded.{codes};
-    ghost use Rattle.engine_lock.specs.contracts.past.Given as given;
+    ghost use Rattle.kv_model.specs.contracts.call.Command as commands;
     ghost use Rattle.snapshot_feed.specs.contracts.reader.SnapReader as reads;
     ghost use Rattle.watch_streams.specs.Sets.{AreNumbered, SetState};
 
     ghost Value = { SetState };
 
-    ghost coded = { Prim.hlevel (codes, given.the_row.coded, reads.the_row.coded) };
+    ghost coded = { Prim.hlevel (codes, commands.the_row.coded, reads.the_row.coded) };
 
     ghost view = { λ s. record { client = s.client; lines = s.lines.entries } };
 
@@ -124,7 +124,7 @@ impl<L: EngineName, W: Write + Drop> Streams<L, W> {
 
     /// Ends the watch of a stream that could not begin.
     pub fn refuse<G: Gate, R: Wait>(&mut self, events: &Recorded<'_, L, G, R>, number: u64)
-        ensures { Refuses number self.old self.new }
+        ensures { Refuses events.now.engine.now.ids number self.old self.new }
     {
         let _ = events.drop_watch(&mut self.client, number);
     }
@@ -137,7 +137,7 @@ impl<L: EngineName, W: Write + Drop> Streams<L, W> {
         number: u64,
     ) -> Option<Turn>
         ensures { MatchOption result (self.new ≡ self.old)
-            (λ t. Serves events.now.engine.now number self.old t self.new) }
+            (λ t. Serves events.now.engine.now.ids number self.old t self.new) }
     {
         match self.turn_once(events, number) {
             Some(turn) => Some(self.leave_behind(events, number, turn)),
@@ -151,7 +151,7 @@ impl<L: EngineName, W: Write + Drop> Streams<L, W> {
         events: &Recorded<'_, L, G, R>,
         number: u64,
     ) -> Option<Turn>
-        ensures { MayTurn events.now.engine.now number self.old result self.new }
+        ensures { MayTurn events.now.engine.now.ids number self.old result self.new }
     {
         match self.lines.get_mut(&number) {
             Some(line) => Some(take_turn(self.alloc, events, &mut self.client, line)),
@@ -167,8 +167,8 @@ impl<L: EngineName, W: Write + Drop> Streams<L, W> {
         turn: Turn,
     ) -> Turn
         ensures turn { result ≡ turn }
-        ensures behind { MatchBool (is_over turn) (LetsGo number self.old self.new)
-            (self.new ≡ self.old) }
+        ensures behind { MatchBool (is_over turn)
+            (LetsGo events.now.engine.now.ids number self.old self.new) (self.new ≡ self.old) }
     {
         if turn.is_over() {
             self.let_go(events, number);
@@ -185,7 +185,7 @@ impl<L: EngineName, W: Write + Drop> Streams<L, W> {
         ears: &H,
         number: u64,
     ) -> Heard
-        ensures { Hears events.now.engine.now (H.Left ears.now number) number self.old result
+        ensures { Hears events.now.engine.now.ids (H.Left ears.now number) number self.old result
             self.new }
     {
         match self.hear_at(ears, number) {
@@ -210,7 +210,7 @@ impl<L: EngineName, W: Write + Drop> Streams<L, W> {
 
     /// A stream ends in order, as far as its client takes that at once, and its watch is ended.
     fn part<G: Gate, R: Wait>(&mut self, events: &Recorded<'_, L, G, R>, number: u64)
-        ensures { Parts events.now.engine.now number self.old self.new }
+        ensures { Parts events.now.engine.now.ids number self.old self.new }
     {
         let _ = self.close(number);
         let _ = self.turn_once(events, number);
@@ -237,7 +237,8 @@ impl<L: EngineName, W: Write + Drop> Streams<L, W> {
         ears: &H,
         number: u64,
     ) -> bool
-        ensures { AtEnd (H.Ends ears.now) result (LetsGo number self.old self.new) self.old self.new }
+        ensures { AtEnd (H.Ends ears.now) result
+            (LetsGo events.now.engine.now.ids number self.old self.new) self.old self.new }
     {
         let is_over = ears.ends();
         if !is_over {
@@ -249,7 +250,7 @@ impl<L: EngineName, W: Write + Drop> Streams<L, W> {
 
     /// Ends the watch of a stream, and lets the stream go.
     fn let_go<G: Gate, R: Wait>(&mut self, events: &Recorded<'_, L, G, R>, number: u64)
-        ensures { LetsGo number self.old self.new }
+        ensures { LetsGo events.now.engine.now.ids number self.old self.new }
     {
         let _ = self.lines.remove(&number);
         let _ = events.drop_watch(&mut self.client, number);

@@ -35,7 +35,7 @@ pub fn tell<L: EngineName, G: Gate, R: Wait, W: Write>(
     client: &mut Client<L>,
     line: &mut Line<W>,
 ) -> Next
-    ensures { TellsNext events.now.engine.now client.old line.old result client.new line.new }
+    ensures { TellsNext events.now.engine.now.ids client.old line.old result client.new line.new }
 {
     if !line.is_out() || line.has_ended() {
         return Next::Waits;

@@ -49,14 +49,15 @@ impl Turn {
 /// told what there is, and so on, up to 16 such steps.
 ///
 /// What goes out is in order, each once, and nothing besides: the chunks of the messages that the
-/// engine told its watch, and the last chunk where the watch is no more (`Goes`).
+/// engine told its watch, and the last chunk where the watch is no more (`Goes`). The client's events
+/// by it tell no other watch anything.
 pub fn take_turn<L: EngineName, G: Gate, R: Wait, W: Write>(
     alloc: Global,
     events: &Recorded<'_, L, G, R>,
     client: &mut Client<L>,
     line: &mut Line<W>,
 ) -> Turn
-    ensures turned { Turned events.now.engine.now client.old line.old result client.new line.new }
+    ensures turned { Turned events.now.engine.now.ids client.old line.old result client.new line.new }
     ensures exact { is_cut result ≡ false → IsExact client.old line.old client.new line.new }
 {
     for _ in 0..MOST_STEPS {
@@ -74,7 +75,7 @@ fn step<L: EngineName, G: Gate, R: Wait, W: Write>(
     client: &mut Client<L>,
     line: &mut Line<W>,
 ) -> Option<Turn>
-    ensures { Steps events.now.engine.now client.old line.old result client.new line.new }
+    ensures { Steps events.now.engine.now.ids client.old line.old result client.new line.new }
 {
     match tell(events, client, line) {
         Next::Told | Next::Ended => None,

@@ -1,15 +1,13 @@
 //! An engine whose events are written down, under its lock, as the lines of a script.
-ghost use Rattle.std.specs.Prelude.{◌≡◌};
-ghost use Rattle.engine_lock.specs.Locked.{Submits, left, rise, with_done};
-ghost use Rattle.engine_lock.specs.Takings.{Takes};
-ghost use Rattle.engine_lock.specs.declared.past.Given.TheVariants as given;
+ghost use Rattle.std.specs.Prelude.{◌≡◌, true};
+ghost use Rattle.engine_lock.specs.Entering.{Submits};
+ghost use Rattle.engine_lock.specs.Takings.{TakesLines};
 
-use super::watching::News;
 use super::{Engine, Submitted, locked};
 use crate::asked::Asked;
 use crate::client::Client;
 use crate::opening::{EngineName, Opening};
-use crate::state::State;
+use crate::taken::Taken;
 use json_gateway::Ids;
 use std::alloc::Global;
 use std::sync::{Mutex, Wait};
@@ -26,15 +24,12 @@ impl<L: EngineName> Engine<L> {
     pub fn recorded(alloc: Global, opening: Opening, ids: Ids) -> Self
         requires name { opening.name ≡ L.Ledger.name }
         requires parts { opening.parts ≡ L.Ledger.parts }
-        requires book { opening.book ≡ L.book }
-        ensures { result ≡ ids }
+        requires book { opening.book ≡ L.ListName.book }
+        requires ids { ids ≡ L.ListName.ids }
+        requires recorded { L.recorded ≡ true }
+        ensures { result ≡ record { ids = ids; clients = 0; recorded = true } }
     {
-        Engine {
-            alloc,
-            ids,
-            state: Mutex::new(State::new(alloc, opening, true)),
-            news: News::none(),
-        }
+        Engine::opened(alloc, opening, ids, true)
     }
 
     /// As [`Engine::submit`], of a command and the request for it, which is its line where events are
@@ -46,10 +41,7 @@ impl<L: EngineName> Engine<L> {
         now: u64,
         asked: &Asked<'_>,
     ) -> Submitted
-        ensures submits { Submits self.now (left client.old) now asked.now result client.new }
-        ensures client { client.new ≡ record (with_done client.old
-            (given.Done asked.now.command now result.outcome) (rise result.outcome.raised))
-            { reader = client.new.reader } }
+        ensures { Submits self.now.ids client.old now asked.now result client.new }
     {
         client.leave();
         let mut state = locked(rt, &self.state);
@@ -58,15 +50,22 @@ impl<L: EngineName> Engine<L> {
         submitted
     }
 
-    /// Puts the lines that were not taken yet in place of what a list had. Says whether they are all:
-    /// where they are not, an event was made that has no line, or the events are not written down, and
-    /// none will come.
+    /// Up to which event lines were taken: whoever takes them has it locked meanwhile, before the
+    /// engine is. Waits for nobody.
+    pub fn taken(&self) -> &Mutex<Taken<L>> {
+        &self.taken
+    }
+
+    /// Puts the lines that were not taken yet in place of what a list had. Says whether none is
+    /// missing: where some are, an event was made that has no line, or the events are not written
+    /// down, and none will come.
     ///
-    /// They are the last of all that was written so far: the lines of events that lead from the opening
-    /// world to the one that the core stood for (`Takes`). Constant time under the lock.
-    pub fn take_lines<R: Wait>(&self, rt: &R, text: &mut Vec<u8>) -> bool
-        ensures { Takes text.new.items result }
+    /// The text goes on where the one before ended: with all that was taken before, it is the script
+    /// of the list of all events up to the one that `taken` tells from then on, or, where lines are
+    /// missing, of a beginning of it (`TakesLines`). Constant time under the lock.
+    pub fn take_lines<R: Wait>(&self, rt: &R, taken: &mut Taken<L>, text: &mut Vec<u8>) -> bool
+        ensures { TakesLines self.now.ids taken.old taken.new text.new.items result }
     {
-        locked(rt, &self.state).take_lines(text)
+        locked(rt, &self.state).take_lines(rt, taken, text)
     }
 }

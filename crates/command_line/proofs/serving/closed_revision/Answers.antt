@@ -1,7 +1,6 @@
 use Rattle.commands.specs.Script.{line_events}
 use Rattle.std.proofs.Common.{subst}
-use Rattle.command_line.specs.From.{IsBegun}
-use Rattle.command_line.specs.Serving.{StopsServing}
+use Rattle.command_line.specs.From.{IsBegun, StopsServing}
 use Rattle.command_line.proofs.Beginning.{of_beginning, of_server, on_ok, server_writes_nothing, writes_nothing}
 use Rattle.command_line.proofs.serving.closed_revision.Goals as goal
 

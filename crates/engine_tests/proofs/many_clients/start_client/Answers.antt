@@ -10,8 +10,8 @@ use Rattle.engine_tests.proofs.many_clients.start_client.Goals as goal
 pub spawn-requires-send-F : goal.spawn-requires-send-F
 spawn-requires-send-F g c κs _ =
     let b = c.type_bounds in
-    closure_send _ _ _ (_ ∷ _ ∷ _ ∷ _ ∷ []) (shr_send _ _ _ b.sync-R, (heap.the_send, (shr_send _ _ _ (engine_sync (param 1 g.row.L) g.L.EngineName g.L.Ledger), (client_send (param 1 g.row.L) g.L.EngineName g.L.Ledger, tt))))
+    closure_send _ _ _ (_ ∷ _ ∷ _ ∷ _ ∷ []) (shr_send _ _ _ b.sync-R, (heap.the_send, (shr_send _ _ _ (engine_sync (param 1 g.row.L) g.L.EngineName g.L.ListName g.L.Ledger), (client_send (param 1 g.row.L) g.L.EngineName g.L.ListName g.L.Ledger, tt))))
 
 -- and what it hands back, from it
 pub spawn-requires-send-T : goal.spawn-requires-send-T
-spawn-requires-send-T g c κs _ = param_send 2 _ (arg_send _ no _ (client_send (param 1 g.row.L) g.L.EngineName g.L.Ledger))
+spawn-requires-send-T g c κs _ = param_send 2 _ (arg_send _ no _ (client_send (param 1 g.row.L) g.L.EngineName g.L.ListName g.L.Ledger))

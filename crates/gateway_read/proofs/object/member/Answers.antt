@@ -1,7 +1,8 @@
 use Rattle.std.proofs.Common.{option_map, ap, ◌∙◌}
-use Rattle.serde_json.specs.View.{view}
-use Rattle.serde_json.proofs.Views.{view_of_ref, view-lookup}
+use Rattle.json.specs.Value.{value_view}
+use Rattle.gateway_read.specs.Values.{data_of}
+use Rattle.gateway_read.proofs.Values.{viewed, found-data}
 use Rattle.gateway_read.proofs.object.member.Goals as goal
 
 pub returns : goal.returns
-returns c = view_of_ref c.get.result ∙ ap (option_map view) c.get.ensures.value ∙ view-lookup c.args.name.now c.args.members.now.entries
+returns c = viewed c.get.result ∙ ap (option_map data_of) c.get.ensures ∙ found-data c.args.name.now (value_view c.args.value.now)

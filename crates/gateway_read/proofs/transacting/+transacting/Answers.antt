@@ -1,6 +1,6 @@
 use Rattle.std.proofs.Common.{◌-◌, ◌∙◌, ap, map, refl, arith, rules}
 use Rattle.std.proofs.lemmas.List.{map-append}
-use Rattle.serde_json.specs.View.{view}
+use Rattle.gateway_read.specs.Values.{view}
 use Rattle.kv_model.specs.Commands.{op_view}
 use Rattle.kv_model.specs.Requests as requests
 use Rattle.kv_model.specs.declared.call.Operation.{the_lemmas}

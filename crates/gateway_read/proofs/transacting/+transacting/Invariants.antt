@@ -1,5 +1,5 @@
 use Rattle.std.proofs.Common.{◌≡◌, ◌+◌, ◌*◌, map, drop}
-use Rattle.serde_json.specs.View.{items_view}
+use Rattle.gateway_read.specs.Values.{items_view}
 use Rattle.kv_model.specs.Commands.{op_view}
 use Rattle.kv_model.specs.Requests as requests
 use Rattle.gateway_read.specs.Fields.{snake_of}

@@ -1,5 +1,5 @@
 use Rattle.std.proofs.Common.{◌≡◌, drop}
-use Rattle.serde_json.specs.View.{items_view}
+use Rattle.gateway_read.specs.Values.{items_view}
 use Rattle.kv_model.specs.Requests.{each, compare_request}
 use Rattle.gateway_read.proofs.Transactions.{with_front}
 use Rattle.gateway_read.proofs.transacting.compares_of.Given as goal

@@ -1,5 +1,5 @@
 use Rattle.std.proofs.Common.{◌≡◌, List, drop}
-use Rattle.serde_json.specs.View.{items_view}
+use Rattle.gateway_read.specs.Values.{items_view}
 use Rattle.kv_model.specs.Requests as requests
 use Rattle.gateway_read.specs.Watches.{together}
 use Rattle.gateway_read.proofs.Transactions.{with_front}

@@ -1,19 +1,29 @@
-use Rattle.std.proofs.Common.{arith, refl}
-use Rattle.http_front.proofs.Trimmed.{done_last, last_refusal, others, refusal}
+use Rattle.std.proofs.Common.{◌≡◌, arith, refl, sym, true, ℕ, subst}
+use Rattle.trim_core.specs.declared.trimmer.Trim.{Trim}
+use Rattle.trim_core.specs.Told.{told_of}
+use Rattle.json_gateway.specs.Endings.{is_done}
+use Rattle.http_front.specs.Engines.{AreMade}
 use Rattle.http_front.proofs.by_engine.trim_all.Goals as goal
 
+pub loop-init : goal.loop-init
+loop-init g c = (AreMade.none, omega arith)
+
 pub returns-in-Ok-Done : goal.returns-in-Ok-Done
-returns-in-Ok-Done g c = c.loop.invariant.0 _ _
-    (done_last _ _ _ c.in-Ok-Done.field-0 _ c.in-Ok-Done.ensures.sees c.in-Ok-Done.field-0-is refl c.in-Ok-Done.ensures.given)
+returns-in-Ok-Done g c = record {
+  refusals = c.loop.refusals;
+  from = c.loop.client;
+  made = c.loop.invariant.0;
+  last = c.in-Ok-Done.field-0;
+  trims = c.in-Ok-Done.ensures.trims;
+  ends = subst (λ (x : Trim). is_done (told_of x) ≡ true) (sym c.in-Ok-Done.field-0-is) refl;
+}
 
 pub loop-preserved-in-Ok : goal.loop-preserved-in-Ok
-loop-preserved-in-Ok g c = (
-  λ b d later. c.loop.invariant.0 b d (others c.loop.refusals b _ _ c.in-Ok.field-0 c.in-Ok.ensures.sees c.in-Ok.ensures.given d later),
-  omega arith,
-)
+loop-preserved-in-Ok g c = (AreMade.more c.in-Ok.field-0 c.loop.invariant.0 c.in-Ok.ensures.trims, omega arith)
 
 pub returns-then-refusals-eq-MOST_REFUSALS : goal.returns-then-refusals-eq-MOST_REFUSALS
-returns-then-refusals-eq-MOST_REFUSALS g c = c.loop.invariant.0 _ _ (last_refusal c.loop.refusals _ _ c.in-Err.ensures.given c.if-refusals-eq-MOST_REFUSALS.true)
+returns-then-refusals-eq-MOST_REFUSALS g c = subst (λ (k : ℕ). AreMade c.args.events.now.engine.now.ids c.args.client.now k c.trim.new.client)
+    c.if-refusals-eq-MOST_REFUSALS.true (AreMade.again c.loop.invariant.0 c.in-Err.ensures.trims)
 
 pub loop-preserved : goal.loop-preserved
-loop-preserved g c = (λ b d later. c.loop.invariant.0 b d (refusal c.loop.refusals b _ _ c.in-Err.ensures.given d later), omega (arith, c.loop.invariant.1, c.if-refusals-eq-MOST_REFUSALS.false))
+loop-preserved g c = (AreMade.again c.loop.invariant.0 c.in-Err.ensures.trims, omega (arith, c.loop.invariant.1, c.if-refusals-eq-MOST_REFUSALS.false))

@@ -1,6 +1,9 @@
-use Rattle.std.proofs.Common.{[]}
-use Rattle.http_front.proofs.Shares.{never_falls}
+use Rattle.std.proofs.Common.{[], subst}
+use Rattle.engine_lock.specs.Locked.{Caller}
+use Rattle.http_front.specs.Engines.{Gets}
+use Rattle.http_front.proofs.Giving.{served}
 use Rattle.http_front.proofs.connection.work.Goals as goal
 
-pub returns-clause-share : goal.returns-clause-share
-returns-clause-share g c = never_falls c.args.engine.now _ _ [] 18446744073709551615 _ _ _ _ _ c.serve_all.ensures.serves
+pub returns-clause-gives : goal.returns-clause-gives
+returns-clause-gives g c = subst (λ (x : Caller). Gets x c.serve_all.new.state) c.set_about.ensures
+    (served c.args.engine.now.ids g.L.EngineName.recorded _ _ _ [] 18446744073709551615 _ _ _ _ _ c.serve_all.ensures.serves)

@@ -1,16 +1,8 @@
--- A key that is not there changes nothing, and one without revisions goes.
-use Rattle.std.proofs.Common.{refl, sym, ◌∙◌}
+-- The map has it in its place.
+use Rattle.std.proofs.Common.{refl, ◌∙◌}
 use Rattle.key_index.specs.KeyRevisions.{undone}
-use Rattle.key_index.proofs.Entries.{absent-changed, bare-changed}
+use Rattle.key_index.proofs.InPlace.{cut-changed}
 use Rattle.key_index.proofs.changes.undo.Goals as goal
 
-pub returns-in_default : goal.returns-in_default
-returns-in_default c =
-    rw c.get_mut.follows.holds-at-none
-    (absent-changed (undone c.args.main) refl c.args.key.now c.args.keys.now.entries (sym c.in_default.ensures.value))
-
-pub returns-then-is_empty : goal.returns-then-is_empty
-returns-then-is_empty c =
-    bare-changed (undone c.args.main) refl c.args.key.now c.args.keys.now.entries c.in-Some.revisions.now c.undo.new.self _ _
-    c.in-Some.ensures.value c.undo.ensures (sym c.is_empty.ensures ∙ c.if-is_empty.true)
-    (c.get_mut.follows.holds c.undo.new.self).0 c.remove.ensures.entries
+pub returns : goal.returns
+returns c = c.cut.ensures.pairs ∙ cut-changed (undone c.args.main) refl c.args.key.now c.args.keys.now

@@ -8,4 +8,4 @@ returns-clause-ops c = keeps-ops c.append-logged.result c.again.result _ _ c.app
 pub returns-clause-marked : goal.returns-clause-marked
 returns-clause-marked c is f =
     marks-all c.append-logged.result c.again.result _ _ c.append-logged.ensures.pending (sym c.is_ok.ensures.value ∙ is) f
-    ∙ c.again.ensures.value
+    ∙ c.again.ensures

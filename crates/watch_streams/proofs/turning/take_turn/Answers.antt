@@ -1,5 +1,5 @@
 use Rattle.watch_streams.specs.Turns.{Goes, Turned}
-use Rattle.watch_streams.proofs.Exact.{exact_goes, exact_last}
+use Rattle.watch_streams.proofs.Exact.{exact_of, goes_is, turned_is}
 use Rattle.watch_streams.proofs.turning.take_turn.Goals as goal
 
 pub loop-init : goal.loop-init
@@ -12,10 +12,10 @@ pub returns-in-Some-clause-turned : goal.returns-in-Some-clause-turned
 returns-in-Some-clause-turned g c = Turned.last c.loop.invariant c.in-Some.ensures
 
 pub returns-in-Some-clause-exact : goal.returns-in-Some-clause-exact
-returns-in-Some-clause-exact g c = λ k. exact_last _ _ _ _ _ _ _ _ c.loop.invariant c.in-Some.ensures k
+returns-in-Some-clause-exact g c = λ k. exact_of _ _ _ _ _ k (turned_is _ _ _ _ _ _ (Turned.last c.loop.invariant c.in-Some.ensures))
 
 pub returns-clause-turned : goal.returns-clause-turned
 returns-clause-turned g c = Turned.on c.loop.invariant
 
 pub returns-clause-exact : goal.returns-clause-exact
-returns-clause-exact g c = λ _. exact_goes _ _ _ _ _ c.loop.invariant
+returns-clause-exact g c = λ _. goes_is _ _ _ _ _ c.loop.invariant

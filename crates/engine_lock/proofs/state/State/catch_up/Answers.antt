@@ -1,7 +1,12 @@
-use Rattle.std.proofs.Common.{subst}
-use Rattle.engine_lock.specs.Locked.{IsTold}
+use Rattle.kv_model.specs.Follows.Outcome.{said}
+use Rattle.kv_model.specs.Wire.{WireTold}
+use Rattle.event_book.specs.Events.{Event}
+use Rattle.engine_lock.proofs.Submitting.{catches_up, tells}
 use Rattle.engine_lock.proofs.state.State.catch_up.Goals as goal
 
-pub returns-clause-catches : goal.returns-clause-catches
-returns-clause-catches g c = c.hand_in.ensures.catches c.tell.result c.tell.new.client
-    (subst (λ x. IsTold c.tell.result c.hand_in.new.self.log x c.tell.new.client) c.hand_in.ensures.same c.tell.ensures.told)
+pub returns : goal.returns
+returns g c =
+    catches_up g.L.ListName.ids c.args.client.now c.moment.new.client c.tell.new.client c.args.now c.moment.result c.tell.result
+    (tells g.L.ListName.ids c.args.client.now (Event.moment c.args.now) (said (WireTold.clock c.moment.result)) c.moment.new.client
+    c.tell.new.client c.tell.result c.moment.ensures.out c.tell.ensures.others c.tell.ensures.out c.tell.ensures.told)
+    c.moment.ensures.makes c.moment.ensures.quiet

@@ -1,54 +1,53 @@
-use Rattle.std.proofs.Common.{◌≡◌, ◌++◌, rules, subst}
-use Rattle.kv_model.specs.declared.call.Command.{Command}
-use Rattle.kv_model.specs.Commands.{call_of}
-use Rattle.kv_model.specs.World.{World}
-use Rattle.store_laws.specs.Stands.{StandsFor}
+use Rattle.std.proofs.Common.{◌≡◌, false, refl, sym, ◌∙◌, ap, subst, cond, rules}
 use Rattle.snapshot_feed.specs.States.{appended}
-use Rattle.engine_lock.specs.Fits.{change_by}
-use Rattle.engine_lock.specs.Locked.{Performs}
-use Rattle.engine_lock.proofs.Counting.{submitted}
-use Rattle.engine_lock.proofs.NotedEvents.{command_leads, command_writes}
+use Rattle.event_book.specs.Events.{Entry, Event, clocked, entry, led_to}
+use Rattle.kv_model.specs.declared.ids.Ids.{Ids}
+use Rattle.kv_model.specs.World.{at_moment, revision}
+use Rattle.json_gateway.specs.Runs.{command_view}
+use Rattle.recording.specs.Lines.{Written}
+use Rattle.event_script.specs.Notes.{NotesCommand}
+use Rattle.event_script.proofs.Writing.{written_command}
+use Rattle.engine_lock.specs.Entering.{Submits}
+use Rattle.engine_lock.specs.Fits.{MakesOn}
+use Rattle.engine_lock.proofs.Fitting.{answers_entered}
+use Rattle.engine_lock.proofs.Locking.{locked_more}
+use Rattle.engine_lock.proofs.Rising.{command_rises}
+use Rattle.engine_lock.proofs.Submitting.{noted, submits_made}
 use Rattle.engine_lock.proofs.state.State.make.Goals as goal
 
-pub returns-clause-submits : goal.returns-clause-submits
-returns-clause-submits g c =
-    submitted c.args.ids.now c.args.client.now c.args.now c.self.inside.book.total c.args.asked.now c.self.inside.core
-    c.moved.new.core c.performed-outcome.new.core (appended c.self.inside.feed) (appended c.performed-outcome.new.feed)
-    c.self.inside.lines c.performed-outcome.result c.self.invariant.0 c.audit.ensures.most c.moved.ensures.made c.moved.ensures.stands
-    (subst (λ (x : Command). Performs c.args.ids.now (call_of x) c.moved.new.core c.performed-outcome.new.core c.performed-outcome.result)
-    c.command-command.ensures.command c.performed-outcome.ensures.performs)
-    (subst (λ (x : Command). (w : World) → StandsFor c.moved.new.core.store w
-    → appended c.performed-outcome.new.feed ≡ appended c.self.inside.feed ++ change_by c.performed-outcome.result.settled w (call_of x))
-    c.command-command.ensures.command c.performed-outcome.ensures.told)
-    c.command-command.ensures.asked
-    (command_writes c.performed-outcome.result c.args.asked.now.request c.args.now c.self.inside.lines c.hand_in.new.self
-    c.note_done-2.new.lines c.performed-outcome.new.core c.hand_in.ensures c.note_done-2.ensures (command_leads c.args.ids.now c.args.asked.now.request (call_of c.args.asked.now.command) c.performed-outcome.result c.args.now
-    c.self.inside.lines c.hand_in.new.self c.note_done-2.new.lines c.self.inside.core c.moved.new.core c.performed-outcome.new.core
-    c.command-command.ensures.asked c.self.invariant.0.written c.ranges.now.fits c.hand_in.ensures c.moved.ensures.stands c.note_done-2.ensures
-    (subst (λ (x : Command). Performs c.args.ids.now (call_of x) c.moved.new.core c.performed-outcome.new.core c.performed-outcome.result)
-    c.command-command.ensures.command c.performed-outcome.ensures.performs)))
+pub note-requires-clause-answers : goal.note-requires-clause-answers
+note-requires-clause-answers g c =
+    (answers_entered g.L.ListName.ids c.self.inside.core c.moved.new.core c.performed-outcome.new.core c.self.inside.listing
+    (appended c.self.inside.feed) (appended c.performed-outcome.new.feed) (entry c.args.client.now.holder.number c.args.client.now.about (Event.command c.args.now c.args.asked.now) (command_view c.performed-outcome.result)) c.self.invariant.0.fits c.moved.ensures.stands
+    (subst (λ (i : Ids). MakesOn i (Event.command c.args.now c.args.asked.now) (command_view c.performed-outcome.result) c.moved.new.core c.performed-outcome.new.core (appended c.self.inside.feed) (appended c.performed-outcome.new.feed))
+    c.requires.ids (c.performed-outcome.ensures.makes c.args.now)))
 
--- what a search finds, named: where a wrong body breaks one of these, no proofs are offered for them
-pub count_if-requires : goal.count_if-requires
-count_if-requires g c = search rules
+pub note-requires-clause-rises : goal.note-requires-clause-rises
+note-requires-clause-rises g c =
+    command_rises g.L.ListName.ids (led_to c.self.inside.listing) c.args.client.now.holder.number c.args.client.now.about c.args.now c.args.asked.now c.performed-outcome.result
+    (answers_entered g.L.ListName.ids c.self.inside.core c.moved.new.core c.performed-outcome.new.core c.self.inside.listing
+    (appended c.self.inside.feed) (appended c.performed-outcome.new.feed) (entry c.args.client.now.holder.number c.args.client.now.about (Event.command c.args.now c.args.asked.now) (command_view c.performed-outcome.result)) c.self.invariant.0.fits c.moved.ensures.stands
+    (subst (λ (i : Ids). MakesOn i (Event.command c.args.now c.args.asked.now) (command_view c.performed-outcome.result) c.moved.new.core c.performed-outcome.new.core (appended c.self.inside.feed) (appended c.performed-outcome.new.feed))
+    c.requires.ids (c.performed-outcome.ensures.makes c.args.now))) c.performed-outcome.ensures.bare
+    ∙ ap (λ b. cond b 1 0) (sym c.is_raised-raised.ensures)
 
 pub invariant_of-self : goal.invariant_of-self
 invariant_of-self g c = (
-  record {
-    fits = search rules;
-    counted = search rules;
-    written =
-        command_leads c.args.ids.now c.args.asked.now.request (call_of c.args.asked.now.command) c.performed-outcome.result c.args.now
-        c.self.inside.lines c.hand_in.new.self c.note_done-2.new.lines c.self.inside.core c.moved.new.core c.performed-outcome.new.core
-        c.command-command.ensures.asked c.self.invariant.0.written c.ranges.now.fits c.hand_in.ensures c.moved.ensures.stands c.note_done-2.ensures
-        (subst (λ (x : Command). Performs c.args.ids.now (call_of x) c.moved.new.core c.performed-outcome.new.core c.performed-outcome.result)
-        c.command-command.ensures.command c.performed-outcome.ensures.performs);
-  },
-  search rules,
-  search rules,
-  search rules,
-  search rules,
+  locked_more g.L.ListName.ids c.self.inside.core c.moved.new.core c.performed-outcome.new.core c.self.inside.listing c.note.new.listing (appended c.self.inside.feed)
+      (appended c.performed-outcome.new.feed) c.self.inside.lines c.note_done.new.lines c.self.inside.taken (entry c.args.client.now.holder.number c.args.client.now.about (Event.command c.args.now c.args.asked.now) (command_view c.performed-outcome.result)) c.self.invariant.0 c.moved.ensures.stands
+      c.moved.ensures.tables (subst (λ (i : Ids). MakesOn i (Event.command c.args.now c.args.asked.now) (command_view c.performed-outcome.result) c.moved.new.core c.performed-outcome.new.core (appended c.self.inside.feed) (appended c.performed-outcome.new.feed))
+      c.requires.ids (c.performed-outcome.ensures.makes c.args.now)) c.note.ensures.log
+      (λ w. written_command c.self.inside.lines c.note_done.new.lines c.self.inside.taken c.self.inside.listing c.args.client.now.holder.number c.args.client.now.about c.args.now
+      c.args.asked.now c.performed-outcome.result w (search rules)
+      (subst (λ (l : Written). NotesCommand c.performed-outcome.result.settled c.args.asked.now.request l c.note_done.new.lines) c.hand_in.ensures c.note_done.ensures)),
+  c.performed-outcome.ensures.book (at_moment (led_to c.self.inside.listing) c.args.now) (c.moved.ensures.stands (led_to c.self.inside.listing) c.self.invariant.0.fits.stands) ∙ c.self.invariant.1,
+  c.self.invariant.2,
 )
 
-pub returns-clause-client : goal.returns-clause-client
-returns-clause-client g c = search rules
+pub returns-clause-submits : goal.returns-clause-submits
+returns-clause-submits g c =
+    subst (λ (i : Ids). Submits i c.args.client.now c.args.now c.args.asked.now (record { outcome = c.performed-outcome.result; published = false; revision = revision (led_to c.note.new.self.holder.front) }) c.note.new.self) (sym c.requires.ids)
+    (submits_made g.L.ListName.ids c.args.client.now c.note.new.self c.args.now c.args.asked.now c.performed-outcome.result c.self.inside.listing
+    (noted g.L.ListName.ids c.args.client.now (Event.command c.args.now c.args.asked.now) (command_view c.performed-outcome.result) c.note.new.self c.self.inside.listing c.note.new.listing c.requires.out c.note.ensures.adds c.note.ensures.same c.note.ensures.front c.note.ensures.log)
+    c.performed-outcome.ensures.bare c.performed-outcome.ensures.ready
+    (c.performed-outcome.ensures.waits (at_moment (led_to c.self.inside.listing) c.args.now) (c.moved.ensures.stands (led_to c.self.inside.listing) c.self.invariant.0.fits.stands)))

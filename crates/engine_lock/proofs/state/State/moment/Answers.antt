@@ -1,18 +1,34 @@
-use Rattle.std.proofs.Common.{rules}
-use Rattle.engine_lock.proofs.Writing.{handed_in}
+use Rattle.std.proofs.Common.{◌≡◌, refl, sym, ◌∙◌, ap, subst, rules}
+use Rattle.snapshot_feed.specs.States.{appended}
+use Rattle.event_book.specs.Events.{Entry, Event, clocked, entry, led_to}
+use Rattle.kv_model.specs.Follows.Outcome.{said}
+use Rattle.kv_model.specs.Wire.{WireEvent, WireTold}
+use Rattle.event_book.proofs.Raising.{rise_moment}
+use Rattle.event_script.proofs.Writing.{written_moment}
+use Rattle.engine_lock.proofs.Entered.{enters_alone}
+use Rattle.engine_lock.proofs.Fitting.{answers_entered}
+use Rattle.engine_lock.proofs.Locking.{locked_more}
+use Rattle.engine_lock.proofs.Submitting.{makes_noted, noted}
 use Rattle.engine_lock.proofs.state.State.moment.Goals as goal
+
+pub note-requires-clause-answers : goal.note-requires-clause-answers
+note-requires-clause-answers g c =
+    (answers_entered g.L.ListName.ids c.self.inside.core c.self.inside.core c.moved-clock.new.core c.self.inside.listing
+    (appended c.self.inside.feed) (appended c.self.inside.feed) (entry c.args.client.now.holder.number c.args.client.now.about (Event.moment c.args.now) (said (WireTold.clock c.moved-clock.result))) c.self.invariant.0.fits (λ w h. h) (c.moved-clock.ensures.makes g.L.ListName.ids))
+
+pub note-requires-clause-rises : goal.note-requires-clause-rises
+note-requires-clause-rises g c = rise_moment (led_to c.self.inside.listing) c.args.client.now.holder.number c.args.client.now.about c.args.now (said (WireTold.clock c.moved-clock.result))
 
 pub invariant_of-self : goal.invariant_of-self
 invariant_of-self g c = (
-  record {
-    fits = search rules;
-    counted = search rules;
-    written =
-        handed_in c.self.inside.lines c.hand_in.new.self c.self.inside.core c.clock_at.new.core c.args.now c.self.invariant.0.written c.ranges.now.fits c.hand_in.ensures
-        c.clock_at.ensures.stands;
-  },
-  search rules,
-  search rules,
-  search rules,
-  search rules,
+  locked_more g.L.ListName.ids c.self.inside.core c.self.inside.core c.moved-clock.new.core c.self.inside.listing c.note.new.listing (appended c.self.inside.feed)
+      (appended c.self.inside.feed) c.self.inside.lines c.hand_in.new.self c.self.inside.taken (entry c.args.client.now.holder.number c.args.client.now.about (Event.moment c.args.now) (said (WireTold.clock c.moved-clock.result))) c.self.invariant.0 (λ w h. h)
+      refl (c.moved-clock.ensures.makes g.L.ListName.ids) c.note.ensures.log
+      (λ w. written_moment c.self.inside.lines c.hand_in.new.self c.self.inside.taken c.self.inside.listing c.args.client.now.holder.number c.args.client.now.about c.args.now (said (WireTold.clock c.moved-clock.result)) w (search rules) c.hand_in.ensures),
+  c.self.invariant.1,
+  c.self.invariant.2,
 )
+
+pub returns-clause-makes : goal.returns-clause-makes
+returns-clause-makes g c = makes_noted g.L.ListName.ids c.args.client.now c.note.new.self (Event.moment c.args.now) (WireEvent.moment c.args.now) (said (WireTold.clock c.moved-clock.result)) c.self.inside.listing c.self.inside.core c.moved-clock.new.core
+    (noted g.L.ListName.ids c.args.client.now (Event.moment c.args.now) (said (WireTold.clock c.moved-clock.result)) c.note.new.self c.self.inside.listing c.note.new.listing c.requires c.note.ensures.adds c.note.ensures.same c.note.ensures.front c.note.ensures.log) c.self.invariant.0.fits.stands (c.moved-clock.ensures.steps g.L.ListName.ids)

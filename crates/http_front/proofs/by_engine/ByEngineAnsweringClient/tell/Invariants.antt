@@ -1,7 +1,6 @@
-use Rattle.std.proofs.Common.{◌≡◌}
-use Rattle.engine_lock.specs.Locked.{left}
+use Rattle.http_front.specs.Engines.{AreQuiet}
 use Rattle.http_front.proofs.by_engine.ByEngineAnsweringClient.tell.Given as goal
 
--- what tells nothing is no part of what the client was given
+-- whatever has told nothing so far
 abbrev pub invariant-loop : goal.invariant-loop
-invariant-loop g l = left l.state ≡ left l.initial.state
+invariant-loop g l = AreQuiet l.self.events.engine.now.ids l.number l.initial.state l.state

@@ -1,6 +1,6 @@
 use Rattle.std.proofs.Common.{sym, ap, subst}
 use Rattle.watch_streams.specs.Sets.{AreNumbered, SetState, TurnsOf}
-use Rattle.watch_streams.proofs.Exact.{turned_number}
+use Rattle.watch_streams.proofs.Exact.{turned_is}
 use Rattle.watch_streams.proofs.Standing.{numbered_at, numbered_set}
 use Rattle.watch_streams.proofs.streams.Streams.turn_once.Goals as goal
 
@@ -17,4 +17,4 @@ returns-in-Some g c = rw (sym c.self.view_is) (record {
 pub invariant_of-self : goal.invariant_of-self
 invariant_of-self g c = subst AreNumbered (sym (c.get_mut.follows.holds c.take_turn.new.line).0)
     (numbered_set c.args.number c.self.inside.lines.entries c.in-Some.line.now c.take_turn.new.line (sym c.in-Some.ensures.value)
-    (turned_number _ _ _ _ _ _ c.take_turn.ensures.turned) c.self.invariant)
+    (turned_is _ _ _ _ _ _ c.take_turn.ensures.turned).grows.number c.self.invariant)

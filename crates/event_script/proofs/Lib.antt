@@ -1,0 +1,4 @@
+pub mod Clocks
+pub mod Growing
+pub mod Writing
+pub mod Leading

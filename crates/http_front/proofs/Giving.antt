@@ -1,0 +1,156 @@
+-- What is made for a client by what answers a connection, in order.
+use Rattle.std.proofs.Common.{◌≡◌, ◌⊎◌, inl, inr, ℕ, List, [], ◌∷◌, ◌++◌, All, Bool, true, false, Option, None, Some, Result, Ok, Err, refl, sym, ◌∙◌, ap, subst}
+use Rattle.std.proofs.lemmas.List.{append-nil}
+use Rattle.std.proofs.lemmas.List.Elements.{All-append, All-cons, All-nil}
+use Rattle.kv_model.specs.declared.ids.Ids.{Ids}
+use Rattle.kv_model.specs.declared.call.Command.{Command}
+use Rattle.kv_model.specs.Wire.{WireOutcome}
+use Rattle.http_head.specs.Requests.{Asked}
+use Rattle.http_reply.specs.declared.front.Front.{Front}
+use Rattle.json_gateway.specs.declared.outcome.Outcome.{Outcome}
+use Rattle.json_gateway.specs.declared.outcome.Settled.{Settled}
+use Rattle.event_book.specs.Asking.{Asking}
+use Rattle.event_book.specs.Callers as list
+use Rattle.event_book.specs.Events.{Entry, Event, entry}
+use Rattle.event_book.proofs.Giving.{adds_one, gives_both, shows_none}
+use Rattle.engine_lock.specs.Entering.{Enters}
+use Rattle.engine_lock.specs.Locked.{Caller}
+use Rattle.engine_lock.specs.declared.engine.Submitted.{Submitted}
+use Rattle.http_loop.specs.declared.answering.Told.{Told}
+use Rattle.http_loop.specs.declared.answering.Told.TheVariants as told
+use Rattle.http_loop.specs.Answered.{AreMessages, Conn, IsAnswered, IsStream, IsStreamOf, IsTold, streamed}
+use Rattle.http_loop.specs.Turned.{NotBegun, Serves, progress}
+use Rattle.http_front.specs.Engines.{Answers, AreMade, AreQuiet, Awaits, Begins, Does, Finishes, Gets, Looks, Says, Starts, Stays, Submits, Tells}
+
+-- ---- of any calls
+
+-- what is seen of a client here
+abbrev seen : Caller → list.Caller × ℕ
+seen c = (c.holder, c.about)
+
+shown : (c d : Caller) → list.Shows c.holder d.holder → d.about ≡ c.about → Gets c d
+shown c d x e = record { own = []; gives = shows_none c.holder d.holder x; all = All-nil (λ (x : Entry). x.about ≡ c.about); about = e }
+
+rests : (c d : Caller) → seen d ≡ seen c → Gets c d
+rests c d e =
+    let grows = ap (λ (s : list.Caller × ℕ). s.0.front) e ∙ sym (append-nil c.holder.front) in
+    let number = ap (λ (s : list.Caller × ℕ). s.0.number) e in
+    shown c d (record { between = []; others = refl; grows = grows; number = number }) (ap (λ (s : list.Caller × ℕ). s.1) e)
+
+both : (c d e : Caller) → Gets c d → Gets d e → Gets c e
+both c d e g h = record {
+  own = g.own ++ h.own;
+  gives = gives_both c.holder d.holder e.holder g.own h.own g.gives h.gives;
+  all = All-append (λ (x : Entry). x.about ≡ c.about) g.own h.own g.all (subst (λ n. All (λ (x : Entry). x.about ≡ n) h.own) g.about h.all);
+  about = h.about ∙ g.about;
+}
+
+enters : (ids : Ids) (c d : Caller) (e : Event) (o : WireOutcome) → Enters ids c e o d → Gets c d
+enters ids c d e o x = record {
+  own = entry c.holder.number c.about e o ∷ [];
+  gives = adds_one ids c.holder c.about e o d.holder x.adds;
+  all = All-cons (λ (x : Entry). x.about ≡ c.about) (entry c.holder.number c.about e o) [] refl (All-nil (λ (x : Entry). x.about ≡ c.about));
+  about = ap (λ (c : Caller). c.about) x.same;
+}
+
+module _ (ids : Ids) (recorded : Bool) (At : ℕ → Type 0) (Left : Type 0) where
+  -- ---- one call
+
+  made : (c d : Caller) (n : ℕ) → AreMade ids c n d → Gets c d
+  made c _ _ AreMade.none = rests c c refl
+  made c d _ (AreMade.more {n} {d = m} t before h) = both c m d (made c m n before) (enters ids m d _ _ h.enters)
+  made c d _ (AreMade.again {n} {d = m} before h) = both c m d (made c m n before) (shown m d h.0 (ap (λ (c : Caller). c.about) h.1))
+
+  awaits : (s : Submitted) (o : Outcome) (c d : Caller) → Awaits ids s o c d → Gets c d
+  awaits s _ c _ (Awaits.at_once h) = rests c c refl
+  awaits s _ c d (Awaits.behind h t) = both c t.from d (made c t.from t.refusals t.made) (enters ids t.from d _ _ t.trims.enters)
+  awaits s _ c d (Awaits.lost h t) = made c d 1000 t
+
+  does : (c d : Caller) (asking : Asking) (o : Outcome) → Does ids At c asking o d → Gets c d
+  does c d asking o h = both c h.told d (enters ids c h.told _ _ h.submits.enters) (awaits h.submitted o h.told d h.awaits)
+
+  stays : (c d : Caller) → Stays ids At c d → Gets c d
+  stays c d (inl h) = rests c d (ap seen h)
+  stays c d (inr h) = enters ids c d _ _ h.1.2.enters
+
+  starts : (command : Command) (c d : Caller) → Starts ids At command c d → Gets c d
+  starts command c d (inl h) = rests c d (ap seen h)
+  starts command c d (inr h) = stays c d h.2
+
+  begins : (s : Bool) (c d : Caller) → Begins ids recorded At s c d → Gets c d
+  begins true c d h = rests c d (ap seen h)
+  begins false c d h = enters ids c d _ _ h.1.2.enters
+
+  done : (c d : Caller) (asking : Asking) (command : Command) (o : Outcome) → Submits ids At c asking o d ⊎ Looks ids recorded At c command o d → Gets c d
+  done c d asking command o (inl s) = both c s.from d (starts asking.command c s.from s.starts) (does s.from d asking o s.does)
+  done c d asking command o (inr l) = both c l.looks.from d (begins l.query.serializable c l.looks.from l.looks.begins) (rests l.looks.from d (ap seen l.looks.reads.client))
+
+  answers : (c d : Caller) (a : Asked) (o : Outcome) → Answers ids recorded At c a o d → Gets c d
+  answers c d a o (inl h) = done c d _ h.command o h.does
+  answers c d a o (inr h) = rests c d (ap seen h.same)
+
+  quiet : (n : ℕ) (c d : Caller) → AreQuiet ids n c d → Gets c d
+  quiet n c _ AreQuiet.none = rests c c refl
+  quiet n c d (AreQuiet.more {d = m} before (inl h)) = both c m d (quiet n c m before) (enters ids m d _ _ h.0)
+  quiet n c d (AreQuiet.more {d = m} before (inr h)) = both c m d (quiet n c m before) (enters ids m d _ _ h.0)
+
+  says : (c d : Caller) (n : ℕ) (x : Told) → Says ids n c x d → Gets c d
+  says c d n (told.Text x) h = enters ids c d _ _ h.0
+  says c d n told.End h = enters ids c d _ _ h.0
+  says c d n told.Memory h = absurd h
+  says c d n told.Away h = absurd h
+
+  tells : (c d : Caller) (n : ℕ) (x : Told) → Tells ids Left c n x d → Gets c d
+  tells c d n x (inl h) = both c h.0 d (quiet n c h.0 h.1) (says h.0 d n x h.2)
+  tells c d n x (inr h) = quiet n c d h.2
+
+  finishes : (c d : Caller) (w : Option ℕ) → Finishes ids c w d → Gets c d
+  finishes c d None h = rests c d (ap seen h)
+  finishes c d (Some n) h = enters ids c d _ _ h.1.0
+
+  -- ---- a request
+
+  messages : (n k : ℕ) (s t : Caller) (out : List ℕ) (r : Result Bool Front) → AreMessages Caller (Tells ids Left) n k s out t r → Gets s t
+  messages n _ s t out r (AreMessages.quiet k h sent) = tells s t n told.End h
+  messages n _ s t _ r (AreMessages.more {t = u} {out} k x h later) = both s u t (tells s u n (told.Text x) h) (messages n k u t out r later)
+  messages n _ s t out _ (AreMessages.cut k x h sent) = tells s t n (told.Text x) h
+  messages n _ s t _ _ (AreMessages.untold k h) = tells s t n told.Memory h
+  messages n _ s t _ _ (AreMessages.away k h) = tells s t n told.Away h
+  messages n _ s _ out r (AreMessages.spent sent) = rests s s refl
+
+  streams : (n : ℕ) (created : List ℕ) (s t : Caller) (out : List ℕ) (r : Result Bool Front) → IsStream Caller (Tells ids Left) n created s out t r → Gets s t
+  streams n created s _ out _ (IsStreamOf.headless sent) = rests s s refl
+  streams n created s _ _ _ (IsStreamOf.uncreated out sent) = rests s s refl
+  streams n created s t _ r (IsStreamOf.whole {out} later) = messages n _ s t out r later
+
+  is_told : (w : Option ℕ) (x : Settled) (close : Bool) (s t : Caller) (out : List ℕ) (r : Result Bool Front) → IsTold Caller (Tells ids Left) w x close s out t r → Gets s t
+  is_told None x close s t out r h = rests s t (ap seen h.0)
+  is_told (Some n) x close s t out r h = streams n _ s t out r h
+
+  abbrev Is : Caller → Asked → List ℕ → Caller → Result Bool Front → Type 0
+  Is = IsAnswered Caller (Answers ids recorded At) (Tells ids Left) (Finishes ids)
+
+  answered : (s t : Caller) (a : Asked) (out : List ℕ) (r : Result Bool Front) → Is s a out t r → Gets s t
+  answered s t a out r d =
+      both s d.done t (answers s d.done a d.outcome d.answers) (
+      both d.done d.written t (is_told (streamed d.outcome.settled d.outcome.watch) d.outcome.settled a.close d.done d.written out r d.told) (finishes d.written t d.outcome.watch d.finishes)
+      )
+
+  -- ---- a connection
+
+  conns : (s t : Caller) (bytes : List ℕ) (limit : ℕ) (out : List ℕ) (r : Result ℕ Front) → Conn Caller Is s bytes limit out t r → Gets s t
+  conns s _ bytes _ _ _ Conn.at_limit = rests s s refl
+  conns s _ _ _ _ _ (Conn.at_end l) = rests s s refl
+  conns s _ bytes _ _ _ (Conn.within l x) = rests s s refl
+  conns s _ bytes _ out _ (Conn.unanswered l f r n x) = rests s s refl
+  conns s _ bytes _ _ _ (Conn.unread l) = rests s s refl
+  conns s _ bytes _ _ _ (Conn.unheld l x) = rests s s refl
+  conns s t bytes _ _ _ (Conn.more {t = u} {rest} {text} {out} {r} l a x is later) = both s u t (answered s u a text (Ok false) is) (conns u t rest l out r later)
+  conns s t bytes _ out _ (Conn.closing l a left x is) = answered s t a out (Ok true) is
+  conns s t bytes _ out _ (Conn.broken {f} l a left x is) = answered s t a out (Err f) is
+
+  pub served : (left : Option (List ℕ)) (p : List ℕ) (limit : ℕ) (w v : Option (List ℕ)) (s t : Caller) (r : Result ℕ Front)
+      → NotBegun s t w v r ⊎ Serves Caller Is limit (progress s left p w) v t r → Gets s t
+  served left p limit w v s t r (inl h) = rests s t (ap seen h.same)
+  served None p limit w v s t r (inr all) = conns s t _ limit all.1.out r all.1.are
+  served (Some left) p limit w v s t r (inr all) = conns s t _ limit all.out r all.are
