@@ -172,6 +172,27 @@ impl<L: EngineName> Client<L> {
         self.reader.range(alloc, query)
     }
 
+    /// The front of all that the client has read or was told of for its reads. Takes no memory, and
+    /// copies a number.
+    pub fn known(&self) -> Front
+        ensures book { result.book ≡ self.now.reader.book }
+        ensures list { result.list ≡ self.now.reader.known }
+    {
+        self.reader.known()
+    }
+
+    /// Takes note of what another client of the engine knew ([`Client::known`]): each later reading
+    /// begins with it. Where this client knows more already, nothing changes. Its reading is left. Takes no
+    /// memory, constant time, and waits for nobody.
+    pub fn know(&mut self, known: &Front)
+        requires { known.now.book ≡ self.old.reader.book }
+        ensures knows { IsPrefix known.now.list self.new.reader.known }
+        ensures begins { IsPrefix self.old.reader.known self.new.reader.known }
+        ensures others { self.new ≡ record (left self.old) { reader = self.new.reader } }
+    {
+        let _knows_more = self.reader.learn(known);
+    }
+
     /// [`Client::enter`], and lends the client to be read by [`Client::range`]. Once what was lent is
     /// gone, the client is in the reading that was read, and knows of the front of this engine's
     /// events that was shown there. The refusal is that of [`Client::enter`].

@@ -63,6 +63,7 @@ pub use asked::Asked;
 pub use client::Client;
 pub use closing::CloseFault;
 pub use engine::{Engine, Submitted, locked};
+pub use event_book::Front;
 pub use opening::{EngineName, Opening};
 pub use taken::Taken;
 

@@ -21,7 +21,7 @@ use std::{thread, time};
 const WATCH_REST: u64 = 20;
 
 /// After so many refusals of a trimming step in a row the answer that waits for it is lost.
-const MOST_REFUSALS: u64 = 1000;
+pub(crate) const MOST_REFUSALS: u64 = 1000;
 
 /// What answers a connection: an engine, which others change too, for one of its clients.
 #[derive(Drop)]
@@ -51,16 +51,8 @@ where
 
     /// Does the command that a request asks for, once the gate lets it, at the clock's moment.
     fn answer(&self, alloc: Global, state: &mut Client<L>, request: &Request<'_>) -> Outcome {
-        self.events.gate.before(self.call);
-        let path = command_path(request);
-        match read(alloc, path, request.body) {
-            Ok(command) => {
-                let now = self.clock.now();
-                let asked = Asked::by(&command, path, request.body);
-                done(&self.events, self.clock, alloc, state, now, &asked)
-            }
-            Err(bad) => refused(alloc, bad),
-        }
+        let submitted = self.begin(alloc, state, request);
+        awaited(&self.events, state, submitted)
     }
 
     /// The next message of a watch. It rests where there is none, or where no memory was found for
@@ -83,6 +75,51 @@ where
             let _ = self.events.drop_watch(state, number);
         }
         self.events.gate.after(self.call);
+    }
+}
+
+impl<'e, L, G, C, R> ByEngine<'e, L, G, C, R>
+where
+    L: EngineName,
+    G: Gate,
+    C: Clock,
+    R: Wait + time::Clock,
+{
+    /// Does the command that a request asks for, as [`Answering::answer`] does, but for the trimming
+    /// that its answer waits for, where its outcome says that it waits.
+    ///
+    /// The contract that is meant: `Begun engine L.recorded (C.Tells clock) client.old a result
+    /// client.new`: `Refuses`, with the client as it was; or `Looks`, at `waits ≡ false`; or `Enters` of
+    /// the command, of which `result` is what it came to. `answer` is that and `Awaits`.
+    pub(crate) fn begin(
+        &self,
+        alloc: Global,
+        client: &mut Client<L>,
+        request: &Request<'_>,
+    ) -> Submitted {
+        self.events.gate.before(self.call);
+        let path = command_path(request);
+        match read(alloc, path, request.body) {
+            Ok(command) => {
+                let now = self.clock.now();
+                let asked = Asked::by(&command, path, request.body);
+                let looked = looked(&self.events, self.clock, alloc, client, now, asked.command());
+                match looked {
+                    Some(outcome) => settled_at_once(outcome),
+                    None => self.events.submit(client, now, &asked),
+                }
+            }
+            Err(bad) => settled_at_once(refused(alloc, bad)),
+        }
+    }
+}
+
+/// What a request came to that made no change.
+fn settled_at_once(outcome: Outcome) -> Submitted {
+    Submitted {
+        outcome,
+        published: true,
+        revision: 0,
     }
 }
 
@@ -115,27 +152,6 @@ fn refused(alloc: Global, bad: Bad) -> Outcome
         watch: None,
         waits: false,
     }
-}
-
-/// Does the command that a request asks for, at the moment `now`, which the clock told: reads a Range
-/// beside the engine where it can be, and else submits it.
-fn done<L: EngineName, G: Gate, C: Clock, R: Wait>(
-    events: &Recorded<'_, L, G, R>,
-    clock: &C,
-    alloc: Global,
-    client: &mut Client<L>,
-    now: u64,
-    asked: &Asked<'_>,
-) -> Outcome
-    requires { C.Tells clock.now now }
-    ensures { Submits events.now.engine.now.ids (C.Tells clock.now) client.old asked.now result client.new
-        ⊎ Looks events.now.engine.now.ids L.recorded (C.Tells clock.now) client.old asked.now.command
-        result client.new }
-{
-    if let Some(outcome) = looked(events, clock, alloc, client, now, asked.command()) {
-        return outcome;
-    }
-    performed(events, clock, client, now, asked)
 }
 
 /// Does what a POST of this body to this path asks for on behalf of a client, as an event of a script

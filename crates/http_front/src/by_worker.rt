@@ -18,6 +18,8 @@ use std::time;
 pub(crate) struct Serving<L: EngineName> {
     pub(crate) client: Client<L>,
     pub(crate) handed: Option<u64>,
+    /// The store's revision behind the last request.
+    pub(crate) revision: u64,
 }
 
 impl<L: EngineName> Model for Serving<L> {
@@ -41,12 +43,13 @@ impl<L: EngineName> Serving<L> {
         Serving {
             client,
             handed: None,
+            revision: 0,
         }
     }
 }
 
 /// What answers a connection, as [`ByEngine`] does, but for its streams: behind the created message
-/// such a one goes on elsewhere.
+/// such a one goes on elsewhere; and but for answers that wait for trimming: that is not done here.
 #[derive(Drop)]
 pub(crate) struct ByWorker<'e, L: EngineName, G, C, R> {
     pub(crate) by: ByEngine<'e, L, G, C, R>,
@@ -69,8 +72,11 @@ where
         Answering::<Client<L>>::awaits(&self.by);
     }
 
+    /// The trimming that an outcome waits for is not done yet.
     fn answer(&self, alloc: Global, state: &mut Serving<L>, request: &Request<'_>) -> Outcome {
-        self.by.answer(alloc, &mut state.client, request)
+        let submitted = self.by.begin(alloc, &mut state.client, request);
+        state.revision = submitted.revision;
+        submitted.outcome
     }
 
     /// The stream goes on elsewhere.

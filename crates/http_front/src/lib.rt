@@ -40,9 +40,13 @@ mod connection;
 mod directed;
 mod duties;
 mod handing;
+mod line;
+mod lines;
 mod shared;
+mod slots;
 mod streaming;
 mod threads;
+mod turns;
 mod workers;
 
 pub use begun::{Begun, Limits};

@@ -8,6 +8,7 @@ ghost use Rattle.http_front.specs.Ends.{IsOfServer, fault_of};
 use crate::begun::{Begun, Limits};
 use crate::duties::{Duty, Worked, keep};
 use crate::handing::Handing;
+use crate::lines::Lines;
 use crate::shared::Shared;
 use crate::streaming::Watching;
 use engine_lock::{Client, Engine, EngineName};
@@ -110,7 +111,12 @@ where
         Ok(made) => made,
         Err(front) => return Err(front),
     };
-    let shared = Shared::new(&engine, gate, clock, listener, limits.connections, handing);
+    let lines = match lines_of(rt, alloc, listener) {
+        Ok(lines) => lines,
+        Err(front) => return Err(front),
+    };
+    let connections = limits.connections;
+    let shared = Shared::new(&engine, gate, clock, listener, connections, lines, handing);
     let beside = Beside {
         trimmer,
         expirer,
@@ -152,6 +158,20 @@ pub(crate) fn keeping_of<L: EngineName, R: Wait + Net>(
     };
     match Watching::new(rt, alloc) {
         Ok((watching, handing)) => Ok((Keeping { client, watching }, handing)),
+        Err(_) => Err(Front::Spawn),
+    }
+}
+
+/// What the workers wait with.
+pub(crate) fn lines_of<R: Net>(
+    rt: &R,
+    alloc: Global,
+    listener: &TcpListener,
+) -> Result<Lines, Front>
+    ensures fault { IfErr result IsOfServer }
+{
+    match Lines::new(rt, alloc, listener) {
+        Ok(lines) => Ok(lines),
         Err(_) => Err(Front::Spawn),
     }
 }
@@ -341,6 +361,9 @@ where
     let trouble = if all { trouble } else { Some(Trouble::Spawn) };
     if trouble.is_some() {
         guard.shut();
+    }
+    if guard.is_shut() {
+        shared.lines.shut(rt);
     }
     drop(guard);
     (working, trouble)

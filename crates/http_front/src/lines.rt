@@ -1,0 +1,227 @@
+//! The connections of a server, and the threads that wait for them.
+use crate::line::Line;
+use crate::slots::{Ages, Slots};
+use http_peer::{Set, Wish, open_listener};
+use mio::net::UnixStream;
+use std::alloc::Global;
+use std::io;
+use std::io::ErrorKind;
+use std::net::{Net, TcpListener};
+use std::os::fd::{AsRawFd, RawFd};
+use std::sync::atomic::{AtomicBool, AtomicU64, Ordering};
+use std::sync::{Mutex, Wait};
+
+/// The name of the bell in the set. No socket has this number.
+const BELL: u64 = u64::MAX;
+
+/// The name of the listener there.
+const LISTENER: u64 = u64::MAX - 1;
+
+/// Looked at once a second, a connection of which the client has taken no byte for ten is over.
+const AGES: Ages = Ages {
+    unsent: 10,
+    unread: None,
+};
+
+/// Where the server ends it is looked at each 20 ms: a request that has begun to come is waited for
+/// while no second passes without a byte of it, and a reply while no ten seconds do.
+const LAST_AGES: Ages = Ages {
+    unsent: 500,
+    unread: Some(50),
+};
+
+/// What a thread finds ready.
+pub(crate) enum Ready {
+    /// Nothing: a signal came.
+    Nothing,
+    /// The server has ended.
+    Over,
+    /// A connection comes in.
+    Listener,
+    /// The connection at this place.
+    Line(usize),
+}
+
+/// The connections that stand, the set by which threads wait for them, and how many there are. Each is
+/// at its place, and asked for; or a thread has it.
+#[derive(Drop)]
+pub(crate) struct Lines {
+    set: Set,
+    slots: Slots,
+    listener: RawFd,
+    /// How many connections have come in and not ended, streams not counted.
+    live: AtomicU64,
+    /// Whether no further one comes in.
+    shut: AtomicBool,
+    /// Whether the listener is not asked for until a connection ends, since an accept found no place.
+    parked: AtomicBool,
+    /// What each thread hears when the other end is let go.
+    heard: UnixStream,
+    bell: Mutex<Option<UnixStream>>,
+}
+
+impl Lines {
+    /// No connection has come in at a listener, which waits for nothing from then on. Fails where the
+    /// system has no more files, or for want of memory.
+    pub(crate) fn new<R: Net>(rt: &R, alloc: Global, listener: &TcpListener) -> io::Result<Lines> {
+        let set = Set::new(rt)?;
+        let Ok(slots) = Slots::new(alloc) else {
+            return Err(io::Error::from(ErrorKind::OutOfMemory));
+        };
+        open_listener(listener)?;
+        let (heard, bell) = UnixStream::pair(rt)?;
+        let listener = listener.as_raw_fd();
+        let all = set.add_for_all(heard.as_raw_fd(), BELL);
+        if !all || !set.add(listener, LISTENER, Wish::Read) {
+            return Err(io::Error::from(ErrorKind::OutOfMemory));
+        }
+        Ok(Lines {
+            set,
+            slots,
+            listener,
+            live: AtomicU64::new(0),
+            shut: AtomicBool::new(false),
+            parked: AtomicBool::new(false),
+            heard,
+            bell: Mutex::new(Some(bell)),
+        })
+    }
+
+    /// Waits until something is ready. One thread alone is told of a connection.
+    pub(crate) fn next(&self) -> Ready {
+        match self.set.next() {
+            None => Ready::Nothing,
+            Some(BELL) => Ready::Over,
+            Some(LISTENER) => Ready::Listener,
+            Some(name) => match usize::try_from(name) {
+                Ok(place) => Ready::Line(place),
+                Err(_) => Ready::Nothing,
+            },
+        }
+    }
+
+    /// Asks for the listener again.
+    pub(crate) fn ask_listener(&self) {
+        let _ = self.set.ask(self.listener, LISTENER, Wish::Read);
+    }
+
+    /// The listener is asked for again once a connection ends, or a second has gone: an accept found no
+    /// place.
+    pub(crate) fn park_listener(&self) {
+        self.parked.store(true, Ordering::SeqCst);
+    }
+
+    /// Asks for the listener again where it is parked.
+    fn unpark_listener(&self) {
+        if self.parked.load(Ordering::SeqCst) && self.parked.swap(false, Ordering::SeqCst) {
+            self.ask_listener();
+        }
+    }
+
+    /// A connection has come in.
+    pub(crate) fn came(&self) {
+        self.live.fetch_add(1, Ordering::SeqCst);
+    }
+
+    /// A connection has ended, or is looked after elsewhere, once its socket is let go.
+    pub(crate) fn went<R: Wait>(&self, rt: &R) {
+        let before = self.live.fetch_sub(1, Ordering::SeqCst);
+        self.unpark_listener();
+        if before == 1 && self.shut.load(Ordering::SeqCst) {
+            self.ring(rt);
+        }
+    }
+
+    /// No further connection comes in: once all have ended, so do the threads.
+    pub(crate) fn shut<R: Wait>(&self, rt: &R) {
+        self.shut.store(true, Ordering::SeqCst);
+        if self.is_empty() {
+            self.ring(rt);
+        }
+    }
+
+    /// Whether no connection stands.
+    pub(crate) fn is_empty(&self) -> bool {
+        self.live.load(Ordering::SeqCst) == 0
+    }
+
+    /// Ends all threads.
+    fn ring<R: Wait>(&self, rt: &R) {
+        let _ = self.bell.lock(rt).take();
+    }
+
+    /// The connection at a place, which nobody else has from then on.
+    pub(crate) fn take<R: Wait>(&self, rt: &R, place: usize) -> Option<Box<Line>> {
+        self.slots.take(rt, place)
+    }
+
+    /// Puts a connection that has come in at its place, and asks for it. Hands it back where there is
+    /// no place for it, or the system refuses it.
+    pub(crate) fn add<R: Wait>(
+        &self,
+        rt: &R,
+        alloc: Global,
+        line: Box<Line>,
+    ) -> Option<Box<Line>> {
+        let place = line.place();
+        if !self.slots.has_room(rt, alloc, place) {
+            return Some(line);
+        }
+        self.stand(rt, place, line, |set, socket, name| {
+            set.add(socket, name, Wish::Read)
+        })
+    }
+
+    /// Puts a connection at its place again, and asks for it. Hands it back where the system refuses.
+    pub(crate) fn ask<R: Wait>(
+        &self,
+        rt: &R,
+        line: Box<Line>,
+        wish: Wish,
+    ) -> Option<Box<Line>> {
+        let place = line.place();
+        self.stand(rt, place, line, |set, socket, name| {
+            set.ask(socket, name, wish)
+        })
+    }
+
+    /// Puts a connection at its place before it is asked for, since another thread may have it as soon
+    /// as it is.
+    fn stand<R: Wait, F: FnOnce(&Set, RawFd, u64) -> bool + Drop>(
+        &self,
+        rt: &R,
+        place: usize,
+        line: Box<Line>,
+        ask: F,
+    ) -> Option<Box<Line>> {
+        let Ok(socket) = RawFd::try_from(place) else {
+            return Some(line);
+        };
+        if let Some(line) = self.slots.put(rt, place, line) {
+            return Some(line);
+        }
+        if ask(&self.set, socket, place as u64) {
+            return None;
+        }
+        self.slots.take(rt, place)
+    }
+
+    /// A connection is looked after elsewhere.
+    pub(crate) fn remove(&self, line: &Line) {
+        if let Ok(socket) = RawFd::try_from(line.place()) {
+            self.set.remove(socket);
+        }
+    }
+
+    /// Once a second each connection is looked at, and the listener, so that nothing rests on a
+    /// thread's being told.
+    pub(crate) fn look<R: Wait>(&self, rt: &R) {
+        self.slots.age(rt, AGES);
+        self.unpark_listener();
+    }
+
+    /// The same where the server ends.
+    pub(crate) fn look_at_end<R: Wait>(&self, rt: &R) {
+        self.slots.age(rt, LAST_AGES);
+    }
+}

@@ -1,0 +1,85 @@
+//! A set of sockets, of which several threads find out which are ready.
+use libc::net as c;
+use mio::Poll;
+use os::EpollEvent;
+use std::io;
+use std::net::Net;
+use std::os::fd::{AsRawFd, RawFd};
+
+/// What is waited for at a socket.
+#[derive(Clone, Copy, Debug, PartialEq, Eq)]
+pub enum Wish {
+    /// That something can be read, or that its client has ended.
+    Read,
+    /// That something can be written.
+    Write,
+}
+
+/// What the system is asked for by a wish: once, so that one thread alone is told.
+fn asked(wish: Wish) -> u32 {
+    match wish {
+        Wish::Read => c::EPOLLIN | c::EPOLLRDHUP | c::EPOLLONESHOT,
+        Wish::Write => c::EPOLLOUT | c::EPOLLONESHOT,
+    }
+}
+
+/// Sockets that any number of threads wait for at once. Each has a name. A socket that was asked for
+/// is told once, to one of the threads, as soon as its wish is met, also where it is met already; then
+/// it is not told before it is asked for again. One of which the connection is broken meets any wish.
+///
+/// What is in the set, and what it tells, no clause says: the system has it.
+#[derive(Drop)]
+pub struct Set {
+    poll: Poll,
+}
+
+impl Set {
+    /// An empty set. Fails where the system has no more files.
+    pub fn new<R: Net>(rt: &R) -> io::Result<Set> {
+        Ok(Set {
+            poll: Poll::new(rt)?,
+        })
+    }
+
+    /// Puts a socket into the set, and asks for it. Says whether it did.
+    pub fn add(&self, socket: RawFd, name: u64, wish: Wish) -> bool {
+        self.control(c::EPOLL_CTL_ADD, socket, asked(wish), name)
+    }
+
+    /// Puts a socket into the set that is told to every thread, and again and again, once there is
+    /// something to be read. Says whether it did.
+    pub fn add_for_all(&self, socket: RawFd, name: u64) -> bool {
+        self.control(c::EPOLL_CTL_ADD, socket, c::EPOLLIN, name)
+    }
+
+    /// Asks for a socket of the set again. Says whether it did.
+    pub fn ask(&self, socket: RawFd, name: u64, wish: Wish) -> bool {
+        self.control(c::EPOLL_CTL_MOD, socket, asked(wish), name)
+    }
+
+    /// Takes a socket out of the set. One that is closed is out of it by that.
+    pub fn remove(&self, socket: RawFd) {
+        let _ = self.control(c::EPOLL_CTL_DEL, socket, 0, 0);
+    }
+
+    fn control(&self, order: i32, socket: RawFd, events: u32, name: u64) -> bool {
+        os::epoll_ctl(self.poll.as_raw_fd(), order, socket, events, name) == 0
+    }
+
+    /// Waits until a socket is ready, and gives its name: of one alone, so that another that is ready
+    /// does not wait behind it. `None` where a signal came.
+    pub fn next(&self) -> Option<u64> {
+        let mut ready = [EpollEvent { events: 0, data: 0 }];
+        if os::epoll_wait(self.poll.as_raw_fd(), &mut ready, -1) == 0 {
+            return None;
+        }
+        Some(ready[0].data)
+    }
+}
+
+/// Has as many connections wait at a listener as the system allows, and no accept of it wait. Fails
+/// where the system refuses that.
+pub fn open_listener(listener: &std::net::TcpListener) -> io::Result<()> {
+    let _ = c::listen(listener.as_raw_fd(), i32::MAX);
+    listener.set_nonblocking(true)
+}

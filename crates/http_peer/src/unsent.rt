@@ -1,0 +1,72 @@
+//! What was to go out on a connection and has not yet.
+ghost use Rattle.std.specs.Prelude.{◌≤◌, length};
+
+use crate::peer::write_at_once;
+use std::alloc::{AllocError, Global};
+use std::io;
+use std::net::TcpStream;
+
+/// Once all has gone out the room of a longer rest is given back, in bytes.
+const MOST_KEPT: usize = 65_536;
+
+/// How many writes are made at once.
+const MOST_WRITES: u64 = 16;
+
+/// Bytes that were to go out and have not yet, in order.
+#[derive(Drop)]
+pub struct Unsent {
+    alloc: Global,
+    /// The first `gone` of them have gone out.
+    bytes: Vec<u8>,
+    gone: usize,
+    ghost within: { gone ≤ length bytes.items },
+}
+
+impl Unsent {
+    /// All has gone out. Takes no memory.
+    pub fn new(alloc: Global) -> Unsent {
+        Unsent {
+            alloc,
+            bytes: Vec::new(alloc),
+            gone: 0,
+        }
+    }
+
+    /// Whether all has gone out.
+    pub fn is_empty(&self) -> bool {
+        self.gone >= self.bytes.len()
+    }
+
+    /// Adds bytes behind those that have not gone out. `AllocError` comes where no memory was found for
+    /// them, and then nothing has changed.
+    pub fn keep(&mut self, bytes: &[u8]) -> Result<(), AllocError> {
+        self.bytes.extend_from_slice(bytes)
+    }
+
+    /// Has as much go out as a socket takes, in some 16 writes: true where that was all.
+    /// Fails where a write does.
+    pub fn send(&mut self, stream: &TcpStream) -> io::Result<bool> {
+        for _ in 0..MOST_WRITES {
+            if self.is_empty() {
+                self.clear();
+                return Ok(true);
+            }
+            let count = write_at_once(stream, &self.bytes[self.gone..])?;
+            if count == 0 {
+                return Ok(false);
+            }
+            self.gone += count;
+        }
+        Ok(false)
+    }
+
+    /// Lets go of what has gone out.
+    fn clear(&mut self) {
+        self.gone = 0;
+        if self.bytes.capacity() > MOST_KEPT {
+            self.bytes = Vec::new(self.alloc);
+        } else {
+            self.bytes.clear();
+        }
+    }
+}
