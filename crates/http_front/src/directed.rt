@@ -175,7 +175,7 @@ fn end_lines<L: EngineName, G, C, R: Wait + time::Clock>(rt: &R, shared: &Shared
     let mut door = shared.door.lock(rt);
     door.shut();
     drop(door);
-    shared.lines.shut(rt);
+    shared.lines.shut();
     for _ in rt.forever() {
         shared.lines.look_at_end(rt);
         if shared.lines.is_empty() {

@@ -1,20 +1,16 @@
 //! The connections of a server, and the threads that wait for them.
 use crate::line::Line;
 use crate::slots::{Ages, Slots};
-use http_peer::{Set, Wish, open_listener};
-use mio::net::UnixStream;
+use http_peer::{Ready, Set, Wish, open_listener};
 use std::alloc::Global;
 use std::io;
 use std::io::ErrorKind;
 use std::net::{Net, TcpListener};
 use std::os::fd::{AsRawFd, RawFd};
 use std::sync::atomic::{AtomicBool, AtomicU64, Ordering};
-use std::sync::{Mutex, Wait};
+use std::sync::Wait;
 
-/// The name of the bell in the set. No socket has this number.
-const BELL: u64 = u64::MAX;
-
-/// The name of the listener there.
+/// The name of the listener in the set. No socket has this number.
 const LISTENER: u64 = u64::MAX - 1;
 
 /// Looked at once a second, a connection of which the client has taken no byte for ten is over.
@@ -30,15 +26,15 @@ const LAST_AGES: Ages = Ages {
     unread: Some(50),
 };
 
-/// What a thread finds ready.
-pub(crate) enum Ready {
-    /// Nothing: a signal came.
+/// What is there for a thread to do.
+pub(crate) enum Next {
+    /// Nothing, for now.
     Nothing,
-    /// The server has ended.
+    /// Nothing more: the server has ended.
     Over,
-    /// A connection comes in.
+    /// To let a connection in.
     Listener,
-    /// The connection at this place.
+    /// To give the connection at this place its turns.
     Line(usize),
 }
 
@@ -55,9 +51,6 @@ pub(crate) struct Lines {
     shut: AtomicBool,
     /// Whether the listener is not asked for until a connection ends, since an accept found no place.
     parked: AtomicBool,
-    /// What each thread hears when the other end is let go.
-    heard: UnixStream,
-    bell: Mutex<Option<UnixStream>>,
 }
 
 impl Lines {
@@ -69,10 +62,8 @@ impl Lines {
             return Err(io::Error::from(ErrorKind::OutOfMemory));
         };
         open_listener(listener)?;
-        let (heard, bell) = UnixStream::pair(rt)?;
         let listener = listener.as_raw_fd();
-        let all = set.add_for_all(heard.as_raw_fd(), BELL);
-        if !all || !set.add(listener, LISTENER, Wish::Read) {
+        if !set.add(listener, LISTENER, Wish::Read) {
             return Err(io::Error::from(ErrorKind::OutOfMemory));
         }
         Ok(Lines {
@@ -82,20 +73,18 @@ impl Lines {
             live: AtomicU64::new(0),
             shut: AtomicBool::new(false),
             parked: AtomicBool::new(false),
-            heard,
-            bell: Mutex::new(Some(bell)),
         })
     }
 
     /// Waits until something is ready. One thread alone is told of a connection.
-    pub(crate) fn next(&self) -> Ready {
+    pub(crate) fn next(&self) -> Next {
         match self.set.next() {
-            None => Ready::Nothing,
-            Some(BELL) => Ready::Over,
-            Some(LISTENER) => Ready::Listener,
-            Some(name) => match usize::try_from(name) {
-                Ok(place) => Ready::Line(place),
-                Err(_) => Ready::Nothing,
+            Ready::Nothing => Next::Nothing,
+            Ready::Over => Next::Over,
+            Ready::Socket(LISTENER) => Next::Listener,
+            Ready::Socket(name) => match usize::try_from(name) {
+                Ok(place) => Next::Line(place),
+                Err(_) => Next::Nothing,
             },
         }
     }
@@ -124,30 +113,25 @@ impl Lines {
     }
 
     /// A connection has ended, or is looked after elsewhere, once its socket is let go.
-    pub(crate) fn went<R: Wait>(&self, rt: &R) {
+    pub(crate) fn went(&self) {
         let before = self.live.fetch_sub(1, Ordering::SeqCst);
         self.unpark_listener();
         if before == 1 && self.shut.load(Ordering::SeqCst) {
-            self.ring(rt);
+            self.set.end();
         }
     }
 
     /// No further connection comes in: once all have ended, so do the threads.
-    pub(crate) fn shut<R: Wait>(&self, rt: &R) {
+    pub(crate) fn shut(&self) {
         self.shut.store(true, Ordering::SeqCst);
         if self.is_empty() {
-            self.ring(rt);
+            self.set.end();
         }
     }
 
     /// Whether no connection stands.
     pub(crate) fn is_empty(&self) -> bool {
         self.live.load(Ordering::SeqCst) == 0
-    }
-
-    /// Ends all threads.
-    fn ring<R: Wait>(&self, rt: &R) {
-        let _ = self.bell.lock(rt).take();
     }
 
     /// The connection at a place, which nobody else has from then on.

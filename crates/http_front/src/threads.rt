@@ -363,7 +363,7 @@ where
         guard.shut();
     }
     if guard.is_shut() {
-        shared.lines.shut(rt);
+        shared.lines.shut();
     }
     drop(guard);
     (working, trouble)

@@ -4,7 +4,7 @@ use crate::by_worker::Serving;
 use crate::duties::Worked;
 use crate::handing::Handed;
 use crate::line::{Line, Stage};
-use crate::lines::Ready;
+use crate::lines::Next;
 use crate::shared::Shared;
 use crate::turns::{After, serve_line};
 use engine_lock::{Client, EngineName};
@@ -68,10 +68,10 @@ where
     };
     for _ in rt.forever() {
         match shared.lines.next() {
-            Ready::Nothing => {}
-            Ready::Over => break,
-            Ready::Listener => worker.let_in(),
-            Ready::Line(place) => worker.visit(place),
+            Next::Nothing => {}
+            Next::Over => break,
+            Next::Listener => worker.let_in(),
+            Next::Line(place) => worker.visit(place),
         }
     }
     let Worker { serving, .. } = worker;
@@ -92,7 +92,7 @@ where
             match self.next() {
                 Came::One(call, stream) => self.begin(call, stream),
                 Came::Nobody => break,
-                Came::Shut => return lines.shut(self.rt),
+                Came::Shut => return lines.shut(),
                 Came::Full => return lines.park_listener(),
             }
         }
@@ -124,7 +124,7 @@ where
     fn begin(&mut self, call: u64, stream: TcpStream) {
         let refused = self.added(call, stream);
         if refused {
-            self.shared.lines.went(self.rt);
+            self.shared.lines.went();
         }
     }
 
@@ -200,7 +200,7 @@ where
         if let Some(number) = watch {
             self.end_watch(call, number);
         }
-        self.shared.lines.went(self.rt);
+        self.shared.lines.went();
     }
 
     /// Hands the stream of a watch over that has begun on a connection. Where no memory is found for
@@ -217,7 +217,7 @@ where
         if self.shared.handing.hand(self.rt, handed).is_err() {
             self.end_watch(call, number);
         }
-        self.shared.lines.went(self.rt);
+        self.shared.lines.went();
     }
 
     /// Ends the watch of a stream, behind which the gate is told that its reply has ended.

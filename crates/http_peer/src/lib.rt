@@ -30,5 +30,5 @@ mod unsent;
 pub use door::{Door, MOST_CONNECTIONS};
 pub use gate::{Clock, Gate, OpenGate, Takes};
 pub use peer::{Coming, Going, open_peer};
-pub use set::{Set, Wish, open_listener};
+pub use set::{Ready, Set, Wish, open_listener};
 pub use unsent::Unsent;

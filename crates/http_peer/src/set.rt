@@ -1,8 +1,9 @@
 //! A set of sockets, of which several threads find out which are ready.
 use libc::net as c;
-use mio::Poll;
+use mio::{Poll, Token, Waker};
 use os::EpollEvent;
 use std::io;
+use std::io::ErrorKind;
 use std::net::Net;
 use std::os::fd::{AsRawFd, RawFd};
 
@@ -25,31 +26,57 @@ fn asked(wish: Wish) -> u32 {
 
 /// Sockets that any number of threads wait for at once. Each has a name. A socket that was asked for
 /// is told once, to one of the threads, as soon as its wish is met, also where it is met already; then
-/// it is not told before it is asked for again. One of which the connection is broken meets any wish.
+/// it is not told before it is asked for again. No name is 2^64 - 1. One of which the connection is broken meets any wish.
 ///
 /// What is in the set, and what it tells, no clause says: the system has it.
 #[derive(Drop)]
 pub struct Set {
     poll: Poll,
+    /// A set of its own, which nobody waits for, so that it stays ready once `bell` was rung: the
+    /// system tells every thread that waits for the set that this is in, and again and again.
+    over: Poll,
+    bell: Waker,
+}
+
+/// The name of `over` in the set.
+const OVER: u64 = u64::MAX;
+
+/// What a thread finds ready.
+#[derive(Clone, Copy, Debug, PartialEq, Eq)]
+pub enum Ready {
+    /// Nothing: a signal came.
+    Nothing,
+    /// The set has ended.
+    Over,
+    /// The socket of this name.
+    Socket(u64),
 }
 
 impl Set {
     /// An empty set. Fails where the system has no more files.
     pub fn new<R: Net>(rt: &R) -> io::Result<Set> {
-        Ok(Set {
+        let over = Poll::new(rt)?;
+        let bell = Waker::new(over.registry(), Token(0))?;
+        let set = Set {
             poll: Poll::new(rt)?,
-        })
+            over,
+            bell,
+        };
+        let file = set.over.as_raw_fd();
+        if !set.control(c::EPOLL_CTL_ADD, file, c::EPOLLIN, OVER) {
+            return Err(io::Error::from(ErrorKind::OutOfMemory));
+        }
+        Ok(set)
+    }
+
+    /// Ends the set: from then on each wait of each thread tells so.
+    pub fn end(&self) {
+        let _ = self.bell.wake();
     }
 
     /// Puts a socket into the set, and asks for it. Says whether it did.
     pub fn add(&self, socket: RawFd, name: u64, wish: Wish) -> bool {
         self.control(c::EPOLL_CTL_ADD, socket, asked(wish), name)
-    }
-
-    /// Puts a socket into the set that is told to every thread, and again and again, once there is
-    /// something to be read. Says whether it did.
-    pub fn add_for_all(&self, socket: RawFd, name: u64) -> bool {
-        self.control(c::EPOLL_CTL_ADD, socket, c::EPOLLIN, name)
     }
 
     /// Asks for a socket of the set again. Says whether it did.
@@ -67,13 +94,16 @@ impl Set {
     }
 
     /// Waits until a socket is ready, and gives its name: of one alone, so that another that is ready
-    /// does not wait behind it. `None` where a signal came.
-    pub fn next(&self) -> Option<u64> {
+    /// does not wait behind it.
+    pub fn next(&self) -> Ready {
         let mut ready = [EpollEvent { events: 0, data: 0 }];
         if os::epoll_wait(self.poll.as_raw_fd(), &mut ready, -1) == 0 {
-            return None;
+            return Ready::Nothing;
         }
-        Some(ready[0].data)
+        match ready[0].data {
+            OVER => Ready::Over,
+            name => Ready::Socket(name),
+        }
     }
 }
 
