@@ -92,7 +92,7 @@ where
         Ok(made) => made,
         Err(front) => return Err(front),
     };
-    let lines = match lines_of(rt, alloc, listener) {
+    let lines = match lines_of(rt, alloc, listener, limits.workers) {
         Ok(lines) => lines,
         Err(front) => return Err(front),
     };

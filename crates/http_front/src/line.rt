@@ -4,13 +4,10 @@ use engine_lock::Front as Seen;
 use http_input::Input;
 use http_loop::Waiting;
 use http_peer::Unsent;
-use std::alloc::{AllocError, Global};
+use std::alloc::Global;
 use std::io;
 use std::net::{Shutdown, TcpStream};
 use std::os::fd::AsRawFd;
-
-/// An input that is empty gives room above this back, in bytes.
-const MOST_ROOM: usize = 16_384;
 
 /// A physical Compact that was done and whose answer waits for trimming.
 #[derive(Drop)]
@@ -48,8 +45,9 @@ pub(crate) struct Line {
     /// Its number.
     pub(crate) call: u64,
     pub(crate) stream: TcpStream,
-    /// What has come and was not answered.
-    pub(crate) input: Input,
+    /// What has come and was not answered; none where nothing has, so that a connection that is idle
+    /// takes some hundred bytes.
+    pub(crate) input: Option<Box<Input>>,
     /// What has not gone out. While there is any, no request is read.
     pub(crate) unsent: Unsent,
     pub(crate) stage: Stage,
@@ -60,23 +58,17 @@ pub(crate) struct Line {
 }
 
 impl Line {
-    /// A connection of which no byte has come, whose client knows of this front. Fails for want of
-    /// memory.
-    pub(crate) fn new(
-        alloc: Global,
-        call: u64,
-        stream: TcpStream,
-        known: Seen,
-    ) -> Result<Line, AllocError> {
-        Ok(Line {
+    /// A connection of which no byte has come, whose client knows of this front. Takes no memory.
+    pub(crate) fn new(alloc: Global, call: u64, stream: TcpStream, known: Seen) -> Line {
+        Line {
             call,
             stream,
-            input: Input::new(alloc)?,
+            input: None,
             unsent: Unsent::new(alloc),
             stage: Stage::Reading,
             known,
             looks: 0,
-        })
+        }
     }
 
     /// The number that the system gives its socket, which is that of its place, too.
@@ -97,16 +89,6 @@ impl Line {
         self.looks = 0;
     }
 
-    /// Gives back the room that a long request took, once nothing waits there.
-    pub(crate) fn give_back(&mut self, alloc: Global) {
-        if self.input.room() > MOST_ROOM
-            && self.input.is_empty()
-            && let Ok(input) = Input::new(alloc)
-        {
-            self.input = input;
-        }
-    }
-
     /// Looks at it, where no thread has it, and ends its socket where it has been looked at too often
     /// since a byte came or went: whoever is told of that ends the connection. Where the server ends, so
     /// does one of which no byte of a next request has come, at once.
@@ -124,7 +106,7 @@ impl Line {
         if !matches!(self.stage, Stage::Reading) {
             return;
         }
-        if self.input.is_empty() {
+        if self.input.is_none() {
             self.cut(Shutdown::Read);
         } else if self.looks >= unread {
             self.cut(Shutdown::Both);

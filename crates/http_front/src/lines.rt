@@ -27,6 +27,7 @@ const LAST_AGES: Ages = Ages {
 };
 
 /// What is there for a thread to do.
+#[derive(Clone, Copy)]
 pub(crate) enum Next {
     /// Nothing, for now.
     Nothing,
@@ -34,8 +35,8 @@ pub(crate) enum Next {
     Over,
     /// To let a connection in.
     Listener,
-    /// To give the connection at this place its turns.
-    Line(usize),
+    /// To give the connection at this place its turns: whether something can be read.
+    Line(usize, bool),
 }
 
 /// The connections that stand, the set by which threads wait for them, and how many there are. Each is
@@ -45,6 +46,8 @@ pub(crate) struct Lines {
     set: Set,
     slots: Slots,
     listener: RawFd,
+    /// How many threads there are.
+    workers: u64,
     /// How many connections have come in and not ended, streams not counted.
     live: AtomicU64,
     /// Whether no further one comes in.
@@ -56,7 +59,12 @@ pub(crate) struct Lines {
 impl Lines {
     /// No connection has come in at a listener, which waits for nothing from then on. Fails where the
     /// system has no more files, or for want of memory.
-    pub(crate) fn new<R: Net>(rt: &R, alloc: Global, listener: &TcpListener) -> io::Result<Lines> {
+    pub(crate) fn new<R: Net>(
+        rt: &R,
+        alloc: Global,
+        listener: &TcpListener,
+        workers: u64,
+    ) -> io::Result<Lines> {
         let set = Set::new(rt)?;
         let Ok(slots) = Slots::new(alloc) else {
             return Err(io::Error::from(ErrorKind::OutOfMemory));
@@ -70,6 +78,7 @@ impl Lines {
             set,
             slots,
             listener,
+            workers,
             live: AtomicU64::new(0),
             shut: AtomicBool::new(false),
             parked: AtomicBool::new(false),
@@ -78,12 +87,22 @@ impl Lines {
 
     /// Waits until something is ready. One thread alone is told of a connection.
     pub(crate) fn next(&self) -> Next {
-        match self.set.next() {
+        self.next_of(self.set.next())
+    }
+
+    /// The same, without waiting.
+    pub(crate) fn next_now(&self) -> Next {
+        self.next_of(self.set.next_now())
+    }
+
+    /// What is there to do where this is ready.
+    fn next_of(&self, ready: Ready) -> Next {
+        match ready {
             Ready::Nothing => Next::Nothing,
             Ready::Over => Next::Over,
-            Ready::Socket(LISTENER) => Next::Listener,
-            Ready::Socket(name) => match usize::try_from(name) {
-                Ok(place) => Next::Line(place),
+            Ready::Socket(LISTENER, _) => Next::Listener,
+            Ready::Socket(name, is_wet) => match usize::try_from(name) {
+                Ok(place) => Next::Line(place, is_wet),
                 Err(_) => Next::Nothing,
             },
         }
@@ -127,6 +146,12 @@ impl Lines {
         if self.is_empty() {
             self.set.end();
         }
+    }
+
+    /// Whether there are no more connections than threads: then a thread may stay with one for some
+    /// milliseconds, since no other waits for it so long.
+    pub(crate) fn are_few(&self) -> bool {
+        self.live.load(Ordering::SeqCst) <= self.workers
     }
 
     /// Whether no connection stands.

@@ -111,7 +111,7 @@ where
         Ok(made) => made,
         Err(front) => return Err(front),
     };
-    let lines = match lines_of(rt, alloc, listener) {
+    let lines = match lines_of(rt, alloc, listener, limits.workers) {
         Ok(lines) => lines,
         Err(front) => return Err(front),
     };
@@ -167,10 +167,11 @@ pub(crate) fn lines_of<R: Net>(
     rt: &R,
     alloc: Global,
     listener: &TcpListener,
+    workers: u64,
 ) -> Result<Lines, Front>
     ensures fault { IfErr result IsOfServer }
 {
-    match Lines::new(rt, alloc, listener) {
+    match Lines::new(rt, alloc, listener, workers) {
         Ok(lines) => Ok(lines),
         Err(_) => Err(Front::Spawn),
     }

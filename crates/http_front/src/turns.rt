@@ -5,6 +5,7 @@ use crate::handing::Waking;
 use crate::line::{Line, Stage, Trimming};
 use crate::shared::Shared;
 use engine_lock::{Client, EngineName};
+use http_input::Input;
 use http_loop::{Step, Turn, Waiting, end_wait, take_step};
 use http_peer::{Clock, Coming, Gate, Going};
 use http_reply::{Counted, Front, ReplyBuffer};
@@ -18,6 +19,10 @@ use std::time;
 /// How many turns a connection has before others that are ready.
 const MOST_TURNS: u64 = 16;
 
+/// How many it has where there are no more connections than threads, before its thread looks whether
+/// anything else is ready.
+const MOST_STAYED: u64 = 64;
+
 /// How many trimming steps a turn makes.
 const MOST_STEPS: u64 = 100;
 
@@ -26,8 +31,10 @@ const MOST_STEPS: u64 = 100;
 pub(crate) enum After {
     /// That something more comes.
     Reads,
-    /// That its client takes more; or a further turn, behind others.
+    /// That its client takes more.
     Writes,
+    /// A further turn, behind others.
+    Again,
     /// That the stream of the watch of this number is looked after elsewhere.
     Away(u64),
     /// Nothing: it is over.
@@ -43,8 +50,12 @@ pub(crate) struct Turning<'t, L: EngineName, G, C, R> {
     gate: Waking<'t, G>,
     serving: &'t mut Serving<L>,
     buffer: &'t mut ReplyBuffer,
+    /// What has come of the connection and was not answered.
+    input: &'t mut Input,
     /// Whether nothing more is there to be read, as far as it is known.
     dry: bool,
+    /// Whether a request was answered since a next one was waited for.
+    answered: bool,
 }
 
 /// Gives a connection its turns, at most 16, and says what it wants then. No request is read while
@@ -61,6 +72,8 @@ pub(crate) fn serve_line<L, G, C, R>(
     serving: &mut Serving<L>,
     buffer: &mut ReplyBuffer,
     line: &mut Line,
+    input: &mut Input,
+    is_wet: bool,
 ) -> After
 where
     L: EngineName,
@@ -77,7 +90,9 @@ where
         gate: Waking::new(shared.gate, &shared.handing, false),
         serving,
         buffer,
-        dry: false,
+        input,
+        dry: !is_wet,
+        answered: false,
     };
     let after = turning.turns(line);
     line.known = turning.serving.client.known();
@@ -92,9 +107,12 @@ where
     C: Clock,
     R: Wait + time::Clock,
 {
-    /// At most 16 turns.
+    /// At most 16 turns, or 64 where there are no more connections than threads.
     fn turns(&mut self, line: &mut Line) -> After {
-        for _ in 0..MOST_TURNS {
+        for count in 0..MOST_STAYED {
+            if count >= MOST_TURNS && !self.shared.lines.are_few() {
+                break;
+            }
             match line.send() {
                 Ok(true) => {}
                 Ok(false) => return After::Writes,
@@ -104,7 +122,7 @@ where
                 return after;
             }
         }
-        After::Writes
+        After::Again
     }
 
     /// One turn, where all has gone out; what the connection wants, where no further one is to follow.
@@ -122,11 +140,14 @@ where
 
     /// A request is read, as far as it is there, and answered.
     fn read_turn(&mut self, line: &mut Line) -> Option<After> {
-        if line.input.is_empty() && self.shared.ended.load(Ordering::SeqCst) {
+        if self.input.is_empty() && self.shared.ended.load(Ordering::SeqCst) {
             return Some(After::Over);
         }
         match self.step(line) {
-            Ok(Step::Turned(turn)) => line.stage = self.stage_after(turn),
+            Ok(Step::Turned(turn)) => {
+                self.answered = true;
+                line.stage = self.stage_after(turn);
+            }
             Ok(Step::Waits(waiting)) => {
                 line.stage = Stage::Trimming(Trimming {
                     waiting,
@@ -134,9 +155,21 @@ where
                     refusals: 0,
                 });
             }
-            Err(Front::Read) if self.dry => return Some(After::Reads),
+            Err(Front::Read) if self.dry => return self.dried(),
             Err(_) => line.stage = Stage::Closing,
         }
+        None
+    }
+
+    /// Nothing more is there to be read. Where there are no more connections than threads, a thread that
+    /// has answered stays for some milliseconds, which costs less than to ask for the socket.
+    fn dried(&mut self) -> Option<After> {
+        let stays = self.answered && self.input.is_empty() && self.shared.lines.are_few();
+        if !stays {
+            return Some(After::Reads);
+        }
+        self.answered = false;
+        self.dry = false;
         None
     }
 
@@ -162,12 +195,11 @@ where
             stream,
             unsent: &mut line.unsent,
         });
-        let input = &mut line.input;
         take_step(
             self.alloc,
             &by,
             &mut *self.serving,
-            input,
+            &mut *self.input,
             &mut *self.buffer,
             &mut r,
             &mut w,

@@ -8,6 +8,7 @@ use crate::lines::Next;
 use crate::shared::Shared;
 use crate::turns::{After, serve_line};
 use engine_lock::{Client, EngineName};
+use http_input::Input;
 use http_peer::{Clock, Gate, Wish, open_peer};
 use http_reply::ReplyBuffer;
 use std::alloc::Global;
@@ -23,6 +24,9 @@ const MOST_ACCEPTS: u64 = 16;
 /// A buffer that a longer reply took gives its room back, in bytes.
 const MOST_KEPT: usize = 262_144;
 
+/// An input that a longer request took does, in bytes.
+const MOST_ROOM: usize = 16_384;
+
 /// What a thread serves connections with.
 #[derive(Drop)]
 struct Worker<'s, L: EngineName, G, C, R> {
@@ -32,6 +36,8 @@ struct Worker<'s, L: EngineName, G, C, R> {
     serving: Serving<L>,
     /// Where replies are laid out; none where no memory was found for it yet.
     buffer: Option<ReplyBuffer>,
+    /// An input of which nothing is left, for a connection that has none.
+    spare: Option<Box<Input>>,
 }
 
 /// What came of an accept.
@@ -65,14 +71,16 @@ where
         shared,
         serving: Serving::new(client),
         buffer: None,
+        spare: None,
     };
+    let mut next = Next::Nothing;
     for _ in rt.forever() {
-        match shared.lines.next() {
-            Next::Nothing => {}
+        next = match next {
+            Next::Nothing => shared.lines.next(),
             Next::Over => break,
             Next::Listener => worker.let_in(),
-            Next::Line(place) => worker.visit(place),
-        }
+            Next::Line(place, is_wet) => worker.visit(place, is_wet),
+        };
     }
     let Worker { serving, .. } = worker;
     Worked::whole(serving.client)
@@ -86,17 +94,24 @@ where
     R: Wait + time::Clock,
 {
     /// Lets connections in that wait at the listener, and asks for it again where more may come.
-    fn let_in(&mut self) {
+    fn let_in(&mut self) -> Next {
         let lines = &self.shared.lines;
         for _ in 0..MOST_ACCEPTS {
             match self.next() {
                 Came::One(call, stream) => self.begin(call, stream),
                 Came::Nobody => break,
-                Came::Shut => return lines.shut(),
-                Came::Full => return lines.park_listener(),
+                Came::Shut => {
+                    lines.shut();
+                    return Next::Nothing;
+                }
+                Came::Full => {
+                    lines.park_listener();
+                    return Next::Nothing;
+                }
             }
         }
         lines.ask_listener();
+        Next::Nothing
     }
 
     /// The next connection that waits.
@@ -134,9 +149,7 @@ where
             return true;
         }
         let known = self.serving.client.known();
-        let Ok(line) = Line::new(self.alloc, call, stream, known) else {
-            return true;
-        };
+        let line = Line::new(self.alloc, call, stream, known);
         match Box::new(self.alloc, line) {
             Ok(line) => self.shared.lines.add(self.rt, self.alloc, line).is_some(),
             Err(_) => true,
@@ -144,34 +157,55 @@ where
     }
 
     /// Takes the connection at a place, gives it its turns, and asks for it again. None is there where
-    /// another thread had it first, which asks for it behind its turns.
-    fn visit(&mut self, place: usize) {
+    /// another thread had it first, which asks for it behind its turns. Gives what is to be done next.
+    fn visit(&mut self, place: usize, is_wet: bool) -> Next {
         let lines = &self.shared.lines;
         let Some(line) = lines.take(self.rt, place) else {
-            return;
+            return Next::Nothing;
         };
         let mut line = line;
-        let left = match self.served(&mut line) {
+        let (after, next) = self.stay(&mut line, is_wet);
+        let left = match after {
             After::Reads => lines.ask(self.rt, line, Wish::Read),
             After::Writes => lines.ask(self.rt, line, Wish::Write),
-            After::Away(number) => return self.hand_on(line, number),
+            After::Again => lines.ask(self.rt, line, Wish::Either),
+            After::Away(number) => {
+                self.hand_on(line, number);
+                None
+            }
             After::Over => Some(line),
         };
         if let Some(line) = left {
             self.end(line);
         }
+        next
     }
 
-    /// Gives a connection its turns. Where no memory is found for a buffer it is over.
-    fn served(&mut self, line: &mut Line) -> After {
-        let buffer = match self.buffer.take() {
-            Some(buffer) => Ok(buffer),
-            None => ReplyBuffer::new(self.alloc),
-        };
-        let Ok(buffer) = buffer else {
+    /// Gives a connection its turns, and further ones as long as there are no more connections than
+    /// threads and nothing else is ready. So a thread keeps one connection where there are few, which
+    /// costs less than to find it anew. Gives what is ready else, too.
+    fn stay(&mut self, line: &mut Line, is_wet: bool) -> (After, Next) {
+        let lines = &self.shared.lines;
+        let mut is_wet = is_wet;
+        for _ in self.rt.forever() {
+            let after = self.served(line, is_wet);
+            if after != After::Again || !lines.are_few() {
+                return (after, Next::Nothing);
+            }
+            match lines.next_now() {
+                Next::Nothing => is_wet = true,
+                next => return (after, next),
+            }
+        }
+        unreachable!()
+    }
+
+    /// Gives a connection its turns. Where no memory is found for a buffer or an input it is over.
+    fn served(&mut self, line: &mut Line, is_wet: bool) -> After {
+        let (Some(buffer), Some(input)) = (self.next_buffer(), self.input_of(line)) else {
             return After::Over;
         };
-        let mut buffer = buffer;
+        let (mut buffer, mut input) = (buffer, input);
         let after = serve_line(
             self.rt,
             self.alloc,
@@ -179,12 +213,44 @@ where
             &mut self.serving,
             &mut buffer,
             line,
+            &mut input,
+            is_wet,
         );
         if buffer.room() <= MOST_KEPT {
             self.buffer = Some(buffer);
         }
-        line.give_back(self.alloc);
+        self.keep_input(line, input);
         after
+    }
+
+    /// Where replies are laid out; `None` where no memory is found for it.
+    fn next_buffer(&mut self) -> Option<ReplyBuffer> {
+        match self.buffer.take() {
+            Some(buffer) => Some(buffer),
+            None => ReplyBuffer::new(self.alloc).ok(),
+        }
+    }
+
+    /// What has come of a connection and was not answered; an input of which nothing is left, where
+    /// nothing has. `None` where no memory is found for that.
+    fn input_of(&mut self, line: &mut Line) -> Option<Box<Input>> {
+        if let Some(input) = line.input.take() {
+            return Some(input);
+        }
+        match self.spare.take() {
+            Some(input) => Some(input),
+            None => Box::new(self.alloc, Input::new(self.alloc).ok()?).ok(),
+        }
+    }
+
+    /// What has come of a connection and was not answered stays with it; where nothing is left of it the
+    /// thread has the input for the next.
+    fn keep_input(&mut self, line: &mut Line, input: Box<Input>) {
+        if !input.is_empty() {
+            line.input = Some(input);
+        } else if input.room() <= MOST_ROOM {
+            self.spare = Some(input);
+        }
     }
 
     /// A connection is over: its socket is closed, and the watch of a stream is ended that did not get

@@ -5,19 +5,29 @@ use crate::unsent::Unsent;
 use std::io;
 use std::io::{ErrorKind, Read, Write};
 use std::net::TcpStream;
+use std::time::Duration;
 
 /// After so many signals in a row a read or a write counts as one that would wait.
 const MOST_SIGNALS: u64 = 64;
 
-/// Has a connection's socket wait for nothing, and hold nothing back. Fails where the system refuses
-/// the first.
+/// How long a read or a write of a socket waits at most, in milliseconds: as short as the system can.
+const WAIT: u64 = 1;
+
+/// The most bytes of a write that may wait so long, once: a socket whose client takes what it is sent
+/// takes them at once.
+const MOST_WAITING: usize = 16_384;
+
+/// Has a connection's socket wait for some milliseconds at most, and hold nothing back. Fails where the
+/// system refuses the first.
 pub fn open_peer(stream: &TcpStream) -> io::Result<()> {
     // Without it a reply may wait for the peer to take note of the one before.
     let _ = stream.set_nodelay(true);
-    stream.set_nonblocking(true)
+    stream.set_read_timeout(Some(Duration::from_millis(WAIT)))?;
+    stream.set_write_timeout(Some(Duration::from_millis(WAIT)))
 }
 
-/// What comes from the client of a connection, as far as it is there. A signal ends no read.
+/// What comes from the client of a connection, as far as it is there: a read that finds nothing waits
+/// for some milliseconds at most. A signal ends no read.
 ///
 /// A read that fails since nothing is there loses nothing, and `dry` tells it from one that failed. A
 /// read that does not fill its room has taken all that was there, so `dry` spares the next one; where
@@ -90,7 +100,18 @@ impl<'p> Write for Going<'p> {
 }
 
 /// How many bytes a socket takes at once, of some: none where it would wait. A signal ends no write.
-pub(crate) fn write_at_once(stream: &TcpStream, buf: &[u8]) -> io::Result<usize> {
+fn write_at_once(stream: &TcpStream, buf: &[u8]) -> io::Result<usize> {
+    if buf.len() <= MOST_WAITING {
+        return write_once(stream, buf);
+    }
+    stream.set_nonblocking(true)?;
+    let gone = write_once(stream, buf);
+    stream.set_nonblocking(false)?;
+    gone
+}
+
+/// One write, which no signal ends.
+pub(crate) fn write_once(stream: &TcpStream, buf: &[u8]) -> io::Result<usize> {
     let mut stream = stream;
     for _ in 0..MOST_SIGNALS {
         match stream.write(buf) {

@@ -14,6 +14,8 @@ pub enum Wish {
     Read,
     /// That something can be written.
     Write,
+    /// One of the two.
+    Either,
 }
 
 /// What the system is asked for by a wish: once, so that one thread alone is told.
@@ -21,6 +23,7 @@ fn asked(wish: Wish) -> u32 {
     match wish {
         Wish::Read => c::EPOLLIN | c::EPOLLRDHUP | c::EPOLLONESHOT,
         Wish::Write => c::EPOLLOUT | c::EPOLLONESHOT,
+        Wish::Either => c::EPOLLIN | c::EPOLLRDHUP | c::EPOLLOUT | c::EPOLLONESHOT,
     }
 }
 
@@ -44,12 +47,12 @@ const OVER: u64 = u64::MAX;
 /// What a thread finds ready.
 #[derive(Clone, Copy, Debug, PartialEq, Eq)]
 pub enum Ready {
-    /// Nothing: a signal came.
+    /// Nothing: a signal came, or none is ready.
     Nothing,
     /// The set has ended.
     Over,
-    /// The socket of this name.
-    Socket(u64),
+    /// The socket of this name: whether something can be read, or its client has ended.
+    Socket(u64, bool),
 }
 
 impl Set {
@@ -96,13 +99,23 @@ impl Set {
     /// Waits until a socket is ready, and gives its name: of one alone, so that another that is ready
     /// does not wait behind it.
     pub fn next(&self) -> Ready {
+        self.ready_within(-1)
+    }
+
+    /// The same, without waiting: nothing where none is ready.
+    pub fn next_now(&self) -> Ready {
+        self.ready_within(0)
+    }
+
+    /// The same, within so many milliseconds; without an end where they are below 0.
+    fn ready_within(&self, millis: i32) -> Ready {
         let mut ready = [EpollEvent { events: 0, data: 0 }];
-        if os::epoll_wait(self.poll.as_raw_fd(), &mut ready, -1) == 0 {
+        if os::epoll_wait(self.poll.as_raw_fd(), &mut ready, millis) == 0 {
             return Ready::Nothing;
         }
         match ready[0].data {
             OVER => Ready::Over,
-            name => Ready::Socket(name),
+            name => Ready::Socket(name, ready[0].events & !c::EPOLLOUT != 0),
         }
     }
 }

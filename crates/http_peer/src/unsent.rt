@@ -1,7 +1,7 @@
 //! What was to go out on a connection and has not yet.
 ghost use Rattle.std.specs.Prelude.{◌≤◌, length};
 
-use crate::peer::write_at_once;
+use crate::peer::write_once;
 use std::alloc::{AllocError, Global};
 use std::io;
 use std::net::TcpStream;
@@ -43,15 +43,23 @@ impl Unsent {
         self.bytes.extend_from_slice(bytes)
     }
 
-    /// Has as much go out as a socket takes, in some 16 writes: true where that was all.
-    /// Fails where a write does.
+    /// Has as much go out as a socket takes, in some 16 writes, none of which waits: true where that was
+    /// all. Fails where a write does.
     pub fn send(&mut self, stream: &TcpStream) -> io::Result<bool> {
+        stream.set_nonblocking(true)?;
+        let gone = self.send_on(stream);
+        stream.set_nonblocking(false)?;
+        gone
+    }
+
+    /// The same, where no write waits.
+    fn send_on(&mut self, stream: &TcpStream) -> io::Result<bool> {
         for _ in 0..MOST_WRITES {
             if self.is_empty() {
                 self.clear();
                 return Ok(true);
             }
-            let count = write_at_once(stream, &self.bytes[self.gone..])?;
+            let count = write_once(stream, &self.bytes[self.gone..])?;
             if count == 0 {
                 return Ok(false);
             }
