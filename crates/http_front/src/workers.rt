@@ -21,7 +21,7 @@ use std::time;
 /// How many connections come in before others have turns.
 const MOST_ACCEPTS: u64 = 16;
 
-/// A buffer that a longer reply took gives its room back once a reply goes out at once, in bytes.
+/// A buffer that a longer reply took gives its room back, in bytes.
 const MOST_KEPT: usize = 262_144;
 
 /// An input that a longer request took does, in bytes.
@@ -216,7 +216,7 @@ where
             &mut input,
             is_wet,
         );
-        if buffer.room() <= MOST_KEPT || !line.unsent.is_empty() {
+        if buffer.room() <= MOST_KEPT {
             self.buffer = Some(buffer);
         }
         self.keep_input(line, input);

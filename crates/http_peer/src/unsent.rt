@@ -9,6 +9,14 @@ use std::net::TcpStream;
 /// Once all has gone out the room of a longer rest is given back, in bytes.
 const MOST_KEPT: usize = 65_536;
 
+/// A rest longer than this, in bytes, is kept in so much room that the C library asks the system for it
+/// alone, and gives it back as soon as it is let go (glibc's greatest `M_MMAP_THRESHOLD` is 32 MiB): else
+/// a rest that was let go stays with the program. Room that no byte stands in takes no memory.
+const LONG: usize = 1_048_576;
+
+/// That room, in bytes.
+const LONG_ROOM: usize = 35_651_584;
+
 /// How many writes are made at once.
 const MOST_WRITES: u64 = 16;
 
@@ -40,6 +48,13 @@ impl Unsent {
     /// Adds bytes behind those that have not gone out. `AllocError` comes where no memory was found for
     /// them, and then nothing has changed.
     pub fn keep(&mut self, bytes: &[u8]) -> Result<(), AllocError> {
+        if self.bytes.is_empty()
+            && bytes.len() > LONG
+            && bytes.len() < LONG_ROOM
+            && let Ok(room) = Vec::with_capacity(self.alloc, LONG_ROOM)
+        {
+            self.bytes = room;
+        }
         self.bytes.extend_from_slice(bytes)
     }
 
