@@ -83,7 +83,7 @@ module _ (S : Type 0) (Is : S → Asked → List ℕ → S → Result Bool Front
 
   -- ---- runs of turns
 
-  begins_none : (s : S) (bytes : List ℕ) → Begins S Is s bytes 0 bytes s []
+  pub begins_none : (s : S) (bytes : List ℕ) → Begins S Is s bytes 0 bytes s []
   begins_none s bytes k more u r x = named s bytes u k (0 + k) more more r (replies_more 0 r) (omega arith) refl (no_more r) x
 
   module _ (s : S) (bytes left : List ℕ) (n : ℕ) (t : S) (x : List ℕ) (g : Begins S Is s bytes n left t x) where

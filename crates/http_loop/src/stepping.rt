@@ -1,9 +1,19 @@
 //! One step of a connection that waits between its steps: a request, read as far as it is there, and
 //! answered.
+ghost use Rattle.std.specs.Prelude.{◌≡◌, IfErr};
+ghost use Rattle.http_input.specs.Inputs.{failures_after_read, request_view};
+ghost use Rattle.http_reply.specs.Counts.{failures_of, inner_of};
+ghost use Rattle.http_reply.specs.declared.front.Front.TheVariants as front;
+ghost use Rattle.http_reply.specs.Sends.{failures_after};
+ghost use Rattle.http_loop.specs.Answered.{IsAnswered};
+ghost use Rattle.http_loop.specs.Stepped.{AtOnce, Begun, EndsWith, Finished, Steps};
+ghost use Rattle.http_loop.specs.Texts.{IsOfConnection, IsOfWriting};
+ghost use Rattle.http_loop.specs.Turned.{SoFar, progress};
+
 use crate::answering::Answering;
 use crate::serving::{await_next, pass, reply};
 use crate::writing::{Turn, decline, turn_after};
-use http_input::{Input, next_request};
+use http_input::{Input, Request, next_request};
 use http_reply::{Counted, Front, ReplyBuffer};
 use json_gateway::Outcome;
 use std::alloc::Global;
@@ -36,11 +46,8 @@ pub enum Step {
 ///   from there, so whatever answers the rest answers all. So a reader that has nothing now may fail, and
 ///   the step be made again.
 ///
-/// The contract that is meant: at `Ok(Step::Turned(turn))` and every `Err` but `Front::Read` what
-/// `Turns` says of `take_turn`, word for word; at `Err(Front::Read)`, with `p` and `q` the progress
-/// before and behind, `SoFar S (IsAnswered ..) 0 p q`; at `Ok(Step::Waits(w))` there is a request `a` with
-/// `Answers by.now state.old a w.outcome state.new`, `w.outcome.waits ≡ true`, `w.close ≡ a.close`, the
-/// input has gone past it, and nothing was written.
+/// Fails as a turn does, and for the same reasons; a request is done as soon as it has been read. It costs
+/// one read where the input has no whole request, and one write where its reply does not wait.
 pub fn take_step<S, A: Answering<S>, R: Read, W: Write>(
     alloc: Global,
     by: &A,
@@ -49,30 +56,49 @@ pub fn take_step<S, A: Answering<S>, R: Read, W: Write>(
     buffer: &mut ReplyBuffer,
     r: &mut Counted<R>,
     w: &mut Counted<W>,
-) -> Result<Step, Front> {
+) -> Result<Step, Front>
+    ensures steps { Steps S (A.Answers by.now) (A.Tells by.now) (A.Finishes by.now)
+        (progress state.old (R.remaining (inner_of r.old)) input.old (W.contents (inner_of w.old)))
+        (progress state.new (R.remaining (inner_of r.new)) input.new (W.contents (inner_of w.new))) result }
+    ensures dry { IfErr result (λ f. f ≡ front.Read
+        → SoFar S (IsAnswered S (AtOnce (A.Answers by.now)) (A.Tells by.now) (A.Finishes by.now)) 0
+        (progress state.old (R.remaining (inner_of r.old)) input.old (W.contents (inner_of w.old)))
+        (progress state.new (R.remaining (inner_of r.new)) input.new (W.contents (inner_of w.new)))) }
+    ensures ends { IfErr result IsOfConnection }
+    ensures reads { failures_of r.new ≡ failures_after_read result (failures_of r.old) }
+    ensures writes { failures_of w.new ≡ failures_after result (failures_of w.old) }
+{
     await_next(by, input);
     match next_request(input, r) {
         Ok(Some(head)) => {
-            let request = input.request(head);
-            let close = request.close;
-            let outcome = by.answer(alloc, state, &request);
+            let begun = begin(alloc, by, state, &input.request(head), buffer, w);
             pass(input, head);
-            step_after(alloc, by, state, Waiting { outcome, close }, buffer, w)
+            begun
         }
         Ok(None) => Ok(Step::Turned(Turn::End)),
         Err(front) => Err(decline(buffer, w, front)),
     }
 }
 
-/// Writes the reply of a request that was done, where its outcome does not wait.
-fn step_after<S, A: Answering<S>, W: Write>(
+/// Has a request answered, and writes its reply where its outcome does not wait.
+fn begin<S, A: Answering<S>, W: Write>(
     alloc: Global,
     by: &A,
     state: &mut S,
-    waiting: Waiting,
+    request: &Request<'_>,
     buffer: &mut ReplyBuffer,
     w: &mut Counted<W>,
-) -> Result<Step, Front> {
+) -> Result<Step, Front>
+    ensures begun { Begun S (A.Answers by.now) (A.Tells by.now) (A.Finishes by.now) (request_view request.now)
+        state.old (W.contents (inner_of w.old)) state.new (W.contents (inner_of w.new)) result }
+    ensures ends { IfErr result IsOfWriting }
+    ensures writes { failures_of w.new ≡ failures_after result (failures_of w.old) }
+{
+    let outcome = by.answer(alloc, state, request);
+    let waiting = Waiting {
+        outcome,
+        close: request.close,
+    };
     if waiting.outcome.waits {
         return Ok(Step::Waits(waiting));
     }
@@ -82,12 +108,11 @@ fn step_after<S, A: Answering<S>, W: Write>(
     }
 }
 
-/// Writes the reply of a request that was done before, and tells whoever answers of its end.
+/// Writes the reply of a request that was done before, and tells whoever answers of its end: what is
+/// left of a turn behind its answer.
 ///
-/// The contract that is meant: `Grows (contents old) (contents new) (λ out. (t : S) ×
-/// IsTold S (A.Tells by.now) (streamed settled watch) settled close state.old out t result' × A.Finishes
-/// by.now t watch state.new)`, with `result ≡ turn_of result'`: what is left of `IsAnswered` behind
-/// `Answers`.
+/// Fails as a turn does that was answered: with `Front::Write` and the number of bytes of the text that
+/// went out, or with `Front::Memory`, where none was found for a reply or a message.
 pub fn end_wait<S, A: Answering<S>, W: Write>(
     alloc: Global,
     by: &A,
@@ -95,7 +120,13 @@ pub fn end_wait<S, A: Answering<S>, W: Write>(
     waiting: &Waiting,
     buffer: &mut ReplyBuffer,
     w: &mut Counted<W>,
-) -> Result<Turn, Front> {
+) -> Result<Turn, Front>
+    ensures finished { Finished (W.contents (inner_of w.old)) (W.contents (inner_of w.new))
+        (λ out r. EndsWith S (A.Tells by.now) (A.Finishes by.now) waiting.now.outcome waiting.now.close
+        state.old out state.new r) result }
+    ensures ends { IfErr result IsOfWriting }
+    ensures writes { failures_of w.new ≡ failures_after result (failures_of w.old) }
+{
     let outcome = &waiting.outcome;
     let told = reply(alloc, by, state, outcome, waiting.close, buffer, w);
     by.finish(state, outcome.watch);
