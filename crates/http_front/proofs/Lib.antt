@@ -1,3 +1,4 @@
 pub mod Crossing
+pub mod Firsts
 pub mod Giving
 pub mod Readings

@@ -1,8 +1,10 @@
 //! An engine answers a connection, on behalf of one of its clients.
-ghost use Rattle.std.specs.Prelude.{◌≡◌, ◌⊎◌, None, MatchOption};
+ghost use Rattle.std.specs.Prelude.{◌≡◌, ◌⊎◌, None, false, MatchOption};
 ghost use Rattle.json_gateway.specs.Endings.{Refuses, fault_of_reading, is_want};
 ghost use Rattle.http_front.specs.Engines as engines;
-ghost use Rattle.http_front.specs.Engines.{AreTrimmed, Awaits, Does, IsQuiet, Looks, Posts, Says, Submits, lost_answer};
+ghost use Rattle.http_input.specs.Inputs.{request_view};
+ghost use Rattle.http_front.specs.Engines.{AnswersFirst, AreTrimmed, Awaits, Does, IsQuiet, Looks, Posts, Says};
+ghost use Rattle.http_front.specs.Engines.{SubmitsFirst, lost_answer};
 
 use crate::beside::looked;
 use crate::directed::Standing;
@@ -87,35 +89,54 @@ where
 {
     /// Does the command that a request asks for, as [`Answering::answer`] does, but for the trimming
     /// that its answer waits for, where its outcome says that it waits.
-    ///
-    /// The contract that is meant: `Begun engine L.recorded (C.Tells clock) client.old a result
-    /// client.new`: `Refuses`, with the client as it was; or `Looks`, at `waits ≡ false`; or `Enters` of
-    /// the command, of which `result` is what it came to. `answer` is that and `Awaits`.
     pub(crate) fn begin(
         &self,
         alloc: Global,
         client: &mut Client<L>,
         request: &Request<'_>,
-    ) -> Submitted {
+    ) -> Submitted
+        ensures { AnswersFirst self.now.events.engine.now.ids L.recorded (C.Tells self.now.clock.now)
+            client.old (request_view request.now) result client.new }
+    {
         self.events.gate.before(self.call);
         let path = command_path(request);
         match read(alloc, path, request.body) {
             Ok(command) => {
                 let now = self.clock.now();
                 let asked = Asked::by(&command, path, request.body);
-                let looked = looked(&self.events, self.clock, alloc, client, now, asked.command());
-                match looked {
-                    Some(outcome) => settled_at_once(outcome),
-                    None => self.events.submit(client, now, &asked),
-                }
+                begun(&self.events, self.clock, alloc, client, now, &asked)
             }
-            Err(bad) => settled_at_once(refused(alloc, bad)),
+            Err(bad) => at_once(refused(alloc, bad)),
         }
     }
 }
 
+/// Does the command that a request asks for, at the moment `now`, which the clock told: reads a Range
+/// beside the engine where it can be, and else submits it. The trimming that its answer waits for is not
+/// done.
+fn begun<L: EngineName, G: Gate, C: Clock, R: Wait>(
+    events: &Recorded<'_, L, G, R>,
+    clock: &C,
+    alloc: Global,
+    client: &mut Client<L>,
+    now: u64,
+    asked: &Asked<'_>,
+) -> Submitted
+    requires { C.Tells clock.now now }
+    ensures { SubmitsFirst events.now.engine.now.ids (C.Tells clock.now) client.old asked.now result client.new
+        ⊎ (Looks events.now.engine.now.ids L.recorded (C.Tells clock.now) client.old asked.now.command
+        result.outcome client.new × (result.outcome.waits ≡ false)) }
+{
+    match looked(events, clock, alloc, client, now, asked.command()) {
+        Some(outcome) => at_once(outcome),
+        None => events.submit(client, now, asked),
+    }
+}
+
 /// What a request came to that made no change.
-fn settled_at_once(outcome: Outcome) -> Submitted {
+fn at_once(outcome: Outcome) -> Submitted
+    ensures { result.outcome ≡ outcome }
+{
     Submitted {
         outcome,
         published: true,
@@ -145,6 +166,7 @@ fn refused(alloc: Global, bad: Bad) -> Outcome
     ensures refuses { Refuses result.settled (is_want bad) (fault_of_reading bad) }
     ensures watch { result.watch ≡ None }
     ensures raised { result.raised ≡ None }
+    ensures ready { result.waits ≡ false }
 {
     Outcome {
         settled: dismissed(alloc, bad),

@@ -32,13 +32,13 @@ impl<L: EngineName> Model for Serving<L> {
 
     ghost coded = { Prim.hlevel (codes, commands.the_row.coded, reads.the_row.coded) };
 
-    ghost view = { λ s. record { client = s.client; handed = s.handed } };
+    ghost view = { λ s. record { client = s.client; handed = s.handed; revision = s.revision } };
 }
 
 impl<L: EngineName> Serving<L> {
     /// Nothing goes on elsewhere yet.
     pub(crate) fn new(client: Client<L>) -> Self
-        ensures { result ≡ record { client = client; handed = None } }
+        ensures { result ≡ record { client = client; handed = None; revision = 0 } }
     {
         Serving {
             client,
