@@ -25,10 +25,12 @@ mod door;
 mod gate;
 mod peer;
 mod set;
+mod socket;
 mod unsent;
 
 pub use door::{Door, MOST_CONNECTIONS};
 pub use gate::{Clock, Gate, OpenGate, Takes};
-pub use peer::{Coming, Going, open_peer};
+pub use peer::{Coming, Going};
 pub use set::{Ready, Set, Wish, open_listener};
+pub use socket::{Socket, open_peer};
 pub use unsent::Unsent;
