@@ -98,8 +98,8 @@ impl<'p, W: Write> Write for Going<'p, W> {
 fn keep_rest(unsent: &mut Unsent, bytes: &[u8], gone: usize) -> io::Result<usize>
     requires { gone ≤ length bytes.now }
     ensures ok { IfOk result (λ n. KeepsRest n gone bytes.now unsent.old unsent.new) }
-    ensures err { IfErr result (λ e. (gone ≡ 0) × (unsent.new ≡ unsent.old)
-        × (error_kind e ≡ ErrorKind.OutOfMemory)) }
+    ensures err { OnErr result ((gone ≡ 0) × (unsent.new ≡ unsent.old)) }
+    ensures fault { IfErr result (λ e. error_kind e ≡ ErrorKind.OutOfMemory) }
 {
     if gone == bytes.len() {
         return Ok(gone);
