@@ -3,7 +3,7 @@ use crate::slots::Ages;
 use engine_lock::Front as Seen;
 use http_input::Input;
 use http_loop::Waiting;
-use http_peer::Unsent;
+use http_peer::{Socket, Unsent};
 use std::alloc::Global;
 use std::io;
 use std::net::{Shutdown, TcpStream};
@@ -81,7 +81,7 @@ impl Line {
         if self.unsent.is_empty() {
             return Ok(true);
         }
-        self.unsent.send(&self.stream)
+        Socket::new(&self.stream).send(&mut self.unsent)
     }
 
     /// A byte may have come or gone.

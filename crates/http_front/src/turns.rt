@@ -7,7 +7,7 @@ use crate::shared::Shared;
 use engine_lock::{Client, EngineName};
 use http_input::Input;
 use http_loop::{Step, Turn, Waiting, end_wait, take_step};
-use http_peer::{Clock, Coming, Gate, Going};
+use http_peer::{Clock, Coming, Gate, Going, Socket};
 use http_reply::{Counted, Front, ReplyBuffer};
 use json_gateway::{Outcome, Settled, Trim};
 use recorded_engine::Recorded;
@@ -188,11 +188,11 @@ where
         };
         let stream = &line.stream;
         let mut r = Counted::new(Coming {
-            stream,
+            inner: Socket::new(stream),
             dry: &mut self.dry,
         });
         let mut w = Counted::new(Going {
-            stream,
+            inner: Socket::new(stream),
             unsent: &mut line.unsent,
         });
         take_step(
@@ -255,7 +255,7 @@ where
             },
         };
         let mut w = Counted::new(Going {
-            stream: &line.stream,
+            inner: Socket::new(&line.stream),
             unsent: &mut line.unsent,
         });
         end_wait(

@@ -1,5 +1,5 @@
 //! The way in of connections.
-ghost use Rattle.std.specs.Prelude.{◌≡◌, ◌+◌, ◌-◌, ◌^◌, ◌≤◌, min, OnErr, IfOk, MatchOption};
+ghost use Rattle.std.specs.Prelude.{◌≡◌, ◌+◌, ◌-◌, ◌^◌, ◌≤◌, min, nat_le, OnErr, IfOk, MatchOption};
 
 use std::io;
 use std::net::{TcpListener, TcpStream};
@@ -31,13 +31,16 @@ impl Door {
 
     /// Lets no further connection in.
     pub fn shut(&mut self)
+        ensures taken { self.new.taken ≡ self.old.taken }
         ensures limit { self.new.limit ≡ self.old.taken }
     {
         self.limit = self.taken;
     }
 
     /// Whether no further connection is let in.
-    pub fn is_shut(&self) -> bool {
+    pub fn is_shut(&self) -> bool
+        ensures { result ≡ nat_le self.now.limit self.now.taken }
+    {
         self.taken >= self.limit
     }
 

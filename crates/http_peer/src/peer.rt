@@ -1,51 +1,47 @@
 //! The client at the other end of a connection, whose socket does not wait.
-ghost use Rattle.std.specs.Io.{ReadsAtMost};
+ghost use Rattle.std.specs.Prelude.{◌≡◌, ◌≢◌, ◌++◌, ◌<◌, ◌≤◌, [], true, false, length, IfOk, IfErr, IsErrAnd, OnErr};
+ghost use Rattle.std.specs.Io.{ReadsAtMost, WritesAtMost};
+ghost use Rattle.std.specs.Io.KnownBytes.{Keeps, ReadConsumes, WriteAppends, append_known};
+ghost use Rattle.std.specs.IoError.{error_kind};
+ghost use Rattle.http_peer.specs.Reads.{IsDry};
+ghost use Rattle.http_peer.specs.Sent.{GoesOut, KeepsRest, taken};
 
+use crate::socket::write_now;
 use crate::unsent::Unsent;
+use std::alloc::AllocError;
 use std::io;
 use std::io::{ErrorKind, Read, Write};
-use std::net::TcpStream;
-use std::time::Duration;
 
-/// After so many signals in a row a read or a write counts as one that would wait.
-const MOST_SIGNALS: u64 = 64;
-
-/// How long a read or a write of a socket waits at most, in milliseconds: as short as the system can.
-const WAIT: u64 = 1;
-
-/// The most bytes of a write that may wait so long, once: a socket whose client takes what it is sent
-/// takes them at once.
-const MOST_WAITING: usize = 16_384;
-
-/// Has a connection's socket wait for some milliseconds at most, and hold nothing back. Fails where the
-/// system refuses the first.
-pub fn open_peer(stream: &TcpStream) -> io::Result<()> {
-    // Without it a reply may wait for the peer to take note of the one before.
-    let _ = stream.set_nodelay(true);
-    stream.set_read_timeout(Some(Duration::from_millis(WAIT)))?;
-    stream.set_write_timeout(Some(Duration::from_millis(WAIT)))
-}
-
-/// What comes from the client of a connection, as far as it is there: a read that finds nothing waits
-/// for some milliseconds at most. A signal ends no read.
+/// What comes from the client of a connection, as far as it is there, by a reader that fails with
+/// `WouldBlock` where nothing is.
 ///
 /// A read that fails since nothing is there loses nothing, and `dry` tells it from one that failed. A
 /// read that does not fill its room has taken all that was there, so `dry` spares the next one; where
-/// more came meanwhile, or the client has ended, the socket tells so once it is asked for again.
+/// more came meanwhile, or the client has ended, the reader tells so once it is asked for again.
 #[derive(Drop)]
-pub struct Coming<'p> {
-    /// Its socket.
-    pub stream: &'p TcpStream,
+pub struct Coming<'p, R> {
+    /// Its reader.
+    pub inner: R,
     /// Whether nothing more is there, as far as it is known.
     pub dry: &'p mut bool,
 }
 
-impl<'p> Read for Coming<'p> {
-    fn read(&mut self, buf: &mut [u8]) -> io::Result<usize> {
+impl<'p, R: Read> Read for Coming<'p, R> {
+    ghost remaining = { λ c. R.remaining c.inner };
+
+    fn read(&mut self, buf: &mut [u8]) -> io::Result<usize>
+        ensures bound { ReadsAtMost result buf.new }
+        ensures bytes { ReadConsumes (R.remaining self.old.inner) (R.remaining self.new.inner) result buf.new }
+        ensures spared { self.old.dry.now ≡ true → (self.new.inner ≡ self.old.inner)
+            × (self.new.dry.now ≡ true) × (buf.new ≡ buf.old)
+            × IsErrAnd result (λ e. error_kind e ≡ ErrorKind.WouldBlock) }
+        ensures dry { self.old.dry.now ≡ false
+            → IsDry (λ e. error_kind e ≡ ErrorKind.WouldBlock) result (length buf.new) self.new.dry.now }
+    {
         if *self.dry {
             return Err(io::Error::from(ErrorKind::WouldBlock));
         }
-        let came = read_at_once(self.stream, buf);
+        let came = self.inner.read(buf);
         *self.dry = match &came {
             Ok(count) => *count > 0 && *count < buf.len(),
             Err(error) => error.kind() == ErrorKind::WouldBlock,
@@ -54,75 +50,63 @@ impl<'p> Read for Coming<'p> {
     }
 }
 
-/// A read that no signal ends.
-fn read_at_once(stream: &TcpStream, buf: &mut [u8]) -> io::Result<usize>
-    ensures { ReadsAtMost result buf.new }
-{
-    let mut stream = stream;
-    for _ in 0..MOST_SIGNALS {
-        match stream.read(buf) {
-            Err(error) if error.kind() == ErrorKind::Interrupted => {}
-            came => return came,
-        }
-    }
-    Err(io::Error::from(ErrorKind::WouldBlock))
-}
-
-/// What goes to the client of a connection: what its socket does not take at once is kept, behind what
-/// was kept before, until [`Unsent::send`] has it go out. So a write takes all, or it fails.
+/// What goes to the client of a connection, by a writer that fails with `WouldBlock` where it takes
+/// nothing: what it does not take at once is kept, behind what was kept before, until [`Unsent::send`]
+/// has it go out. So a write takes all, or it fails; where no memory is found for the rest of one of
+/// which some went out, it takes those.
 #[derive(Drop)]
-pub struct Going<'p> {
-    /// Its socket.
-    pub stream: &'p TcpStream,
+pub struct Going<'p, W> {
+    /// Its writer.
+    pub inner: W,
     /// What has not gone out.
     pub unsent: &'p mut Unsent,
 }
 
-impl<'p> Write for Going<'p> {
-    fn write(&mut self, buf: &[u8]) -> io::Result<usize> {
-        let gone = if self.unsent.is_empty() {
-            write_at_once(self.stream, buf)?
-        } else {
-            0
-        };
-        if gone == buf.len() {
-            return Ok(gone);
+impl<'p, W: Write> Write for Going<'p, W> {
+    ghost contents = { λ g. append_known (W.contents g.inner) g.unsent.now };
+
+    fn write(&mut self, buf: &[u8]) -> io::Result<usize>
+        ensures bound { WritesAtMost result buf.now }
+        ensures bytes { WriteAppends (append_known (W.contents self.old.inner) self.old.unsent.now)
+            (append_known (W.contents self.new.inner) self.new.unsent.now) result buf.now }
+        ensures goes { GoesOut (W.contents self.old.inner) (W.contents self.new.inner)
+            (self.old.unsent.now ++ taken result buf.now) self.new.unsent.now }
+        ensures behind { self.old.unsent.now ≢ [] → (self.new.inner ≡ self.old.inner)
+            × (self.new.unsent.now ≡ self.old.unsent.now ++ taken result buf.now) }
+        ensures all { IfOk result (λ n. n < length buf.now → (0 < n) × (self.new.unsent.now ≡ [])) }
+        ensures kept { OnErr result (self.new.unsent.now ≡ self.old.unsent.now) }
+        ensures fault { IfErr result (λ e. error_kind e ≢ ErrorKind.WouldBlock) }
+    {
+        if !self.unsent.is_empty() {
+            return keep_rest(self.unsent, buf, 0);
         }
-        match self.unsent.keep(&buf[gone..]) {
-            Ok(()) => Ok(buf.len()),
-            Err(_) => Err(io::Error::from(ErrorKind::OutOfMemory)),
+        match write_now(&mut self.inner, buf) {
+            Ok(gone) => keep_rest(self.unsent, buf, gone),
+            Err(error) => Err(error),
         }
     }
 
+    /// Does nothing: what is kept waits for [`Unsent::send`].
     fn flush(&mut self) -> io::Result<()> {
         Ok(())
     }
 }
 
-/// How many bytes a socket takes at once, of some: none where it would wait. A signal ends no write.
-fn write_at_once(stream: &TcpStream, buf: &[u8]) -> io::Result<usize> {
-    if buf.len() <= MOST_WAITING {
-        return write_once(stream, buf);
+/// Keeps what has not gone out of some bytes, of which the first `gone` have. Gives how many of them
+/// went out or are kept: all, or, where no memory is found for the rest, those that went out. Fails
+/// with `OutOfMemory` where that is none.
+fn keep_rest(unsent: &mut Unsent, bytes: &[u8], gone: usize) -> io::Result<usize>
+    requires { gone ≤ length bytes.now }
+    ensures ok { IfOk result (λ n. KeepsRest n gone bytes.now unsent.old unsent.new) }
+    ensures err { OnErr result ((gone ≡ 0) × (unsent.new ≡ unsent.old)) }
+    ensures fault { IfErr result (λ e. error_kind e ≡ ErrorKind.OutOfMemory) }
+{
+    if gone == bytes.len() {
+        return Ok(gone);
     }
-    stream.set_nonblocking(true)?;
-    let gone = write_once(stream, buf);
-    stream.set_nonblocking(false)?;
-    gone
-}
-
-/// One write, which no signal ends.
-pub(crate) fn write_once(stream: &TcpStream, buf: &[u8]) -> io::Result<usize> {
-    let mut stream = stream;
-    for _ in 0..MOST_SIGNALS {
-        match stream.write(buf) {
-            Err(error) => match error.kind() {
-                ErrorKind::Interrupted => {}
-                ErrorKind::WouldBlock => return Ok(0),
-                _ => return Err(error),
-            },
-            Ok(count) if count == 0 => return Err(io::Error::from(ErrorKind::WriteZero)),
-            Ok(count) => return Ok(count.min(buf.len())),
-        }
+    match unsent.keep(&bytes[gone..]) {
+        Ok(()) => Ok(bytes.len()),
+        Err(AllocError) if gone > 0 => Ok(gone),
+        Err(AllocError) => Err(io::Error::from(ErrorKind::OutOfMemory)),
     }
-    Ok(0)
 }

@@ -1,10 +1,13 @@
 //! What was to go out on a connection and has not yet.
-ghost use Rattle.std.specs.Prelude.{◌≤◌, length};
+ghost use Rattle.std.specs.Prelude.{◌≡◌, ◌≢◌, ◌≤◌, ◌++◌, [], drop, length, false, nat_eq, IfOk, IfErr, OnOk, OnErr};
+ghost use Rattle.std.specs.IoError.{error_kind};
+ghost use Rattle.http_peer.specs.Sent.{GoesOut};
 
-use crate::peer::write_once;
+use crate::socket::write_now;
 use std::alloc::{AllocError, Global};
 use std::io;
-use std::net::TcpStream;
+use std::io::{ErrorKind, Write};
+use std::marker::Model;
 
 /// Once all has gone out the room of a longer rest is given back, in bytes.
 const MOST_KEPT: usize = 65_536;
@@ -20,19 +23,30 @@ const LONG_ROOM: usize = 35_651_584;
 /// How many writes are made at once.
 const MOST_WRITES: u64 = 16;
 
-/// Bytes that were to go out and have not yet, in order.
+/// Bytes that were to go out and have not yet, in order. Contracts see the list of them.
 #[derive(Drop)]
 pub struct Unsent {
     alloc: Global,
     /// The first `gone` of them have gone out.
     bytes: Vec<u8>,
     gone: usize,
-    ghost within: { gone ≤ length bytes.items },
+}
+
+impl Model for Unsent {
+    ghost use Rattle.std.specs.Prelude.{ℕ, ◌≤◌, List, drop, length};
+
+    ghost Value = { List ℕ };
+
+    ghost view = { λ u. drop u.gone u.bytes.items };
+
+    ghost invariant = { λ u. u.gone ≤ length u.bytes.items };
 }
 
 impl Unsent {
     /// All has gone out. Takes no memory.
-    pub fn new(alloc: Global) -> Unsent {
+    pub fn new(alloc: Global) -> Unsent
+        ensures { result ≡ [] }
+    {
         Unsent {
             alloc,
             bytes: Vec::new(alloc),
@@ -41,13 +55,18 @@ impl Unsent {
     }
 
     /// Whether all has gone out.
-    pub fn is_empty(&self) -> bool {
+    pub fn is_empty(&self) -> bool
+        ensures { result ≡ nat_eq (length self.now) 0 }
+    {
         self.gone >= self.bytes.len()
     }
 
     /// Adds bytes behind those that have not gone out. `AllocError` comes where no memory was found for
     /// them, and then nothing has changed.
-    pub fn keep(&mut self, bytes: &[u8]) -> Result<(), AllocError> {
+    pub fn keep(&mut self, bytes: &[u8]) -> Result<(), AllocError>
+        ensures ok { OnOk result (self.new ≡ self.old ++ bytes.now) }
+        ensures err { OnErr result (self.new ≡ self.old) }
+    {
         if self.bytes.is_empty()
             && bytes.len() > LONG
             && bytes.len() < LONG_ROOM
@@ -58,33 +77,50 @@ impl Unsent {
         self.bytes.extend_from_slice(bytes)
     }
 
-    /// Has as much go out as a socket takes, in some 16 writes, none of which waits: true where that was
-    /// all. Fails where a write does.
-    pub fn send(&mut self, stream: &TcpStream) -> io::Result<bool> {
-        stream.set_nonblocking(true)?;
-        let gone = self.send_on(stream);
-        stream.set_nonblocking(false)?;
-        gone
-    }
-
-    /// The same, where no write waits.
-    fn send_on(&mut self, stream: &TcpStream) -> io::Result<bool> {
+    /// Has as much go out as a writer takes, in some 16 writes: true where that was all, and else there
+    /// is a rest. A write that would wait takes nothing and is no failure. Fails where a write does; what
+    /// went out before it has gone out.
+    pub fn send<W: Write>(&mut self, w: &mut W) -> io::Result<bool>
+        ensures out { GoesOut (W.contents w.old) (W.contents w.new) self.old self.new }
+        ensures told { IfOk result (λ all. all ≡ nat_eq (length self.new) 0) }
+        ensures fault { IfErr result (λ e. error_kind e ≢ ErrorKind.WouldBlock) }
+    {
         for _ in 0..MOST_WRITES {
             if self.is_empty() {
-                self.clear();
-                return Ok(true);
+                break;
             }
-            let count = write_once(stream, &self.bytes[self.gone..])?;
-            if count == 0 {
-                return Ok(false);
+            match self.send_once(w) {
+                Ok(true) => {}
+                Ok(false) => return Ok(false),
+                Err(error) => return Err(error),
             }
-            self.gone += count;
         }
-        Ok(false)
+        let all = self.is_empty();
+        if all {
+            self.clear();
+        }
+        Ok(all)
+    }
+
+    /// One write, which no signal ends. Says whether any byte went out.
+    fn send_once<W: Write>(&mut self, w: &mut W) -> io::Result<bool>
+        ensures out { GoesOut (W.contents w.old) (W.contents w.new) self.old self.new }
+        ensures stays { IfOk result (λ any. any ≡ false → self.new ≡ self.old) }
+        ensures fault { IfErr result (λ e. error_kind e ≢ ErrorKind.WouldBlock) }
+    {
+        match write_now(w, &self.bytes[self.gone..]) {
+            Ok(count) => {
+                self.gone += count;
+                Ok(count > 0)
+            }
+            Err(error) => Err(error),
+        }
     }
 
     /// Lets go of what has gone out.
-    fn clear(&mut self) {
+    fn clear(&mut self)
+        ensures { self.new ≡ [] }
+    {
         self.gone = 0;
         if self.bytes.capacity() > MOST_KEPT {
             self.bytes = Vec::new(self.alloc);
