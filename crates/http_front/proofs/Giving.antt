@@ -20,7 +20,7 @@ use Rattle.http_loop.specs.declared.answering.Told.{Told}
 use Rattle.http_loop.specs.declared.answering.Told.TheVariants as told
 use Rattle.http_loop.specs.Answered.{AreMessages, Conn, IsAnswered, IsStream, IsStreamOf, IsTold, streamed}
 use Rattle.http_loop.specs.Turned.{NotBegun, Serves, progress}
-use Rattle.http_front.specs.Engines.{Answers, AreMade, AreMadeBehind, AreQuiet, Awaits, Begins, Does, Finishes, Gets, Looks, Says, Starts, Stays, Submits, Tells}
+use Rattle.http_front.specs.Engines.{Answers, AnswersFirst, AreMade, AreMadeBehind, AreQuiet, Awaits, Begins, Does, Finishes, Gets, Looks, Says, Starts, Stays, Submits, SubmitsFirst, Tells}
 
 -- ---- of any calls
 
@@ -88,6 +88,15 @@ module _ (ids : Ids) (recorded : Bool) (At : ℕ → Type 0) (Left : Type 0) whe
   answers : (c d : Caller) (a : Asked) (o : Outcome) → Answers ids recorded At c a o d → Gets c d
   answers c d a o (inl h) = done c d _ h.command o h.does
   answers c d a o (inr h) = rests c d (ap seen h.same)
+
+  first : (c d : Caller) (asking : Asking) (command : Command) (s : Submitted)
+      → SubmitsFirst ids At c asking s d ⊎ (Looks ids recorded At c command s.outcome d × (s.outcome.waits ≡ false)) → Gets c d
+  first c d asking command s (inl b) = both c b.from d (starts asking.command c b.from b.starts) (enters ids b.from d _ _ b.submits.enters)
+  first c d asking command s (inr l) = done c d asking command s.outcome (inr l.0)
+
+  pub firsts : (c d : Caller) (a : Asked) (s : Submitted) → AnswersFirst ids recorded At c a s d → Gets c d
+  firsts c d a s (inl h) = first c d _ h.command s h.does
+  firsts c d a s (inr h) = rests c d (ap seen h.0.same)
 
   quiet : (n : ℕ) (c d : Caller) → AreQuiet ids n c d → Gets c d
   quiet n c _ AreQuiet.none = rests c c refl

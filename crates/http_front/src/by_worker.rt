@@ -1,5 +1,6 @@
 //! An engine answers a connection whose streams go on elsewhere.
 ghost use Rattle.std.specs.Prelude.{◌≡◌, None};
+ghost use Rattle.engine_lock.specs.Locked.{naming};
 ghost use Rattle.http_front.specs.Handing as handing;
 
 use crate::by_engine::ByEngine;
@@ -45,6 +46,15 @@ impl<L: EngineName> Serving<L> {
             handed: None,
             revision: 0,
         }
+    }
+
+    /// Begins with a connection of this number: each next event is about it, and no stream of it goes on
+    /// elsewhere yet.
+    pub(crate) fn begin(&mut self, call: u64)
+        ensures { self.new ≡ record self.old { client = naming self.old.client call; handed = None } }
+    {
+        self.client.set_about(call);
+        self.handed = None;
     }
 }
 

@@ -30,6 +30,7 @@
 //! The tests stand in the crate `server_tests`.
 #![tactic(auto)]
 
+mod awaiting;
 mod background;
 mod begun;
 mod beside;
@@ -39,12 +40,14 @@ mod connection;
 mod directed;
 mod duties;
 mod handing;
+mod life;
 mod line;
 mod lines;
 mod shared;
 mod slots;
 mod streaming;
 mod threads;
+mod trimming;
 mod turns;
 mod workers;
 

@@ -1,6 +1,7 @@
 //! The connections of a server, and the threads that wait for them.
 use crate::line::Line;
 use crate::slots::{Ages, Slots};
+use engine_lock::EngineName;
 use http_peer::{Ready, Set, Wish, open_listener};
 use std::alloc::Global;
 use std::io;
@@ -42,9 +43,9 @@ pub(crate) enum Next {
 /// The connections that stand, the set by which threads wait for them, and how many there are. Each is
 /// at its place, and asked for; or a thread has it.
 #[derive(Drop)]
-pub(crate) struct Lines {
+pub(crate) struct Lines<L: EngineName> {
     set: Set,
-    slots: Slots,
+    slots: Slots<L>,
     listener: RawFd,
     /// How many threads there are.
     workers: u64,
@@ -56,7 +57,7 @@ pub(crate) struct Lines {
     parked: AtomicBool,
 }
 
-impl Lines {
+impl<L: EngineName> Lines<L> {
     /// No connection has come in at a listener, which waits for nothing from then on. Fails where the
     /// system has no more files, or for want of memory.
     pub(crate) fn new<R: Net>(
@@ -64,7 +65,7 @@ impl Lines {
         alloc: Global,
         listener: &TcpListener,
         workers: u64,
-    ) -> io::Result<Lines> {
+    ) -> io::Result<Lines<L>> {
         let set = Set::new(rt)?;
         let Ok(slots) = Slots::new(alloc) else {
             return Err(io::Error::from(ErrorKind::OutOfMemory));
@@ -160,7 +161,7 @@ impl Lines {
     }
 
     /// The connection at a place, which nobody else has from then on.
-    pub(crate) fn take<R: Wait>(&self, rt: &R, place: usize) -> Option<Box<Line>> {
+    pub(crate) fn take<R: Wait>(&self, rt: &R, place: usize) -> Option<Box<Line<L>>> {
         self.slots.take(rt, place)
     }
 
@@ -170,8 +171,8 @@ impl Lines {
         &self,
         rt: &R,
         alloc: Global,
-        line: Box<Line>,
-    ) -> Option<Box<Line>> {
+        line: Box<Line<L>>,
+    ) -> Option<Box<Line<L>>> {
         let place = line.place();
         if !self.slots.has_room(rt, alloc, place) {
             return Some(line);
@@ -185,9 +186,9 @@ impl Lines {
     pub(crate) fn ask<R: Wait>(
         &self,
         rt: &R,
-        line: Box<Line>,
+        line: Box<Line<L>>,
         wish: Wish,
-    ) -> Option<Box<Line>> {
+    ) -> Option<Box<Line<L>>> {
         let place = line.place();
         self.stand(rt, place, line, |set, socket, name| {
             set.ask(socket, name, wish)
@@ -200,9 +201,9 @@ impl Lines {
         &self,
         rt: &R,
         place: usize,
-        line: Box<Line>,
+        line: Box<Line<L>>,
         ask: F,
-    ) -> Option<Box<Line>> {
+    ) -> Option<Box<Line<L>>> {
         let Ok(socket) = RawFd::try_from(place) else {
             return Some(line);
         };
@@ -216,7 +217,7 @@ impl Lines {
     }
 
     /// A connection is looked after elsewhere.
-    pub(crate) fn remove(&self, line: &Line) {
+    pub(crate) fn remove(&self, line: &Line<L>) {
         if let Ok(socket) = RawFd::try_from(line.place()) {
             self.set.remove(socket);
         }

@@ -20,7 +20,7 @@ pub(crate) struct Shared<'s, L: EngineName, G, C> {
     /// Under which a worker accepts a connection.
     pub(crate) door: Mutex<Door>,
     /// The connections that stand.
-    pub(crate) lines: Lines,
+    pub(crate) lines: Lines<L>,
     /// By which streams that have begun are handed over.
     pub(crate) handing: Handing,
     /// Whether the server ends: no further connection is let in, each ends after the request that it
@@ -37,7 +37,7 @@ impl<'s, L: EngineName, G, C> Shared<'s, L, G, C> {
         clock: &'s C,
         listener: &'s TcpListener,
         connections: u64,
-        lines: Lines,
+        lines: Lines<L>,
         handing: Handing,
     ) -> Self {
         Shared {

@@ -1,5 +1,6 @@
 //! Where the connections of a server stand while no thread has them.
 use crate::line::Line;
+use engine_lock::EngineName;
 use std::alloc::{AllocError, Global};
 use std::sync::{Mutex, OnceLock, Wait};
 
@@ -11,13 +12,13 @@ const PAGES: usize = 1024;
 
 /// Some places.
 #[derive(Drop)]
-struct Page {
-    places: Vec<Mutex<Option<Box<Line>>>>,
+struct Page<L: EngineName> {
+    places: Vec<Mutex<Option<Box<Line<L>>>>>,
 }
 
-impl Page {
+impl<L: EngineName> Page<L> {
     /// Places that nothing stands at.
-    fn new(alloc: Global) -> Result<Page, AllocError> {
+    fn new(alloc: Global) -> Result<Page<L>, AllocError> {
         let mut places = Vec::with_capacity(alloc, PAGE)?;
         for _ in 0..PAGE {
             places.push(Mutex::new(None))?;
@@ -30,13 +31,13 @@ impl Page {
 /// that number stands there while no thread has it. So two never stand at one, and none is looked for.
 /// Pages of places are made as numbers come.
 #[derive(Drop)]
-pub(crate) struct Slots {
-    pages: Vec<OnceLock<Page>>,
+pub(crate) struct Slots<L: EngineName> {
+    pages: Vec<OnceLock<Page<L>>>,
 }
 
-impl Slots {
+impl<L: EngineName> Slots<L> {
     /// No connection stands anywhere. Fails for want of memory.
-    pub(crate) fn new(alloc: Global) -> Result<Slots, AllocError> {
+    pub(crate) fn new(alloc: Global) -> Result<Slots<L>, AllocError> {
         let mut pages = Vec::with_capacity(alloc, PAGES)?;
         for _ in 0..PAGES {
             pages.push(OnceLock::new())?;
@@ -62,7 +63,7 @@ impl Slots {
     }
 
     /// The place of a number, if there is one.
-    fn at(&self, place: usize) -> Option<&Mutex<Option<Box<Line>>>> {
+    fn at(&self, place: usize) -> Option<&Mutex<Option<Box<Line<L>>>>> {
         let page = self.pages.get(place / PAGE)?.get()?;
         page.places.get(place % PAGE)
     }
@@ -72,8 +73,8 @@ impl Slots {
         &self,
         rt: &R,
         place: usize,
-        line: Box<Line>,
-    ) -> Option<Box<Line>> {
+        line: Box<Line<L>>,
+    ) -> Option<Box<Line<L>>> {
         let Some(slot) = self.at(place) else {
             return Some(line);
         };
@@ -83,7 +84,7 @@ impl Slots {
     }
 
     /// The connection that stands at a place, if one does; none does there then.
-    pub(crate) fn take<R: Wait>(&self, rt: &R, place: usize) -> Option<Box<Line>> {
+    pub(crate) fn take<R: Wait>(&self, rt: &R, place: usize) -> Option<Box<Line<L>>> {
         self.at(place)?.lock(rt).take()
     }
 

@@ -162,12 +162,12 @@ pub(crate) fn keeping_of<L: EngineName, R: Wait + Net>(
 }
 
 /// What the workers wait with.
-pub(crate) fn lines_of<R: Net>(
+pub(crate) fn lines_of<L: EngineName, R: Net>(
     rt: &R,
     alloc: Global,
     listener: &TcpListener,
     workers: u64,
-) -> Result<Lines, Front>
+) -> Result<Lines<L>, Front>
     ensures fault { IfErr result IsOfServer }
 {
     match Lines::new(rt, alloc, listener, workers) {

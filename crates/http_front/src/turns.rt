@@ -1,30 +1,30 @@
 //! The turns of a connection: what a thread does once it has it.
-use crate::by_engine::{ByEngine, MOST_REFUSALS};
+ghost use Rattle.std.specs.Prelude.{◌≡◌, ℕ, List, Option, IfErr};
+ghost use Rattle.std.specs.Io.KnownBytes.{append_known};
+ghost use Rattle.http_reply.specs.declared.front.Front.TheVariants as front;
+ghost use Rattle.http_loop.specs.Stepped.{ReadsOn, Steps};
+ghost use Rattle.http_loop.specs.Turned.{progress};
+ghost use Rattle.http_front.specs.Handing as handing;
+ghost use Rattle.http_front.specs.declared.life.Stage.TheVariants as stage;
+ghost use Rattle.http_front.specs.Handing.{Hands};
+ghost use Rattle.http_front.specs.Lines.{EndsWait, Goes, IsAway, sight, stage_of};
+
 use crate::by_worker::{ByWorker, Serving};
-use crate::handing::Waking;
-use crate::line::{Line, Stage, Trimming};
-use crate::shared::Shared;
-use engine_lock::{Client, EngineName};
+use crate::awaiting::Trimming;
+use crate::life::{Life, Stage};
+use crate::lines::Lines;
+use crate::trimming::{Trimmed, lost, trim_some};
+use engine_lock::EngineName;
 use http_input::Input;
 use http_loop::{Step, Turn, Waiting, end_wait, take_step};
-use http_peer::{Clock, Coming, Gate, Going, Socket};
+use http_peer::{Clock, Coming, Gate, Going, Unsent};
 use http_reply::{Counted, Front, ReplyBuffer};
-use json_gateway::{Outcome, Settled, Trim};
-use recorded_engine::Recorded;
 use std::alloc::Global;
+use std::io::{Read, Write};
+use std::mem;
 use std::sync::Wait;
-use std::sync::atomic::Ordering;
+use std::sync::atomic::{AtomicBool, Ordering};
 use std::time;
-
-/// How many turns a connection has before others that are ready.
-const MOST_TURNS: u64 = 16;
-
-/// How many it has where there are no more connections than threads, before its thread looks whether
-/// anything else is ready.
-const MOST_STAYED: u64 = 64;
-
-/// How many trimming steps a turn makes.
-const MOST_STEPS: u64 = 100;
 
 /// What a connection wants behind its turns.
 #[derive(Clone, Copy, PartialEq, Eq)]
@@ -41,63 +41,30 @@ pub(crate) enum After {
     Over,
 }
 
-/// By what a thread gives a connection its turns.
+/// How many turns a connection has before others that are ready.
+const MOST_TURNS: u64 = 16;
+
+/// How many it has where there are no more connections than threads, before its thread looks whether
+/// anything else is ready.
+const MOST_STAYED: u64 = 64;
+
+/// What a reading of a connection came to.
 #[derive(Drop)]
-pub(crate) struct Turning<'t, L: EngineName, G, C, R> {
-    rt: &'t R,
-    alloc: Global,
-    shared: &'t Shared<'t, L, G, C>,
-    gate: Waking<'t, G>,
-    serving: &'t mut Serving<L>,
-    buffer: &'t mut ReplyBuffer,
-    /// What has come of the connection and was not answered.
-    input: &'t mut Input,
-    /// Whether nothing more is there to be read, as far as it is known.
-    dry: bool,
-    /// Whether a request was answered since a next one was waited for.
-    answered: bool,
+pub(crate) struct Reading {
+    /// How far the connection is.
+    pub(crate) stage: Stage,
+    /// Whether no request was there whole, and no more of it is there.
+    pub(crate) is_dry: bool,
 }
 
-/// Gives a connection its turns, at most 16, and says what it wants then. No request is read while
-/// anything has not gone out. Its client reads nothing older than was read for it before.
-///
-/// What is meant as its contract: with the state of a connection `(known, input, unsent)`, over
-/// `Between (naming serving.old line.call, with known) serving.new`, what was added to what has gone out
-/// and is unsent is `SoFar` of as many turns as were made; `After::Away n` says that the watch `n` was
-/// created and stands; `After::Over` that nothing more is written.
-pub(crate) fn serve_line<L, G, C, R>(
-    rt: &R,
-    alloc: Global,
-    shared: &Shared<'_, L, G, C>,
-    serving: &mut Serving<L>,
-    buffer: &mut ReplyBuffer,
-    line: &mut Line,
-    input: &mut Input,
-    is_wet: bool,
-) -> After
-where
-    L: EngineName,
-    G: Gate,
-    C: Clock,
-    R: Wait + time::Clock,
-{
-    serving.client.know(&line.known);
-    serving.client.set_about(line.call);
-    let mut turning = Turning {
-        rt,
-        alloc,
-        shared,
-        gate: Waking::new(shared.gate, &shared.handing, false),
-        serving,
-        buffer,
-        input,
-        dry: !is_wet,
-        answered: false,
-    };
-    let after = turning.turns(line);
-    line.known = turning.serving.client.known();
-    line.freshen();
-    after
+/// By what a connection is given its turns.
+#[derive(Drop)]
+pub(crate) struct Turning<'t, L: EngineName, G, C, R> {
+    pub(crate) alloc: Global,
+    pub(crate) by: ByWorker<'t, L, G, C, R>,
+    pub(crate) lines: &'t Lines<L>,
+    /// Whether the server ends.
+    pub(crate) ended: &'t AtomicBool,
 }
 
 impl<'t, L, G, C, R> Turning<'t, L, G, C, R>
@@ -107,200 +74,192 @@ where
     C: Clock,
     R: Wait + time::Clock,
 {
-    /// At most 16 turns, or 64 where there are no more connections than threads.
-    fn turns(&mut self, line: &mut Line) -> After {
+    /// At most 16 turns of a connection, or 64 where there are no more connections than threads: what it
+    /// wants then. No request is read while anything has not gone out.
+    pub(crate) fn turns<In: Read, Out: Write>(
+        &self,
+        serving: &mut Serving<L>,
+        buffer: &mut ReplyBuffer,
+        input: &mut Input,
+        life: &mut Life<L>,
+        r: &mut Coming<'_, In>,
+        w: &mut Out,
+    ) -> After
+        ensures goes { Goes self.now.by.by.events.engine.now.ids L.recorded (C.Tells self.now.by.by.clock.now) self.now.by.by.call
+            (sight life.old.stage serving.old.client.reader.known (In.remaining r.old.inner) input.old
+            (append_known (Out.contents w.old) life.old.unsent))
+            (sight life.new.stage serving.new.client.reader.known (In.remaining r.new.inner) input.new
+            (append_known (Out.contents w.new) life.new.unsent)) }
+        ensures away { IsAway result life.new.stage }
+        ensures rest { (life.new.call ≡ life.old.call) × (life.new.known ≡ life.old.known) }
+    {
+        let mut stays = false;
         for count in 0..MOST_STAYED {
-            if count >= MOST_TURNS && !self.shared.lines.are_few() {
+            if count >= MOST_TURNS && !self.lines.are_few() {
                 break;
             }
-            match line.send() {
+            match life.unsent.send(w) {
                 Ok(true) => {}
                 Ok(false) => return After::Writes,
                 Err(_) => return After::Over,
             }
-            if let Some(after) = self.turn(line) {
-                return after;
+            match mem::replace(&mut life.stage, Stage::Closing) {
+                Stage::Reading if self.is_over(input) => {
+                    life.stage = Stage::Reading;
+                    return After::Over;
+                }
+                Stage::Reading => {
+                    let reading = self.read(serving, buffer, input, &mut life.unsent, r, w);
+                    life.stage = reading.stage;
+                    if reading.is_dry {
+                        if !(stays && input.is_empty() && self.lines.are_few()) {
+                            return After::Reads;
+                        }
+                        *r.dry = false;
+                    }
+                    stays = !reading.is_dry;
+                }
+                Stage::Trimming(trimming) => {
+                    life.stage = self.trim(trimming, serving, buffer, &mut life.unsent, w);
+                }
+                Stage::Streaming(number) => {
+                    life.stage = Stage::Streaming(number);
+                    return After::Away(number);
+                }
+                Stage::Closing => return After::Over,
             }
         }
         After::Again
     }
 
-    /// One turn, where all has gone out; what the connection wants, where no further one is to follow.
-    fn turn(&mut self, line: &mut Line) -> Option<After> {
-        match &line.stage {
-            Stage::Reading => self.read_turn(line),
-            Stage::Trimming(_) => {
-                self.trim_turn(line);
-                None
-            }
-            Stage::Streaming(number) => Some(After::Away(*number)),
-            Stage::Closing => Some(After::Over),
-        }
+    /// Whether a connection ends here, since the server does and no byte of a next request has come.
+    fn is_over(&self, input: &Input) -> bool {
+        input.is_empty() && self.ended.load(Ordering::SeqCst)
     }
 
     /// A request is read, as far as it is there, and answered.
-    fn read_turn(&mut self, line: &mut Line) -> Option<After> {
-        if self.input.is_empty() && self.shared.ended.load(Ordering::SeqCst) {
-            return Some(After::Over);
-        }
-        match self.step(line) {
-            Ok(Step::Turned(turn)) => {
-                self.answered = true;
-                line.stage = self.stage_after(turn);
-            }
-            Ok(Step::Waits(waiting)) => {
-                line.stage = Stage::Trimming(Trimming {
-                    waiting,
-                    revision: self.serving.revision,
-                    refusals: 0,
-                });
-            }
-            Err(Front::Read) if self.dry => return self.dried(),
-            Err(_) => line.stage = Stage::Closing,
-        }
-        None
-    }
-
-    /// Nothing more is there to be read. Where there are no more connections than threads, a thread that
-    /// has answered stays for some milliseconds, which costs less than to ask for the socket.
-    fn dried(&mut self) -> Option<After> {
-        let stays = self.answered && self.input.is_empty() && self.shared.lines.are_few();
-        if !stays {
-            return Some(After::Reads);
-        }
-        self.answered = false;
-        self.dry = false;
-        None
-    }
-
-    /// The step of `http_loop`, at the connection's socket.
-    fn step(&mut self, line: &mut Line) -> Result<Step, Front> {
-        let by = ByWorker {
-            by: ByEngine {
-                events: Recorded {
-                    rt: self.rt,
-                    engine: self.shared.engine,
-                    gate: &self.gate,
-                },
-                clock: self.shared.clock,
-                call: line.call,
+    fn read<In: Read, Out: Write>(
+        &self,
+        serving: &mut Serving<L>,
+        buffer: &mut ReplyBuffer,
+        input: &mut Input,
+        unsent: &mut Unsent,
+        r: &mut Coming<'_, In>,
+        w: &mut Out,
+    ) -> Reading
+        ensures goes { Goes self.now.by.by.events.engine.now.ids L.recorded (C.Tells self.now.by.by.clock.now) self.now.by.by.call
+            (sight stage.Reading serving.old.client.reader.known (In.remaining r.old.inner) input.old
+            (append_known (Out.contents w.old) unsent.old))
+            (sight result.stage serving.new.client.reader.known (In.remaining r.new.inner) input.new
+            (append_known (Out.contents w.new) unsent.new)) }
+    {
+        serving.begin(self.by.by.call);
+        match self.step(serving, buffer, input, unsent, r, w) {
+            Ok(Step::Turned(turn)) => Reading::answered(stage_after(turn, serving.handed)),
+            Ok(Step::Waits(waiting)) => Reading::answered(Stage::Trimming(Trimming {
+                waiting,
+                revision: serving.revision,
+                refusals: 0,
+            })),
+            Err(Front::Read) if *r.dry => Reading {
+                stage: Stage::Reading,
+                is_dry: true,
             },
-        };
-        let stream = &line.stream;
-        let mut r = Counted::new(Coming {
-            inner: Socket::new(stream),
-            dry: &mut self.dry,
-        });
-        let mut w = Counted::new(Going {
-            inner: Socket::new(stream),
-            unsent: &mut line.unsent,
-        });
-        take_step(
-            self.alloc,
-            &by,
-            &mut *self.serving,
-            &mut *self.input,
-            &mut *self.buffer,
-            &mut r,
-            &mut w,
-        )
-    }
-
-    /// How far a connection is behind a request that was answered.
-    fn stage_after(&mut self, turn: Turn) -> Stage {
-        match (turn, self.serving.handed.take()) {
-            (_, Some(number)) => Stage::Streaming(number),
-            (Turn::More, None) => Stage::Reading,
-            (Turn::Last | Turn::End, None) => Stage::Closing,
+            Err(_) => Reading::answered(Stage::Closing),
         }
     }
 
-    /// Some trimming steps; the reply is written once trimming is done, or given up.
-    fn trim_turn(&mut self, line: &mut Line) {
-        let Stage::Trimming(trimming) = &mut line.stage else {
-            return;
-        };
-        let events = Recorded {
-            rt: self.rt,
-            engine: self.shared.engine,
-            gate: &self.gate,
-        };
-        let refusals = &mut trimming.refusals;
-        let Some(done) = trim_some(&events, &mut self.serving.client, refusals) else {
-            return;
-        };
-        if !done {
-            lose(&mut trimming.waiting, trimming.revision);
+    /// The step of `http_loop`, whose reply goes out behind what has not yet.
+    fn step<In: Read, Out: Write>(
+        &self,
+        serving: &mut Serving<L>,
+        buffer: &mut ReplyBuffer,
+        input: &mut Input,
+        unsent: &mut Unsent,
+        r: &mut Coming<'_, In>,
+        w: &mut Out,
+    ) -> Result<Step, Front>
+        ensures steps { Steps Hands (handing.Answers self.now.by.by.events.engine.now.ids L.recorded (C.Tells self.now.by.by.clock.now))
+            handing.Tells (handing.Finishes self.now.by.by.events.engine.now.ids)
+            (progress serving.old (In.remaining r.old.inner) input.old (append_known (Out.contents w.old) unsent.old))
+            (progress serving.new (In.remaining r.new.inner) input.new (append_known (Out.contents w.new) unsent.new)) result }
+        ensures dry { IfErr result (λ f. f ≡ front.Read → ReadsOn Hands
+            (progress serving.old (In.remaining r.old.inner) input.old (append_known (Out.contents w.old) unsent.old))
+            (progress serving.new (In.remaining r.new.inner) input.new (append_known (Out.contents w.new) unsent.new))) }
+    {
+        let mut r = Counted::new(r);
+        let mut w = Counted::new(Going { inner: w, unsent });
+        take_step(self.alloc, &self.by, serving, input, buffer, &mut r, &mut w)
+    }
+
+    /// Some trimming steps of an answer that waits for them; the reply is written once trimming is done,
+    /// or given up.
+    fn trim<Out: Write>(
+        &self,
+        trimming: Trimming,
+        serving: &mut Serving<L>,
+        buffer: &mut ReplyBuffer,
+        unsent: &mut Unsent,
+        w: &mut Out,
+    ) -> Stage
+        ensures goes { (left : Option (List ℕ)) → (pending : List ℕ)
+            → Goes self.now.by.by.events.engine.now.ids L.recorded (C.Tells self.now.by.by.clock.now) self.now.by.by.call
+            (sight (stage.Trimming trimming) serving.old.client.reader.known left pending (append_known (Out.contents w.old) unsent.old))
+            (sight result serving.new.client.reader.known left pending (append_known (Out.contents w.new) unsent.new)) }
+    {
+        serving.begin(self.by.by.call);
+        match trim_some(&self.by.by.events, &mut serving.client, trimming.refusals) {
+            Trimmed::Done => self.end_wait(trimming.waiting, serving, buffer, unsent, w),
+            Trimmed::Lost => self.end_wait(lost(trimming), serving, buffer, unsent, w),
+            Trimmed::Left(refusals) => Stage::Trimming(Trimming {
+                waiting: trimming.waiting,
+                revision: trimming.revision,
+                refusals,
+            }),
         }
-        line.stage = match self.end_trimming(line) {
-            Ok(turn) => self.stage_after(turn),
+    }
+
+    /// Writes the reply of a request that was done before: how far the connection is then.
+    fn end_wait<Out: Write>(
+        &self,
+        waiting: Waiting,
+        serving: &mut Serving<L>,
+        buffer: &mut ReplyBuffer,
+        unsent: &mut Unsent,
+        w: &mut Out,
+    ) -> Stage
+        ensures { EndsWait self.now.by.by.events.engine.now.ids waiting serving.old
+            (append_known (Out.contents w.old) unsent.old) serving.new (append_known (Out.contents w.new) unsent.new) result }
+    {
+        let mut w = Counted::new(Going { inner: w, unsent });
+        match end_wait(self.alloc, &self.by, serving, &waiting, buffer, &mut w) {
+            Ok(turn) => stage_after(turn, serving.handed),
             Err(_) => Stage::Closing,
-        };
-    }
-
-    /// Writes the reply of a request whose answer waited for trimming.
-    fn end_trimming(&mut self, line: &mut Line) -> Result<Turn, Front> {
-        let Stage::Trimming(trimming) = &line.stage else {
-            return Ok(Turn::End);
-        };
-        let by = ByWorker {
-            by: ByEngine {
-                events: Recorded {
-                    rt: self.rt,
-                    engine: self.shared.engine,
-                    gate: &self.gate,
-                },
-                clock: self.shared.clock,
-                call: line.call,
-            },
-        };
-        let mut w = Counted::new(Going {
-            inner: Socket::new(&line.stream),
-            unsent: &mut line.unsent,
-        });
-        end_wait(
-            self.alloc,
-            &by,
-            &mut *self.serving,
-            &trimming.waiting,
-            &mut *self.buffer,
-            &mut w,
-        )
-    }
-}
-
-/// Makes at most 100 trimming steps: true where one says that trimming is done, false where it is given
-/// up after 1,000 refusals for memory in a row, of which there were so many before. `None` where more
-/// steps are to follow. Each step that is not refused is an event of the client.
-///
-/// What is meant as its contract: `AreTrimmed` read forwards, at most 100 steps of it.
-fn trim_some<L: EngineName, G: Gate, R: Wait>(
-    events: &Recorded<'_, L, G, R>,
-    client: &mut Client<L>,
-    refusals: &mut u64,
-) -> Option<bool> {
-    for _ in 0..MOST_STEPS {
-        match events.trim(client) {
-            Ok(Trim::Done(_)) => return Some(true),
-            Ok(_) => *refusals = 0,
-            Err(_) => {
-                *refusals = refusals.saturating_add(1);
-                if *refusals >= MOST_REFUSALS {
-                    return Some(false);
-                }
-            }
         }
     }
-    None
 }
 
-/// The answer of a command that changed the store is lost, as by `lost_answer`.
-fn lose(waiting: &mut Waiting, revision: u64) {
-    let outcome = &mut waiting.outcome;
-    *outcome = Outcome {
-        settled: Settled::Lost(revision),
-        raised: outcome.raised,
-        watch: outcome.watch,
-        waits: false,
-    };
+impl Reading {
+    /// A request was answered, or none is to come.
+    fn answered(stage: Stage) -> Reading
+        ensures { result.stage ≡ stage }
+    {
+        Reading {
+            stage,
+            is_dry: false,
+        }
+    }
+}
+
+/// How far a connection is behind a request that was answered, whose watch's stream goes on elsewhere
+/// where there is one.
+fn stage_after(turn: Turn, handed: Option<u64>) -> Stage
+    ensures { result ≡ stage_of turn handed }
+{
+    match (turn, handed) {
+        (Turn::More, _) => Stage::Reading,
+        (Turn::Last, Some(number)) => Stage::Streaming(number),
+        (Turn::Last, None) => Stage::Closing,
+        (Turn::End, _) => Stage::Closing,
+    }
 }

@@ -2,15 +2,19 @@
 
 use crate::by_worker::Serving;
 use crate::duties::Worked;
-use crate::handing::Handed;
-use crate::line::{Line, Stage};
+use crate::handing::{Handed, Waking};
+use crate::by_engine::ByEngine;
+use crate::by_worker::ByWorker;
+use crate::life::Stage;
+use crate::line::Line;
 use crate::lines::Next;
 use crate::shared::Shared;
-use crate::turns::{After, serve_line};
+use crate::turns::{After, Turning};
 use engine_lock::{Client, EngineName};
 use http_input::Input;
-use http_peer::{Clock, Gate, Wish, open_peer};
+use http_peer::{Clock, Coming, Gate, Socket, Wish, open_peer};
 use http_reply::ReplyBuffer;
+use recorded_engine::Recorded;
 use std::alloc::Global;
 use std::io::ErrorKind;
 use std::net::TcpStream;
@@ -184,7 +188,7 @@ where
     /// Gives a connection its turns, and further ones as long as there are no more connections than
     /// threads and nothing else is ready. So a thread keeps one connection where there are few, which
     /// costs less than to find it anew. Gives what is ready else, too.
-    fn stay(&mut self, line: &mut Line, is_wet: bool) -> (After, Next) {
+    fn stay(&mut self, line: &mut Line<L>, is_wet: bool) -> (After, Next) {
         let lines = &self.shared.lines;
         let mut is_wet = is_wet;
         for _ in self.rt.forever() {
@@ -201,25 +205,55 @@ where
     }
 
     /// Gives a connection its turns. Where no memory is found for a buffer or an input it is over.
-    fn served(&mut self, line: &mut Line, is_wet: bool) -> After {
+    fn served(&mut self, line: &mut Line<L>, is_wet: bool) -> After {
         let (Some(buffer), Some(input)) = (self.next_buffer(), self.input_of(line)) else {
             return After::Over;
         };
         let (mut buffer, mut input) = (buffer, input);
-        let after = serve_line(
-            self.rt,
-            self.alloc,
-            self.shared,
-            &mut self.serving,
-            &mut buffer,
-            line,
-            &mut input,
-            is_wet,
-        );
+        let after = self.turns(&mut buffer, &mut input, line, is_wet);
         if buffer.room() <= MOST_KEPT {
             self.buffer = Some(buffer);
         }
         self.keep_input(line, input);
+        after
+    }
+
+    /// Gives a connection its turns. Its client reads nothing older than was read for it before.
+    fn turns(
+        &mut self,
+        buffer: &mut ReplyBuffer,
+        input: &mut Input,
+        line: &mut Line<L>,
+        is_wet: bool,
+    ) -> After {
+        let shared = self.shared;
+        let gate = Waking::new(shared.gate, &shared.handing, false);
+        let turning = Turning {
+            alloc: self.alloc,
+            by: ByWorker {
+                by: ByEngine {
+                    events: Recorded {
+                        rt: self.rt,
+                        engine: shared.engine,
+                        gate: &gate,
+                    },
+                    clock: shared.clock,
+                    call: line.life.call,
+                },
+            },
+            lines: &shared.lines,
+            ended: &shared.ended,
+        };
+        let mut dry = !is_wet;
+        let mut r = Coming {
+            inner: Socket::new(&line.stream),
+            dry: &mut dry,
+        };
+        let mut w = Socket::new(&line.stream);
+        self.serving.client.know(&line.life.known);
+        let after = turning.turns(&mut self.serving, buffer, input, &mut line.life, &mut r, &mut w);
+        line.life.known = self.serving.client.known();
+        line.freshen();
         after
     }
 
@@ -233,7 +267,7 @@ where
 
     /// What has come of a connection and was not answered; an input of which nothing is left, where
     /// nothing has. `None` where no memory is found for that.
-    fn input_of(&mut self, line: &mut Line) -> Option<Box<Input>> {
+    fn input_of(&mut self, line: &mut Line<L>) -> Option<Box<Input>> {
         if let Some(input) = line.input.take() {
             return Some(input);
         }
@@ -245,7 +279,7 @@ where
 
     /// What has come of a connection and was not answered stays with it; where nothing is left of it the
     /// thread has the input for the next.
-    fn keep_input(&mut self, line: &mut Line, input: Box<Input>) {
+    fn keep_input(&mut self, line: &mut Line<L>, input: Box<Input>) {
         if !input.is_empty() {
             line.input = Some(input);
         } else if input.room() <= MOST_ROOM {
@@ -255,10 +289,10 @@ where
 
     /// A connection is over: its socket is closed, and the watch of a stream is ended that did not get
     /// away.
-    fn end(&mut self, line: Box<Line>) {
+    fn end(&mut self, line: Box<Line<L>>) {
         let line = Box::into_inner(line);
-        let call = line.call;
-        let watch = match &line.stage {
+        let call = line.life.call;
+        let watch = match &line.life.stage {
             Stage::Streaming(number) => Some(*number),
             _ => None,
         };
@@ -271,10 +305,11 @@ where
 
     /// Hands the stream of a watch over that has begun on a connection. Where no memory is found for
     /// that, the watch is ended, and the connection.
-    fn hand_on(&mut self, line: Box<Line>, number: u64) {
+    fn hand_on(&mut self, line: Box<Line<L>>, number: u64) {
         let line = Box::into_inner(line);
         self.shared.lines.remove(&line);
-        let Line { call, stream, .. } = line;
+        let Line { life, stream, .. } = line;
+        let call = life.call;
         let handed = Handed {
             call,
             number,

@@ -1,5 +1,5 @@
 -- A request that was read and done, and the step that it makes.
-use Rattle.std.proofs.Common.{◌≡◌, ℕ, ◌+◌, List, [], ◌++◌, drop, Bool, true, Option, Some, Result, Ok, Err, sym, ◌∙◌, ap, subst}
+use Rattle.std.proofs.Common.{◌≡◌, ℕ, ◌+◌, List, [], ◌++◌, drop, Bool, true, Option, None, Some, Result, Ok, Err, refl, sym, ◌∙◌, ap, subst}
 use Rattle.std.specs.Io.KnownBytes.{Appends}
 use Rattle.http_head.specs.declared.head.Head.{Head}
 use Rattle.http_head.specs.Requests.{Asked}
@@ -12,12 +12,11 @@ use Rattle.http_loop.specs.declared.answering.Told.{Told}
 use Rattle.http_loop.specs.declared.stepping.Step.{Step}
 use Rattle.http_loop.specs.declared.stepping.Step.TheVariants as step
 use Rattle.http_loop.specs.Answered.{IsAnswered}
-use Rattle.http_loop.specs.Stepped.{AtOnce, Begun, Steps}
+use Rattle.http_loop.specs.Stepped.{AtOnce, Begun, ReadsOn, Steps}
 use Rattle.http_loop.specs.Texts.{Declines, IsSent, end_of}
-use Rattle.http_loop.specs.Turned.{Begins, SoFar, progress}
-use Rattle.http_loop.proofs.Conns.{begins_none}
+use Rattle.http_loop.specs.Turned.{progress}
 use Rattle.http_loop.proofs.Texts.{silent}
-use Rattle.http_loop.proofs.Turns.{asked, gave, reads, whole}
+use Rattle.http_loop.proofs.Turns.{asked, gave, reads}
 
 -- ---- a request was read
 
@@ -62,19 +61,14 @@ of_reading x out (Err front.Unclosed) h e = absurd h
 unsaid : (x : Front) → x ≡ front.Read → refusal_bytes x ≡ []
 unsaid x e = ap refusal_bytes e
 
-module _ (S : Type 0) (Is : S → Asked → List ℕ → S → Result Bool Front → Type 0) (s : S) (left left' : Option (List ℕ)) (p q : List ℕ) (k : Extends p q)
-    (took : Took left left' p q) where
+module _ (S : Type 0) (s : S) (left left' : Option (List ℕ)) (p q : List ℕ) (k : Extends p q) (took : Took left left' p q) where
   -- no byte is lost
   pub dried : (c c' : Option (List ℕ)) (m m' : ℕ) (end x : Front) → Declines x c c' m m' end → end ≡ front.Read
-      → SoFar S Is 0 (progress s left p c) (progress s left' q c')
-  dried c c' m m' end x d e =
-      let is = of_reading x d.out d.sending d.sent (sym d.ends ∙ e) in
-      record {
-        came = k.more;
-        gave = gave left left' p q k took;
-        begun = record {
-          out = [];
-          wrote = subst (Appends c c') (silent (refusal_bytes x) d.out x d.sending (unsaid x is) d.sent).0 d.wrote;
-          are = λ later n. subst (λ (bytes : List ℕ). Begins S Is s bytes 0 (q ++ later) s []) (sym (whole p q k later)) (begins_none S Is s (q ++ later));
-        };
-      }
+      → ReadsOn S (progress s left p c) (progress s left' q c')
+  dried c c' m m' end x d e = record {
+    came = k.more;
+    gave = gave left left' p q k took;
+    pending = k.is;
+    state = refl;
+    quiet = subst (Appends c c') (silent (refusal_bytes x) d.out x d.sending (unsaid x (of_reading x d.out d.sending d.sent (sym d.ends ∙ e))) d.sent).0 d.wrote;
+  }

@@ -32,7 +32,7 @@ pub whole : (p q : List ℕ) (k : Extends p q) (later : List ℕ) → p ++ (k.mo
 whole p q k later = sym (append_assoc p k.more later) ∙ ap (λ l. l ++ later) (sym k.is)
 
 -- a turn that ends the connection
-abbrev IsLastTurn : Result Turn Front → Type 0
+abbrev pub IsLastTurn : Result Turn Front → Type 0
 IsLastTurn (Ok turn.More) = ⊥
 IsLastTurn _ = ⊤
 

@@ -54,6 +54,14 @@ pub record Waits (S : Type 0) (Answers : S → Asked → Outcome → S → Type 
   pub close : w.close ≡ request.close
   pub quiet : Appends old.wrote new.wrote []
 
+-- A read failed before a request was there whole: nothing was done or written, and what was read stands behind what waited.
+pub record ReadsOn (S : Type 0) (old new : Progress S) : Type 0 where
+  pub came : List ℕ
+  pub gave : Gave old.left came new.left
+  pub pending : new.pending ≡ old.pending ++ came
+  pub state : new.state ≡ old.state
+  pub quiet : Appends old.wrote new.wrote []
+
 -- one step led from the one to the other: it was a turn whose answer waits for nothing, or it waits
 abbrev pub Steps : (S : Type 0) → (S → Asked → Outcome → S → Type 0) → (S → ℕ → Told → S → Type 0)
     → (S → Option ℕ → S → Type 0) → Progress S → Progress S → Result Step Front → Type 0

@@ -5,10 +5,9 @@ ghost use Rattle.http_input.specs.Inputs.{failures_after_read, request_view};
 ghost use Rattle.http_reply.specs.Counts.{failures_of, inner_of};
 ghost use Rattle.http_reply.specs.declared.front.Front.TheVariants as front;
 ghost use Rattle.http_reply.specs.Sends.{failures_after};
-ghost use Rattle.http_loop.specs.Answered.{IsAnswered};
-ghost use Rattle.http_loop.specs.Stepped.{AtOnce, Begun, EndsWith, Finished, Steps};
+ghost use Rattle.http_loop.specs.Stepped.{Begun, EndsWith, Finished, ReadsOn, Steps};
 ghost use Rattle.http_loop.specs.Texts.{IsOfConnection, IsOfWriting};
-ghost use Rattle.http_loop.specs.Turned.{SoFar, progress};
+ghost use Rattle.http_loop.specs.Turned.{progress};
 
 use crate::answering::Answering;
 use crate::serving::{await_next, pass, reply};
@@ -60,8 +59,7 @@ pub fn take_step<S, A: Answering<S>, R: Read, W: Write>(
     ensures steps { Steps S (A.Answers by.now) (A.Tells by.now) (A.Finishes by.now)
         (progress state.old (R.remaining (inner_of r.old)) input.old (W.contents (inner_of w.old)))
         (progress state.new (R.remaining (inner_of r.new)) input.new (W.contents (inner_of w.new))) result }
-    ensures dry { IfErr result (λ f. f ≡ front.Read
-        → SoFar S (IsAnswered S (AtOnce (A.Answers by.now)) (A.Tells by.now) (A.Finishes by.now)) 0
+    ensures dry { IfErr result (λ f. f ≡ front.Read → ReadsOn S
         (progress state.old (R.remaining (inner_of r.old)) input.old (W.contents (inner_of w.old)))
         (progress state.new (R.remaining (inner_of r.new)) input.new (W.contents (inner_of w.new)))) }
     ensures ends { IfErr result IsOfConnection }

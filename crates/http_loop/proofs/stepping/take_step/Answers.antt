@@ -26,7 +26,7 @@ returns-in-Err-clause-steps g c =
 
 pub returns-in-Err-clause-dry : goal.returns-in-Err-clause-dry
 returns-in-Err-clause-dry g c is =
-    dried _ (IsAnswered _ (AtOnce (g.A.Answering.Answers c.args.by.now)) (g.A.Answering.Tells c.args.by.now) (g.A.Answering.Finishes c.args.by.now)) c.args.state.now
+    dried _ c.args.state.now
     _ _ _ _ c.in-Err.ensures.kept c.in-Err.ensures.took _ _ _ _ c.decline.result c.in-Err.front c.decline.ensures is
 
 pub returns-in-Err-clause-reads : goal.returns-in-Err-clause-reads
