@@ -1,8 +1,9 @@
 //! A socket whose reads and writes never wait for long.
-ghost use Rattle.std.specs.Prelude.{◌≡◌, ◌≢◌, ◌<◌, ◌++◌, List, ℕ, length, nat_eq, None, IfOk, IfErr};
+ghost use Rattle.std.specs.Prelude.{◌≡◌, ◌≢◌, ◌<◌, ◌++◌, ◌↔◌, List, ℕ, length, nat_eq, true, None, IfOk, IfErr, IsErrAnd};
 ghost use Rattle.std.specs.Io.{ReadsAtMost, WritesAtMost};
 ghost use Rattle.std.specs.Io.KnownBytes.{ReadConsumes, WriteAppends};
 ghost use Rattle.std.specs.IoError.{error_kind};
+ghost use Rattle.http_peer.specs.Sent.{Settles};
 
 use crate::unsent::Unsent;
 use std::io;
@@ -95,9 +96,9 @@ fn read_once<R: Read>(r: &mut R, buf: &mut [u8]) -> io::Result<usize>
     ensures fault { IfErr result (λ e. error_kind e ≢ ErrorKind.Interrupted) }
 {
     for _ in 0..MOST_SIGNALS {
-        match r.read(buf) {
-            Err(error) if error.kind() == ErrorKind::Interrupted => {}
-            came => return came,
+        let came = r.read(buf);
+        if !was_ended(&came) {
+            return came;
         }
     }
     Err(io::Error::from(ErrorKind::WouldBlock))
@@ -112,23 +113,42 @@ fn write_once<W: Write>(w: &mut W, buf: &[u8]) -> io::Result<usize>
     ensures fault { IfErr result (λ e. error_kind e ≢ ErrorKind.Interrupted) }
 {
     for _ in 0..MOST_SIGNALS {
-        match w.write(buf) {
-            Err(error) if error.kind() == ErrorKind::Interrupted => {}
-            Ok(0) => return Err(io::Error::from(ErrorKind::WriteZero)),
-            gone => return gone,
+        let gone = w.write(buf);
+        if !was_ended(&gone) {
+            return match gone {
+                Ok(0) => Err(io::Error::from(ErrorKind::WriteZero)),
+                gone => gone,
+            };
         }
     }
     Err(io::Error::from(ErrorKind::WouldBlock))
 }
 
-/// The same, where a write that would wait counts as one that takes nothing.
+/// Whether a signal ended a call, so that it is made again.
+fn was_ended(made: &io::Result<usize>) -> bool
+    ensures { (result ≡ true) ↔ IsErrAnd made.now (λ e. error_kind e ≡ ErrorKind.Interrupted) }
+{
+    match made {
+        Ok(_) => false,
+        Err(error) => error.kind() == ErrorKind::Interrupted,
+    }
+}
+
+/// One write, as `write_once` makes it. One that would wait counts as one that takes nothing.
 pub(crate) fn write_now<W: Write>(w: &mut W, buf: &[u8]) -> io::Result<usize>
     ensures bound { WritesAtMost result buf.now }
     ensures bytes { WriteAppends (W.contents w.old) (W.contents w.new) result buf.now }
     ensures fault { IfErr result (λ e. error_kind e ≢ ErrorKind.WouldBlock) }
 {
-    match write_once(w, buf) {
+    unless_waiting(write_once(w, buf))
+}
+
+/// What a write came to, where one that would wait counts as one that takes nothing.
+fn unless_waiting(made: io::Result<usize>) -> io::Result<usize>
+    ensures { Settles (λ e. error_kind e ≡ ErrorKind.WouldBlock) made result }
+{
+    match made {
         Err(error) if error.kind() == ErrorKind::WouldBlock => Ok(0),
-        gone => gone,
+        made => made,
     }
 }
