@@ -17,7 +17,7 @@ abbrev pub KeepsRest : ℕ → ℕ → List ℕ → List ℕ → List ℕ → Ty
 KeepsRest n gone bytes before after = (gone ≤ n) × (n ≤ length bytes) × (after ≡ before ++ drop gone (take n bytes))
     × (n < length bytes → (0 < n) × (n ≡ gone))
 
--- what a write that was made counts as, where one that would wait counts as one that takes nothing
-abbrev pub Settles : {E : Type 0} → (E → Type 0) → Result ℕ E → Result ℕ E → Type 0
-Settles would_wait (Ok n) settled = settled ≡ Ok n
-Settles would_wait (Err e) settled = (would_wait e × (settled ≡ Ok 0)) ⊎ ((would_wait e → ⊥) × (settled ≡ Err e))
+-- what a call that was made counts as, where another result stands in the place of some failures
+abbrev pub Settles : {E : Type 0} → (E → Type 0) → (Result ℕ E → Type 0) → Result ℕ E → Result ℕ E → Type 0
+Settles changes stands_for (Ok n) settled = settled ≡ Ok n
+Settles changes stands_for (Err e) settled = (changes e × stands_for settled) ⊎ ((changes e → ⊥) × (settled ≡ Err e))

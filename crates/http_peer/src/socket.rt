@@ -1,5 +1,5 @@
 //! A socket whose reads and writes never wait for long.
-ghost use Rattle.std.specs.Prelude.{◌≡◌, ◌≢◌, ◌<◌, ◌++◌, ◌↔◌, List, ℕ, length, nat_eq, true, None, IfOk, IfErr, IsErrAnd};
+ghost use Rattle.std.specs.Prelude.{◌≡◌, ◌≢◌, ◌<◌, ◌++◌, ◌↔◌, List, ℕ, length, nat_eq, true, None, Ok, IfOk, IfErr, IsErrAnd};
 ghost use Rattle.std.specs.Io.{ReadsAtMost, WritesAtMost};
 ghost use Rattle.std.specs.Io.KnownBytes.{ReadConsumes, WriteAppends};
 ghost use Rattle.std.specs.IoError.{error_kind};
@@ -95,13 +95,14 @@ fn read_once<R: Read>(r: &mut R, buf: &mut [u8]) -> io::Result<usize>
     ensures bytes { ReadConsumes (R.remaining r.old) (R.remaining r.new) result buf.new }
     ensures fault { IfErr result (λ e. error_kind e ≢ ErrorKind.Interrupted) }
 {
-    for _ in 0..MOST_SIGNALS {
-        let came = r.read(buf);
+    let mut came = r.read(buf);
+    for _ in 1..MOST_SIGNALS {
         if !was_ended(&came) {
-            return came;
+            break;
         }
+        came = r.read(buf);
     }
-    Err(io::Error::from(ErrorKind::WouldBlock))
+    unless_ended(came)
 }
 
 /// One write, which no signal ends: after some 64 in a row it fails with `WouldBlock`. One that takes
@@ -112,16 +113,17 @@ fn write_once<W: Write>(w: &mut W, buf: &[u8]) -> io::Result<usize>
     ensures some { IfOk result (λ count. 0 < count) }
     ensures fault { IfErr result (λ e. error_kind e ≢ ErrorKind.Interrupted) }
 {
-    for _ in 0..MOST_SIGNALS {
-        let gone = w.write(buf);
+    let mut gone = w.write(buf);
+    for _ in 1..MOST_SIGNALS {
         if !was_ended(&gone) {
-            return match gone {
-                Ok(0) => Err(io::Error::from(ErrorKind::WriteZero)),
-                gone => gone,
-            };
+            break;
         }
+        gone = w.write(buf);
     }
-    Err(io::Error::from(ErrorKind::WouldBlock))
+    match unless_ended(gone) {
+        Ok(0) => Err(io::Error::from(ErrorKind::WriteZero)),
+        gone => gone,
+    }
 }
 
 /// Whether a signal ended a call, so that it is made again.
@@ -132,6 +134,17 @@ fn was_ended(made: &io::Result<usize>) -> bool
         Ok(_) => false,
         Err(error) => error.kind() == ErrorKind::Interrupted,
     }
+}
+
+/// What a call came to, where one that a signal ended counts as one that would wait.
+fn unless_ended(made: io::Result<usize>) -> io::Result<usize>
+    ensures { Settles (λ e. error_kind e ≡ ErrorKind.Interrupted)
+        (λ settled. IsErrAnd settled (λ e. error_kind e ≡ ErrorKind.WouldBlock)) made result }
+{
+    if was_ended(&made) {
+        return Err(io::Error::from(ErrorKind::WouldBlock));
+    }
+    made
 }
 
 /// One write, as `write_once` makes it. One that would wait counts as one that takes nothing.
@@ -145,7 +158,7 @@ pub(crate) fn write_now<W: Write>(w: &mut W, buf: &[u8]) -> io::Result<usize>
 
 /// What a write came to, where one that would wait counts as one that takes nothing.
 fn unless_waiting(made: io::Result<usize>) -> io::Result<usize>
-    ensures { Settles (λ e. error_kind e ≡ ErrorKind.WouldBlock) made result }
+    ensures { Settles (λ e. error_kind e ≡ ErrorKind.WouldBlock) (λ settled. settled ≡ Ok 0) made result }
 {
     match made {
         Err(error) if error.kind() == ErrorKind::WouldBlock => Ok(0),
