@@ -1,7 +1,7 @@
 //! A socket whose reads and writes never wait for long.
-ghost use Rattle.std.specs.Prelude.{◌≡◌, ◌≢◌, ◌<◌, ◌++◌, ◌↔◌, List, ℕ, length, nat_eq, true, None, Ok, IfOk, IfErr, IsErrAnd};
+ghost use Rattle.std.specs.Prelude.{◌≡◌, ◌≢◌, ◌<◌, ◌++◌, ◌↔◌, List, ℕ, length, nat_eq, true, None, Ok, IfOk, IfErr, IsErrAnd, IsOk};
 ghost use Rattle.std.specs.Io.{ReadsAtMost, WritesAtMost};
-ghost use Rattle.std.specs.Io.KnownBytes.{ReadConsumes, WriteAppends};
+ghost use Rattle.std.specs.Io.KnownBytes.{Keeps, ReadConsumes, WriteAppends};
 ghost use Rattle.std.specs.IoError.{error_kind};
 ghost use Rattle.http_peer.specs.Sent.{Settles};
 
@@ -84,7 +84,11 @@ impl<'p> Write for Socket<'p> {
         gone
     }
 
-    fn flush(&mut self) -> io::Result<()> {
+    /// Does nothing: what a write took has gone out.
+    fn flush(&mut self) -> io::Result<()>
+        ensures bytes { Keeps None None }
+        ensures ok { IsOk result }
+    {
         Ok(())
     }
 }

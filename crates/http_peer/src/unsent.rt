@@ -106,6 +106,7 @@ impl Unsent {
     /// One write, which no signal ends. Says whether any byte went out.
     fn send_once<W: Write>(&mut self, w: &mut W) -> io::Result<bool>
         ensures out { GoesOut (W.contents w.old) (W.contents w.new) self.old self.new }
+        ensures any { IfOk result (λ any. any ≡ nat_lt (length self.new) (length self.old)) }
         ensures stays { IfOk result (λ any. any ≡ false → self.new ≡ self.old) }
         ensures fault { IfErr result (λ e. error_kind e ≢ ErrorKind.WouldBlock) }
     {
