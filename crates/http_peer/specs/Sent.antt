@@ -1,5 +1,5 @@
 -- What goes out on a connection, and what is kept until it does.
-use Rattle.std.specs.Prelude.{◌≡◌, ℕ, ◌<◌, ◌≤◌, List, [], ◌++◌, length, take, drop, Option, Result, Ok, Err}
+use Rattle.std.specs.Prelude.{◌≡◌, ◌⊎◌, ℕ, ◌<◌, ◌≤◌, List, [], ◌++◌, length, take, drop, Option, Result, Ok, Err}
 use Rattle.std.specs.Io.KnownBytes.{Appends}
 
 -- of the bytes that were to go out the first go out at a writer, in order, and the others are left
@@ -16,3 +16,8 @@ taken (Err e) bytes = []
 abbrev pub KeepsRest : ℕ → ℕ → List ℕ → List ℕ → List ℕ → Type 0
 KeepsRest n gone bytes before after = (gone ≤ n) × (n ≤ length bytes) × (after ≡ before ++ drop gone (take n bytes))
     × (n < length bytes → (0 < n) × (n ≡ gone))
+
+-- what a call that was made counts as, where another result stands in the place of some failures
+abbrev pub Settles : {E : Type 0} → (E → Type 0) → (Result ℕ E → Type 0) → Result ℕ E → Result ℕ E → Type 0
+Settles changes stands_for (Ok n) settled = settled ≡ Ok n
+Settles changes stands_for (Err e) settled = (changes e × stands_for settled) ⊎ ((changes e → ⊥) × (settled ≡ Err e))

@@ -1,5 +1,5 @@
 //! The client at the other end of a connection, whose socket does not wait.
-ghost use Rattle.std.specs.Prelude.{◌≡◌, ◌≢◌, ◌++◌, ◌<◌, ◌≤◌, [], true, false, length, IfOk, IfErr, IsErrAnd, OnErr};
+ghost use Rattle.std.specs.Prelude.{◌≡◌, ◌≢◌, ◌++◌, ◌<◌, ◌≤◌, [], true, false, length, Err, IfOk, IfErr, IsErrAnd, IsOk, OnErr};
 ghost use Rattle.std.specs.Io.{ReadsAtMost, WritesAtMost};
 ghost use Rattle.std.specs.Io.KnownBytes.{Keeps, ReadConsumes, WriteAppends, append_known};
 ghost use Rattle.std.specs.IoError.{error_kind};
@@ -72,35 +72,45 @@ impl<'p, W: Write> Write for Going<'p, W> {
         ensures goes { GoesOut (W.contents self.old.inner) (W.contents self.new.inner)
             (self.old.unsent.now ++ taken result buf.now) self.new.unsent.now }
         ensures behind { self.old.unsent.now ≢ [] → (self.new.inner ≡ self.old.inner)
-            × (self.new.unsent.now ≡ self.old.unsent.now ++ taken result buf.now) }
+            × (self.new.unsent.now ≡ self.old.unsent.now ++ taken result buf.now)
+            × IfErr result (λ e. error_kind e ≡ ErrorKind.OutOfMemory) }
         ensures all { IfOk result (λ n. n < length buf.now → (0 < n) × (self.new.unsent.now ≡ [])) }
         ensures kept { OnErr result (self.new.unsent.now ≡ self.old.unsent.now) }
         ensures fault { IfErr result (λ e. error_kind e ≢ ErrorKind.WouldBlock) }
     {
         if !self.unsent.is_empty() {
-            return keep_rest(self.unsent, buf, 0);
+            return keep_rest(self.unsent, buf, Ok(0));
         }
-        match write_now(&mut self.inner, buf) {
-            Ok(gone) => keep_rest(self.unsent, buf, gone),
-            Err(error) => Err(error),
-        }
+        let made = write_now(&mut self.inner, buf);
+        keep_rest(self.unsent, buf, made)
     }
 
     /// Does nothing: what is kept waits for [`Unsent::send`].
-    fn flush(&mut self) -> io::Result<()> {
+    fn flush(&mut self) -> io::Result<()>
+        ensures bytes { Keeps (append_known (W.contents self.old.inner) self.old.unsent.now)
+            (append_known (W.contents self.new.inner) self.new.unsent.now) }
+        ensures ok { IsOk result }
+        ensures kept { (self.new.inner ≡ self.old.inner)
+            × (self.new.unsent.now ≡ self.old.unsent.now) }
+    {
         Ok(())
     }
 }
 
-/// Keeps what has not gone out of some bytes, of which the first `gone` have. Gives how many of them
-/// went out or are kept: all, or, where no memory is found for the rest, those that went out. Fails
-/// with `OutOfMemory` where that is none.
-fn keep_rest(unsent: &mut Unsent, bytes: &[u8], gone: usize) -> io::Result<usize>
-    requires { gone ≤ length bytes.now }
-    ensures ok { IfOk result (λ n. KeepsRest n gone bytes.now unsent.old unsent.new) }
-    ensures err { OnErr result ((gone ≡ 0) × (unsent.new ≡ unsent.old)) }
-    ensures fault { IfErr result (λ e. error_kind e ≡ ErrorKind.OutOfMemory) }
+/// Keeps what a write of some bytes did not take. Gives how many of them it took or are kept: all, or,
+/// where no memory is found for the rest, those that it took. Fails with `OutOfMemory` where that is
+/// none, and as the write did.
+fn keep_rest(unsent: &mut Unsent, bytes: &[u8], made: io::Result<usize>) -> io::Result<usize>
+    requires { WritesAtMost made bytes.now }
+    ensures ok { IfOk made (λ gone. IfOk result (λ n. KeepsRest n gone bytes.now unsent.old unsent.new)) }
+    ensures err { IfOk made (λ gone. OnErr result ((gone ≡ 0) × (unsent.new ≡ unsent.old))) }
+    ensures memory { IfOk made (λ gone. IfErr result (λ e. error_kind e ≡ ErrorKind.OutOfMemory)) }
+    ensures fault { IfErr made (λ e. (result ≡ Err e) × (unsent.new ≡ unsent.old)) }
 {
+    let gone = match made {
+        Ok(gone) => gone,
+        Err(error) => return Err(error),
+    };
     if gone == bytes.len() {
         return Ok(gone);
     }

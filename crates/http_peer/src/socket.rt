@@ -1,8 +1,9 @@
 //! A socket whose reads and writes never wait for long.
-ghost use Rattle.std.specs.Prelude.{◌≡◌, ◌≢◌, ◌<◌, ◌++◌, List, ℕ, length, nat_eq, None, IfOk, IfErr};
+ghost use Rattle.std.specs.Prelude.{◌≡◌, ◌≢◌, ◌<◌, ◌++◌, ◌↔◌, List, ℕ, length, nat_eq, true, None, Ok, IfOk, IfErr, IsErrAnd, IsOk};
 ghost use Rattle.std.specs.Io.{ReadsAtMost, WritesAtMost};
-ghost use Rattle.std.specs.Io.KnownBytes.{ReadConsumes, WriteAppends};
+ghost use Rattle.std.specs.Io.KnownBytes.{Keeps, ReadConsumes, WriteAppends};
 ghost use Rattle.std.specs.IoError.{error_kind};
+ghost use Rattle.http_peer.specs.Sent.{Settles};
 
 use crate::unsent::Unsent;
 use std::io;
@@ -83,7 +84,11 @@ impl<'p> Write for Socket<'p> {
         gone
     }
 
-    fn flush(&mut self) -> io::Result<()> {
+    /// Does nothing: what a write took has gone out.
+    fn flush(&mut self) -> io::Result<()>
+        ensures bytes { Keeps None None }
+        ensures ok { IsOk result }
+    {
         Ok(())
     }
 }
@@ -94,13 +99,14 @@ fn read_once<R: Read>(r: &mut R, buf: &mut [u8]) -> io::Result<usize>
     ensures bytes { ReadConsumes (R.remaining r.old) (R.remaining r.new) result buf.new }
     ensures fault { IfErr result (λ e. error_kind e ≢ ErrorKind.Interrupted) }
 {
-    for _ in 0..MOST_SIGNALS {
-        match r.read(buf) {
-            Err(error) if error.kind() == ErrorKind::Interrupted => {}
-            came => return came,
+    let mut came = r.read(buf);
+    for _ in 1..MOST_SIGNALS {
+        if !was_ended(&came) {
+            break;
         }
+        came = r.read(buf);
     }
-    Err(io::Error::from(ErrorKind::WouldBlock))
+    unless_ended(came)
 }
 
 /// One write, which no signal ends: after some 64 in a row it fails with `WouldBlock`. One that takes
@@ -111,24 +117,55 @@ fn write_once<W: Write>(w: &mut W, buf: &[u8]) -> io::Result<usize>
     ensures some { IfOk result (λ count. 0 < count) }
     ensures fault { IfErr result (λ e. error_kind e ≢ ErrorKind.Interrupted) }
 {
-    for _ in 0..MOST_SIGNALS {
-        match w.write(buf) {
-            Err(error) if error.kind() == ErrorKind::Interrupted => {}
-            Ok(0) => return Err(io::Error::from(ErrorKind::WriteZero)),
-            gone => return gone,
+    let mut gone = w.write(buf);
+    for _ in 1..MOST_SIGNALS {
+        if !was_ended(&gone) {
+            break;
         }
+        gone = w.write(buf);
     }
-    Err(io::Error::from(ErrorKind::WouldBlock))
+    match unless_ended(gone) {
+        Ok(0) => Err(io::Error::from(ErrorKind::WriteZero)),
+        gone => gone,
+    }
 }
 
-/// The same, where a write that would wait counts as one that takes nothing.
+/// Whether a signal ended a call, so that it is made again.
+fn was_ended(made: &io::Result<usize>) -> bool
+    ensures { (result ≡ true) ↔ IsErrAnd made.now (λ e. error_kind e ≡ ErrorKind.Interrupted) }
+{
+    match made {
+        Ok(_) => false,
+        Err(error) => error.kind() == ErrorKind::Interrupted,
+    }
+}
+
+/// What a call came to, where one that a signal ended counts as one that would wait.
+fn unless_ended(made: io::Result<usize>) -> io::Result<usize>
+    ensures { Settles (λ e. error_kind e ≡ ErrorKind.Interrupted)
+        (λ settled. IsErrAnd settled (λ e. error_kind e ≡ ErrorKind.WouldBlock)) made result }
+{
+    if was_ended(&made) {
+        return Err(io::Error::from(ErrorKind::WouldBlock));
+    }
+    made
+}
+
+/// One write, as `write_once` makes it. One that would wait counts as one that takes nothing.
 pub(crate) fn write_now<W: Write>(w: &mut W, buf: &[u8]) -> io::Result<usize>
     ensures bound { WritesAtMost result buf.now }
     ensures bytes { WriteAppends (W.contents w.old) (W.contents w.new) result buf.now }
     ensures fault { IfErr result (λ e. error_kind e ≢ ErrorKind.WouldBlock) }
 {
-    match write_once(w, buf) {
+    unless_waiting(write_once(w, buf))
+}
+
+/// What a write came to, where one that would wait counts as one that takes nothing.
+fn unless_waiting(made: io::Result<usize>) -> io::Result<usize>
+    ensures { Settles (λ e. error_kind e ≡ ErrorKind.WouldBlock) (λ settled. settled ≡ Ok 0) made result }
+{
+    match made {
         Err(error) if error.kind() == ErrorKind::WouldBlock => Ok(0),
-        gone => gone,
+        made => made,
     }
 }

@@ -1,5 +1,5 @@
 //! What was to go out on a connection and has not yet.
-ghost use Rattle.std.specs.Prelude.{◌≡◌, ◌≢◌, ◌≤◌, ◌++◌, [], drop, length, false, nat_eq, IfOk, IfErr, OnOk, OnErr};
+ghost use Rattle.std.specs.Prelude.{◌≡◌, ◌≢◌, ◌≤◌, ◌++◌, [], drop, length, true, false, nat_eq, nat_lt, Ok, Err, IsOkAnd, IfOk, IfErr, OnOk, OnErr};
 ghost use Rattle.std.specs.IoError.{error_kind};
 ghost use Rattle.http_peer.specs.Sent.{GoesOut};
 
@@ -83,6 +83,7 @@ impl Unsent {
     pub fn send<W: Write>(&mut self, w: &mut W) -> io::Result<bool>
         ensures out { GoesOut (W.contents w.old) (W.contents w.new) self.old self.new }
         ensures told { IfOk result (λ all. all ≡ nat_eq (length self.new) 0) }
+        ensures done { self.old ≡ [] → IsOkAnd result (λ all. all ≡ true) × (w.new ≡ w.old) }
         ensures fault { IfErr result (λ e. error_kind e ≢ ErrorKind.WouldBlock) }
     {
         for _ in 0..MOST_WRITES {
@@ -105,10 +106,21 @@ impl Unsent {
     /// One write, which no signal ends. Says whether any byte went out.
     fn send_once<W: Write>(&mut self, w: &mut W) -> io::Result<bool>
         ensures out { GoesOut (W.contents w.old) (W.contents w.new) self.old self.new }
+        ensures any { IfOk result (λ any. any ≡ nat_lt (length self.new) (length self.old)) }
         ensures stays { IfOk result (λ any. any ≡ false → self.new ≡ self.old) }
         ensures fault { IfErr result (λ e. error_kind e ≢ ErrorKind.WouldBlock) }
     {
-        match write_now(w, &self.bytes[self.gone..]) {
+        let made = write_now(w, &self.bytes[self.gone..]);
+        self.count(made)
+    }
+
+    /// Counts what a write took of what has not gone out. Says whether it was any byte.
+    fn count(&mut self, made: io::Result<usize>) -> io::Result<bool>
+        requires { IfOk made (λ n. n ≤ length self.old) }
+        ensures ok { IfOk made (λ n. (self.new ≡ drop n self.old) × (result ≡ Ok (nat_lt 0 n))) }
+        ensures err { IfErr made (λ e. (self.new ≡ self.old) × (result ≡ Err e)) }
+    {
+        match made {
             Ok(count) => {
                 self.gone += count;
                 Ok(count > 0)

@@ -4,7 +4,7 @@ use Rattle.std.proofs.lemmas.List.{nil_from_length}
 use Rattle.http_peer.proofs.Outs.{grows, rest_kept}
 use Rattle.http_peer.proofs.peer.GoingWrite.write.Goals as goal
 
-pub returns-in-Ok-clause-bytes : goal.returns-in-Ok-clause-bytes
-returns-in-Ok-clause-bytes g c =
+pub returns-clause-bytes : goal.returns-clause-bytes
+returns-clause-bytes g c =
     let none : length c.args.self.now.unsent.now ≡ 0 = grind (arith, nat_tests) in
-    grows _ _ _ _ _ _ (rest_kept _ _ _ _ _ _ _ (nil_from_length _ none) c.in-Ok.ensures.bytes c.keep_rest-in-Ok.ensures.ok c.keep_rest-in-Ok.ensures.err)
+    grows _ _ _ _ _ _ (rest_kept _ _ _ _ _ _ _ (nil_from_length _ none) c.write_now-made.ensures.bytes c.keep_rest-2.ensures.ok c.keep_rest-2.ensures.err c.keep_rest-2.ensures.fault)

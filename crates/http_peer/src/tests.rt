@@ -1,0 +1,137 @@
+//! Peers in memory.
+use crate::peer::{Coming, Going};
+use crate::unsent::Unsent;
+use std::alloc::Global;
+use std::io;
+use std::io::{ErrorKind, Read, Write};
+
+/// Takes so many bytes, and then would wait.
+#[derive(Drop)]
+struct Narrow {
+    got: Vec<u8>,
+    good: usize,
+}
+
+impl Write for Narrow {
+    fn write(&mut self, buf: &[u8]) -> io::Result<usize> {
+        let most = buf.len().min(self.good);
+        if most == 0 {
+            return Err(io::Error::from(ErrorKind::WouldBlock));
+        }
+        self.got.extend_from_slice(&buf[..most])?;
+        self.good -= most;
+        Ok(most)
+    }
+
+    fn flush(&mut self) -> io::Result<()> {
+        Ok(())
+    }
+}
+
+/// Fails so often by a signal, and then finds nothing.
+#[derive(Drop)]
+struct Signals(u64);
+
+impl Read for Signals {
+    fn read(&mut self, _buf: &mut [u8]) -> io::Result<usize> {
+        Err(io::Error::from(ErrorKind::WouldBlock))
+    }
+}
+
+impl Write for Signals {
+    fn write(&mut self, _buf: &[u8]) -> io::Result<usize> {
+        if self.0 > 0 {
+            self.0 -= 1;
+            return Err(io::Error::from(ErrorKind::Interrupted));
+        }
+        Err(io::Error::from(ErrorKind::BrokenPipe))
+    }
+
+    fn flush(&mut self) -> io::Result<()> {
+        Ok(())
+    }
+}
+
+/// Whether two texts come out whole and in order, where a writer takes so many bytes at first and then
+/// so many with each sending.
+fn comes_out(alloc: Global, first: usize, more: usize) -> bool {
+    let mut unsent = Unsent::new(alloc);
+    let mut narrow = Narrow {
+        got: Vec::new(alloc),
+        good: first,
+    };
+    let wrote = {
+        let mut going = Going {
+            inner: &mut narrow,
+            unsent: &mut unsent,
+        };
+        let one = matches!(going.write(b"abcdefgh"), Ok(8));
+        one && matches!(going.write(b"ijkl"), Ok(4))
+    };
+    if !wrote {
+        return false;
+    }
+    for _ in 0..20 {
+        narrow.good = more;
+        match unsent.send(&mut narrow) {
+            Ok(all) => {
+                if all != unsent.is_empty() {
+                    return false;
+                }
+            }
+            Err(_) => return false,
+        }
+    }
+    unsent.is_empty() && narrow.got.as_slice() == b"abcdefghijkl".as_slice()
+}
+
+/// How a write of a letter fails, behind so many signals.
+fn fails_behind(alloc: Global, signals: u64) -> Option<ErrorKind> {
+    let mut unsent = Unsent::new(alloc);
+    let mut going = Going {
+        inner: Signals(signals),
+        unsent: &mut unsent,
+    };
+    match going.write(b"a") {
+        Ok(_) => None,
+        Err(error) => Some(error.kind()),
+    }
+}
+
+/// What a read of so many bytes gives of five, and whether it is dry then; at 9, of a reader that finds nothing.
+fn reads(room: usize) -> (usize, bool) {
+    let mut buf = [0; 9];
+    let mut dry = false;
+    if room == 9 {
+        let mut coming = Coming {
+            inner: Signals(0),
+            dry: &mut dry,
+        };
+        let count = coming.read(&mut buf).unwrap_or(99);
+        return (count, dry);
+    }
+    let mut coming = Coming {
+        inner: b"abcde".as_slice(),
+        dry: &mut dry,
+    };
+    let count = coming.read(&mut buf[..room.min(9)]).unwrap_or(99);
+    (count, dry)
+}
+
+#[test]
+fn peers_in_memory(rt: HostRuntime) {
+    let alloc = rt.alloc();
+    for first in 0..13 {
+        for more in 1..13 {
+            assert!(rt; comes_out(alloc, first, more), "{first} {more}");
+        }
+    }
+    assert_eq!(rt; fails_behind(alloc, 0), Some(ErrorKind::BrokenPipe));
+    assert_eq!(rt; fails_behind(alloc, 63), Some(ErrorKind::BrokenPipe));
+    assert_eq!(rt; fails_behind(alloc, 64), None);
+    assert_eq!(rt; reads(4), (4, false));
+    assert_eq!(rt; reads(5), (5, false));
+    assert_eq!(rt; reads(6), (5, true));
+    assert_eq!(rt; reads(0), (0, false));
+    assert_eq!(rt; reads(9), (99, true));
+}
