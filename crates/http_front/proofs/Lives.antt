@@ -1,21 +1,25 @@
 -- How far a connection has come, by one thing more.
-use Rattle.std.proofs.Common.{◌≡◌, ◌<◌, ℕ, ◌+◌, List, [], ◌++◌, Bool, true, false, Option, None, Some, Result, Ok, Err, refl, sym, ◌∙◌, ap, subst, append_assoc}
+use Rattle.std.proofs.Common.{◌≡◌, ◌⊎◌, inl, inr, ◌<◌, ℕ, ◌+◌, List, [], ◌++◌, Bool, true, false, Option, None, Some, Result, Ok, Err, refl, sym, ◌∙◌, ap, subst, append_assoc}
 use Rattle.std.specs.Io.KnownBytes.{Appends}
 use Rattle.std.proofs.lemmas.List.{append-nil}
 use mathlib.Core.List.{IsPrefix}
 use Rattle.kv_model.specs.declared.ids.Ids.{Ids}
 use Rattle.http_head.specs.Requests.{Asked}
 use Rattle.http_reply.specs.declared.front.Front.{Front}
+use Rattle.http_reply.specs.declared.front.Front.TheVariants as front
+use Rattle.std.specs.Prelude.{IfErr}
 use Rattle.json_gateway.specs.declared.outcome.Outcome.{Outcome}
 use Rattle.event_book.specs.Events.{Entry}
 use Rattle.event_book.proofs.Prefixes.{prefix_trans}
-use Rattle.engine_lock.specs.Locked.{Caller}
+use Rattle.engine_lock.specs.Locked.{Caller, naming}
 use Rattle.engine_lock.specs.declared.engine.Submitted.{Submitted}
+use Rattle.http_loop.specs.declared.stepping.Step.{Step}
+use Rattle.http_loop.specs.declared.stepping.Step.TheVariants as step
 use Rattle.http_loop.specs.declared.stepping.Waiting.{Waiting as Pending}
 use Rattle.http_loop.specs.declared.writing.Turn.{Turn}
 use Rattle.http_loop.specs.declared.writing.Turn.TheVariants as turn
 use Rattle.http_loop.specs.Answered.{Conn, IsAnswered}
-use Rattle.http_loop.specs.Stepped.{EndsWith, Finished, ReadsOn, Waits}
+use Rattle.http_loop.specs.Stepped.{EndsWith, Finished, ReadsOn, Steps, Waits}
 use Rattle.http_loop.specs.Texts.{Grows, turn_of}
 use Rattle.http_loop.specs.Turned.{IsTurn, MayHaveAfter, Progress, Serves, SoFar, TurnsOnce, progress}
 use Rattle.http_loop.proofs.Conns.{end, failed, last, on, reads_on}
@@ -25,7 +29,7 @@ use Rattle.http_front.specs.Engines as engines
 use Rattle.http_front.specs.Handing as handing
 use Rattle.http_front.specs.Handing.{Hands}
 use Rattle.http_front.specs.Lines as lines
-use Rattle.http_front.specs.Lines.{EndsWait, Ended, Hangs, IsFor, Known, Lives, Waiting, learnt, stage_behind, stage_of}
+use Rattle.http_front.specs.Lines.{EndsWait, Ended, Hangs, IsBehind, IsFor, Known, Lives, Waiting, learnt, stage_behind, stage_of}
 use Rattle.http_front.specs.declared.awaiting.Trimming.{Trimming}
 use Rattle.http_front.specs.declared.life.Stage.{Stage}
 use Rattle.http_front.specs.declared.life.Stage.TheVariants as stage
@@ -91,13 +95,12 @@ module _ (ids : Ids) (recorded : Bool) (At : ℕ → Type 0) (call : ℕ) (begun
     }
     by_turn known (Ok turn.Last) within here y = by l.away refl
       where
-        done : Ended ids recorded At call begun c'
-        done = ends_by (Ok turn.Last) (Ok (n + 1))
-            (λ most m. last Known Is begun.left left begun.pending p n begun.wrote c begun.state k f left' q c' l most turn.Last refl m (turns Known Is _ _ (Ok turn.Last) y))
+        served : (most : ℕ) → n < most → Serves Known Is most begun c' l (Ok (n + 1))
+        served most m = last Known Is begun.left left begun.pending p n begun.wrote c begun.state k f left' q c' l most turn.Last refl m (turns Known Is _ _ (Ok turn.Last) y)
 
         by : (a : Option ℕ) → l.away ≡ a → Lives ids recorded At call begun known left' q c' (stage_of turn.Last a)
-        by None e = done
-        by (Some m) e = (done, e)
+        by None e = record { count = n; knows = l; end = Ok (n + 1); serves = served }
+        by (Some m) e = (record { count = n; knows = l; end = Ok (n + 1); serves = served }, e)
     by_turn known (Ok turn.End) within here y = ends_by (Ok turn.End) (Ok n)
         (λ most m. end Known Is begun.left left begun.pending p n begun.wrote c begun.state k f left' q c' l most turn.End refl m (turns Known Is _ _ (Ok turn.End) y))
     by_turn known (Err e) within here y = ends_by (Err e) (Err e)
@@ -162,3 +165,36 @@ module _ (ids : Ids) (recorded : Bool) (At : ℕ → Type 0) (call : ℕ) (begun
       here = y.answers.handed ∙ none;
       within = ([], append-nil _);
     }
+
+  -- ---- a step
+
+  module _ (s t : Hands) (about : s.client.about ≡ call) (none : s.handed ≡ None) (left left' : Option (List ℕ)) (p q : List ℕ) (c c' : Option (List ℕ))
+      (h : Waiting ids recorded At call begun s.client.reader.known left p c) where
+    pub stepped : (y : Result Step Front) → Steps Hands (handing.Answers ids recorded At) handing.Tells (handing.Finishes ids) (progress s left p c) (progress t left' q c') y
+        → IfErr y (λ f. f ≡ front.Read → ReadsOn Hands (progress s left p c) (progress t left' q c'))
+        → (dry : Bool) (x : Stage) → IsBehind y dry t.handed t.revision x → Lives ids recorded At call begun t.client.reader.known left' q c' x
+    stepped (Ok (step.Turned u)) y on dry x e = subst (λ (x : Stage). Lives ids recorded At call begun t.client.reader.known left' q c' x) (sym e)
+        (turned s t about none left left' p q c c' h (Ok u) y)
+    stepped (Ok (step.Waits w)) y on dry stage.Reading e = absurd e
+    stepped (Ok (step.Waits w)) y on dry (stage.Trimming x) e = waits s t about none left left' p q c c' h w y x e.0 e.1 e.2
+    stepped (Ok (step.Waits w)) y on dry (stage.Streaming n) e = absurd e
+    stepped (Ok (step.Waits w)) y on dry stage.Closing e = absurd e
+    stepped (Err f) y on dry x (inl e) = subst (λ (x : Stage). Lives ids recorded At call begun t.client.reader.known left' q c' x) (sym e)
+        (turned s t about none left left' p q c c' h (Err f) y)
+    stepped (Err f) y on dry x (inr e) = subst (λ (x : Stage). Lives ids recorded At call begun t.client.reader.known left' q c' x) (sym e.2)
+        (reads s t about none left left' p q c c' h (on e.0))
+
+  -- the same, by which a connection began with its client, and whose reader and writer were counted
+  pub read : (old s t : Hands) → s ≡ record old { client = naming old.client call; handed = None }
+      → (l l0 l1 l' : Option (List ℕ)) (p q : List ℕ) (c c0 c1 c' : Option (List ℕ)) → l0 ≡ l → c0 ≡ c → l' ≡ l1 → c' ≡ c1
+      → Waiting ids recorded At call begun old.client.reader.known l p c
+      → (y : Result Step Front) → Steps Hands (handing.Answers ids recorded At) handing.Tells (handing.Finishes ids) (progress s l0 p c0) (progress t l1 q c1) y
+      → IfErr y (λ f. f ≡ front.Read → ReadsOn Hands (progress s l0 p c0) (progress t l1 q c1))
+      → (dry : Bool) (x : Stage) → IsBehind y dry t.handed t.revision x → Lives ids recorded At call begun t.client.reader.known l' q c' x
+  read old s t e l l0 l1 l' p q c c0 c1 c' a b d f h y steps on dry x is =
+      subst (λ (z : Option (List ℕ)). Lives ids recorded At call begun t.client.reader.known z q c' x) (sym d)
+      (subst (λ (z : Option (List ℕ)). Lives ids recorded At call begun t.client.reader.known l1 q z x) (sym f)
+      (stepped s t (ap (λ (s : Hands). s.client.about) e) (ap (λ (s : Hands). s.handed) e) l0 l1 p q c0 c1
+      (subst (λ (z : Option (List ℕ)). Waiting ids recorded At call begun s.client.reader.known z p c0) (sym a)
+      (subst (λ (z : Option (List ℕ)). Waiting ids recorded At call begun s.client.reader.known l p z) (sym b)
+      (subst (λ (s : Hands). Waiting ids recorded At call begun s.client.reader.known l p c) (sym e) h))) y steps on dry x is))

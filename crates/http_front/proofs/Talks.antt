@@ -1,6 +1,6 @@
 -- A connection, as what it knows of, by the clients that answer it.
 use Rattle.std.proofs.Common.{◌≡◌, ℕ, List, [], ◌++◌, Bool, true, false, Option, None, Some, Result, Ok, Err, refl, sym, ◌∙◌, ap, subst}
-use Rattle.std.specs.Prelude.{⊤, ⊥}
+use Rattle.std.specs.Prelude.{⊤}
 use mathlib.Core.List.{IsPrefix}
 use Rattle.kv_model.specs.declared.ids.Ids.{Ids}
 use Rattle.http_head.specs.Requests.{Asked}
@@ -8,8 +8,10 @@ use Rattle.http_reply.specs.declared.front.Front.{Front}
 use Rattle.http_reply.specs.Replies.{last_chunk}
 use Rattle.json_gateway.specs.declared.outcome.Outcome.{Outcome}
 use Rattle.json_gateway.specs.declared.outcome.Settled.{Settled}
+use Rattle.json_gateway.specs.Outcomes.{wire_response}
 use Rattle.std.proofs.lemmas.List.{append-nil}
 use Rattle.engine_lock.specs.Locked.{Caller}
+use Rattle.http_loop.specs.declared.answering.Told.{Told}
 use Rattle.http_loop.specs.declared.writing.Turn.{Turn}
 use Rattle.http_loop.specs.declared.writing.Turn.TheVariants as turn
 use Rattle.http_loop.specs.Answered.{AreMessages, IsAnswered, IsStream, IsStreamOf, IsTold, streamed}
@@ -44,7 +46,7 @@ told_client : (w : Option ℕ) (x : Settled) (close : Bool) (s t : Hands) (out :
 told_client None x close s t out r h = ap (λ (s : Hands). s.client) h.0
 told_client (Some n) x close s t out r h = by t out r h
   where
-    by : (t : Hands) (out : List ℕ) (r : Result Bool Front) → IsStream Hands handing.Tells n _ s out t r → t.client ≡ s.client
+    by : (t : Hands) (out : List ℕ) (r : Result Bool Front) → IsStream Hands handing.Tells n (wire_response x).body s out t r → t.client ≡ s.client
     by _ out _ (IsStreamOf.headless sent) = refl
     by _ _ _ (IsStreamOf.uncreated out sent) = refl
     by t _ r (IsStreamOf.whole {out} later) = messages_client n _ s t out r later
@@ -66,7 +68,7 @@ pub stays_here : (w : Option ℕ) (x : Settled) (close : Bool) (s t : Hands) (ou
 stays_here None x close s t out r e h = ap (λ (s : Hands). s.handed) h.0
 stays_here (Some n) x close s t out r e h = by t out r e h
   where
-    by : (t : Hands) (out : List ℕ) (r : Result Bool Front) → r ≡ Ok false → IsStream Hands handing.Tells n _ s out t r → t.handed ≡ s.handed
+    by : (t : Hands) (out : List ℕ) (r : Result Bool Front) → r ≡ Ok false → IsStream Hands handing.Tells n (wire_response x).body s out t r → t.handed ≡ s.handed
     by _ out _ e (IsStreamOf.headless sent) = absurd (cc)
     by _ _ _ e (IsStreamOf.uncreated out sent) = absurd (cc)
     by t _ r e (IsStreamOf.whole {out} later) = absurd (not_open n _ s t out r e later)
@@ -79,7 +81,7 @@ module _ (ids : Ids) (recorded : Bool) (At : ℕ → Type 0) (call : ℕ) where
   abbrev pub ByAny : Known → Asked → List ℕ → Known → Result Bool Front → Type 0
   ByAny = lines.Is ids recorded At call
 
-  abbrev Tells : Known → ℕ → _ → Known → Type 0
+  abbrev Tells : Known → ℕ → Told → Known → Type 0
   Tells = lines.Tells ids recorded At call
 
   messages : (n k : ℕ) (s t : Hands) (out : List ℕ) (r : Result Bool Front) → AreMessages Hands handing.Tells n k s out t r
@@ -96,7 +98,7 @@ module _ (ids : Ids) (recorded : Bool) (At : ℕ → Type 0) (call : ℕ) where
   is_told None x close s t out r h = (ap known_of h.0, h.1)
   is_told (Some n) x close s t out r h = by t out r h
     where
-      by : (t : Hands) (out : List ℕ) (r : Result Bool Front) → IsStream Hands handing.Tells n _ s out t r → IsStream Known Tells n _ (known_of s) out (known_of t) r
+      by : (t : Hands) (out : List ℕ) (r : Result Bool Front) → IsStream Hands handing.Tells n (wire_response x).body s out t r → IsStream Known Tells n (wire_response x).body (known_of s) out (known_of t) r
       by _ out _ (IsStreamOf.headless sent) = IsStreamOf.headless sent
       by _ _ _ (IsStreamOf.uncreated out sent) = IsStreamOf.uncreated out sent
       by t _ r (IsStreamOf.whole {out} later) = IsStreamOf.whole (messages n _ s t out r later)

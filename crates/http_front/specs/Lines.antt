@@ -1,9 +1,10 @@
 -- What a connection is answered over its whole life, by whichever clients of an engine.
-use Rattle.std.specs.Prelude.{◌≡◌, ◌<◌, ℕ, Bool, true, false, List, Option, None, Some, Result, Ok, Err, ⊤}
+use Rattle.std.specs.Prelude.{◌≡◌, ◌⊎◌, ◌<◌, ℕ, Bool, true, false, List, Option, None, Some, Result, Ok, Err, ⊤}
 use mathlib.Core.List.{IsPrefix}
 use Rattle.kv_model.specs.declared.ids.Ids.{Ids}
 use Rattle.http_head.specs.Requests.{Asked}
 use Rattle.http_reply.specs.declared.front.Front.{Front}
+use Rattle.http_reply.specs.declared.front.Front.TheVariants as front
 use Rattle.json_gateway.specs.declared.outcome.Outcome.{Outcome}
 use Rattle.json_gateway.specs.declared.outcome.Settled.TheVariants as settled
 use Rattle.event_book.specs.Events.{Entry}
@@ -13,6 +14,8 @@ use Rattle.http_loop.specs.declared.answering.Told.{Told}
 use Rattle.http_loop.specs.declared.answering.Told.TheVariants as told
 use Rattle.http_loop.specs.Answered.{IsAnswered}
 use Rattle.http_loop.specs.Stepped.{EndsWith, Finished, Waits}
+use Rattle.http_loop.specs.declared.stepping.Step.{Step}
+use Rattle.http_loop.specs.declared.stepping.Step.TheVariants as step
 use Rattle.http_loop.specs.declared.stepping.Waiting.{Waiting as Pending}
 use Rattle.http_loop.specs.declared.writing.Turn.{Turn}
 use Rattle.http_loop.specs.declared.writing.Turn.TheVariants as turn
@@ -175,6 +178,17 @@ stage_of turn.End away = stage.Closing
 abbrev pub stage_behind : Result Turn Front → Option ℕ → Stage
 stage_behind (Ok t) away = stage_of t away
 stage_behind (Err f) away = stage.Closing
+
+-- an answer waits for trimming, of which nothing was done
+abbrev pub IsHeld : Pending → ℕ → Stage → Type 0
+IsHeld w revision (stage.Trimming x) = (x.waiting ≡ w) × (x.revision ≡ revision) × (x.refusals ≡ 0)
+IsHeld w revision _ = ⊥
+
+-- or a step: a request was done whose answer waits; or a read failed since nothing more is there, which ends nothing
+abbrev pub IsBehind : Result Step Front → Bool → Option ℕ → ℕ → Stage → Type 0
+IsBehind (Ok (step.Turned t)) dry away revision x = x ≡ stage_of t away
+IsBehind (Ok (step.Waits w)) dry away revision x = IsHeld w revision x
+IsBehind (Err f) dry away revision x = (x ≡ stage.Closing) ⊎ ((f ≡ front.Read) × (dry ≡ true) × (x ≡ stage.Reading))
 
 -- the reply of a request was written that was done before, and the connection is so far then
 pub record EndsWait (ids : Ids) (w : Pending) (s : Hands) (c : Option (List ℕ)) (t : Hands) (c' : Option (List ℕ)) (x : Stage) : Type 0 where

@@ -21,7 +21,7 @@ pub(crate) enum Stage {
 }
 
 /// A connection between two waits, but for its socket and for what has come and was not answered: how
-/// far it is, what was answered and has not gone out, and what its client knows of. What it says over the
+/// far it is, what was answered and has not gone out, and what its client knows of. What that says of the
 /// connection's whole life is `Lives` of `specs/Lines.antt`, which each turn keeps.
 #[derive(Drop)]
 pub(crate) struct Life<L: EngineName> {

@@ -1,23 +1,18 @@
 //! The turns of a connection: what a thread does once it has it.
-ghost use Rattle.std.specs.Prelude.{◌≡◌, ℕ, List, Option, IfErr};
+ghost use Rattle.std.specs.Prelude.{◌≡◌, ℕ, List, Option};
 ghost use Rattle.std.specs.Io.KnownBytes.{append_known};
-ghost use Rattle.http_reply.specs.declared.front.Front.TheVariants as front;
-ghost use Rattle.http_loop.specs.Stepped.{ReadsOn, Steps};
-ghost use Rattle.http_loop.specs.Turned.{progress};
-ghost use Rattle.http_front.specs.Handing as handing;
 ghost use Rattle.http_front.specs.declared.life.Stage.TheVariants as stage;
-ghost use Rattle.http_front.specs.Handing.{Hands};
-ghost use Rattle.http_front.specs.Lines.{EndsWait, Goes, IsAway, sight, stage_of};
+ghost use Rattle.http_front.specs.Lines.{EndsWait, Goes, IsAway, IsBehind, IsHeld, sight, stage_of};
 
 use crate::by_worker::{ByWorker, Serving};
 use crate::awaiting::Trimming;
-use crate::life::{Life, Stage};
+use crate::life::Stage;
 use crate::lines::Lines;
 use crate::trimming::{Trimmed, lost, trim_some};
 use engine_lock::EngineName;
 use http_input::Input;
 use http_loop::{Step, Turn, Waiting, end_wait, take_step};
-use http_peer::{Clock, Coming, Gate, Going, Unsent};
+use http_peer::{Clock, Coming, Gate, Going};
 use http_reply::{Counted, Front, ReplyBuffer};
 use std::alloc::Global;
 use std::io::{Read, Write};
@@ -48,13 +43,31 @@ const MOST_TURNS: u64 = 16;
 /// anything else is ready.
 const MOST_STAYED: u64 = 64;
 
+/// What a connection's bytes come from, and what its replies go to.
+#[derive(Drop)]
+pub(crate) struct Wire<In, Out> {
+    pub(crate) r: In,
+    pub(crate) w: Out,
+}
+
+/// What some turns of a connection came to.
+#[derive(Drop)]
+pub(crate) struct Turned<In, Out> {
+    /// How far it is.
+    pub(crate) stage: Stage,
+    /// What it wants then.
+    pub(crate) after: After,
+    pub(crate) wire: Wire<In, Out>,
+}
+
 /// What a reading of a connection came to.
 #[derive(Drop)]
-pub(crate) struct Reading {
-    /// How far the connection is.
-    pub(crate) stage: Stage,
-    /// Whether no request was there whole, and no more of it is there.
-    pub(crate) is_dry: bool,
+struct Reading<In, Out> {
+    /// How far it is.
+    stage: Stage,
+    /// Whether no request was there whole.
+    is_dry: bool,
+    wire: Wire<In, Out>,
 }
 
 /// By what a connection is given its turns.
@@ -74,62 +87,63 @@ where
     C: Clock,
     R: Wait + time::Clock,
 {
-    /// At most 16 turns of a connection, or 64 where there are no more connections than threads: what it
-    /// wants then. No request is read while anything has not gone out.
-    pub(crate) fn turns<In: Read, Out: Write>(
+    /// At most 16 turns of a connection, or 64 where there are no more connections than threads, and what
+    /// it wants then. No request is read while anything has not gone out.
+    pub(crate) fn turns<'p, In: Read, Out: Write>(
         &self,
         serving: &mut Serving<L>,
         buffer: &mut ReplyBuffer,
         input: &mut Input,
-        life: &mut Life<L>,
-        r: &mut Coming<'_, In>,
-        w: &mut Out,
-    ) -> After
+        stage: Stage,
+        wire: Wire<Coming<'p, In>, Going<'p, Out>>,
+    ) -> Turned<Coming<'p, In>, Going<'p, Out>>
         ensures goes { Goes self.now.by.by.events.engine.now.ids L.recorded (C.Tells self.now.by.by.clock.now) self.now.by.by.call
-            (sight life.old.stage serving.old.client.reader.known (In.remaining r.old.inner) input.old
-            (append_known (Out.contents w.old) life.old.unsent))
-            (sight life.new.stage serving.new.client.reader.known (In.remaining r.new.inner) input.new
-            (append_known (Out.contents w.new) life.new.unsent)) }
-        ensures away { IsAway result life.new.stage }
-        ensures rest { (life.new.call ≡ life.old.call) × (life.new.known ≡ life.old.known) }
+            (sight stage serving.old.client.reader.known (In.remaining wire.entry.r.inner) input.old
+            (append_known (Out.contents wire.entry.w.inner) wire.entry.w.unsent.now))
+            (sight result.stage serving.new.client.reader.known (In.remaining result.wire.r.inner) input.new
+            (append_known (Out.contents result.wire.w.inner) result.wire.w.unsent.now)) }
+        ensures away { IsAway result.after result.stage }
     {
+        let mut stage = stage;
+        let mut wire = wire;
         let mut stays = false;
         for count in 0..MOST_STAYED {
             if count >= MOST_TURNS && !self.lines.are_few() {
                 break;
             }
-            match life.unsent.send(w) {
+            match wire.w.unsent.send(&mut wire.w.inner) {
                 Ok(true) => {}
-                Ok(false) => return After::Writes,
-                Err(_) => return After::Over,
+                Ok(false) => return wire.turned(stage, After::Writes),
+                Err(_) => return wire.turned(stage, After::Over),
             }
-            match mem::replace(&mut life.stage, Stage::Closing) {
+            match stage {
                 Stage::Reading if self.is_over(input) => {
-                    life.stage = Stage::Reading;
-                    return After::Over;
+                    return wire.turned(Stage::Reading, After::Over);
                 }
                 Stage::Reading => {
-                    let reading = self.read(serving, buffer, input, &mut life.unsent, r, w);
-                    life.stage = reading.stage;
+                    let reading = self.read(serving, buffer, input, wire);
+                    stage = reading.stage;
+                    wire = reading.wire;
                     if reading.is_dry {
                         if !(stays && input.is_empty() && self.lines.are_few()) {
-                            return After::Reads;
+                            return wire.turned(stage, After::Reads);
                         }
-                        *r.dry = false;
+                        *wire.r.dry = false;
                     }
                     stays = !reading.is_dry;
                 }
                 Stage::Trimming(trimming) => {
-                    life.stage = self.trim(trimming, serving, buffer, &mut life.unsent, w);
+                    let (next, left) = self.trim(trimming, serving, buffer, wire);
+                    stage = next;
+                    wire = left;
                 }
                 Stage::Streaming(number) => {
-                    life.stage = Stage::Streaming(number);
-                    return After::Away(number);
+                    return wire.turned(Stage::Streaming(number), After::Away(number));
                 }
-                Stage::Closing => return After::Over,
+                Stage::Closing => return wire.turned(Stage::Closing, After::Over),
             }
         }
-        After::Again
+        wire.turned(stage, After::Again)
     }
 
     /// Whether a connection ends here, since the server does and no byte of a next request has come.
@@ -138,117 +152,123 @@ where
     }
 
     /// A request is read, as far as it is there, and answered.
-    fn read<In: Read, Out: Write>(
+    fn read<'p, In: Read, Out: Write>(
         &self,
         serving: &mut Serving<L>,
         buffer: &mut ReplyBuffer,
         input: &mut Input,
-        unsent: &mut Unsent,
-        r: &mut Coming<'_, In>,
-        w: &mut Out,
-    ) -> Reading
+        wire: Wire<Coming<'p, In>, Out>,
+    ) -> Reading<Coming<'p, In>, Out>
         ensures goes { Goes self.now.by.by.events.engine.now.ids L.recorded (C.Tells self.now.by.by.clock.now) self.now.by.by.call
-            (sight stage.Reading serving.old.client.reader.known (In.remaining r.old.inner) input.old
-            (append_known (Out.contents w.old) unsent.old))
-            (sight result.stage serving.new.client.reader.known (In.remaining r.new.inner) input.new
-            (append_known (Out.contents w.new) unsent.new)) }
+            (sight stage.Reading serving.old.client.reader.known (In.remaining wire.entry.r.inner) input.old (Out.contents wire.entry.w))
+            (sight result.stage serving.new.client.reader.known (In.remaining result.wire.r.inner) input.new (Out.contents result.wire.w)) }
     {
         serving.begin(self.by.by.call);
-        match self.step(serving, buffer, input, unsent, r, w) {
-            Ok(Step::Turned(turn)) => Reading::answered(stage_after(turn, serving.handed)),
-            Ok(Step::Waits(waiting)) => Reading::answered(Stage::Trimming(Trimming {
-                waiting,
-                revision: serving.revision,
-                refusals: 0,
-            })),
-            Err(Front::Read) if *r.dry => Reading {
-                stage: Stage::Reading,
-                is_dry: true,
-            },
-            Err(_) => Reading::answered(Stage::Closing),
+        let mut r = Counted::new(wire.r);
+        let mut w = Counted::new(wire.w);
+        let stepped = take_step(self.alloc, &self.by, serving, input, buffer, &mut r, &mut w);
+        let wire = Wire {
+            r: r.into_inner(),
+            w: w.into_inner(),
+        };
+        let is_dry = *wire.r.dry;
+        Reading {
+            is_dry: is_dry && matches!(stepped, Err(Front::Read)),
+            stage: stage_behind(stepped, is_dry, serving),
+            wire,
         }
-    }
-
-    /// The step of `http_loop`, whose reply goes out behind what has not yet.
-    fn step<In: Read, Out: Write>(
-        &self,
-        serving: &mut Serving<L>,
-        buffer: &mut ReplyBuffer,
-        input: &mut Input,
-        unsent: &mut Unsent,
-        r: &mut Coming<'_, In>,
-        w: &mut Out,
-    ) -> Result<Step, Front>
-        ensures steps { Steps Hands (handing.Answers self.now.by.by.events.engine.now.ids L.recorded (C.Tells self.now.by.by.clock.now))
-            handing.Tells (handing.Finishes self.now.by.by.events.engine.now.ids)
-            (progress serving.old (In.remaining r.old.inner) input.old (append_known (Out.contents w.old) unsent.old))
-            (progress serving.new (In.remaining r.new.inner) input.new (append_known (Out.contents w.new) unsent.new)) result }
-        ensures dry { IfErr result (λ f. f ≡ front.Read → ReadsOn Hands
-            (progress serving.old (In.remaining r.old.inner) input.old (append_known (Out.contents w.old) unsent.old))
-            (progress serving.new (In.remaining r.new.inner) input.new (append_known (Out.contents w.new) unsent.new))) }
-    {
-        let mut r = Counted::new(r);
-        let mut w = Counted::new(Going { inner: w, unsent });
-        take_step(self.alloc, &self.by, serving, input, buffer, &mut r, &mut w)
     }
 
     /// Some trimming steps of an answer that waits for them; the reply is written once trimming is done,
     /// or given up.
-    fn trim<Out: Write>(
+    fn trim<In, Out: Write>(
         &self,
         trimming: Trimming,
         serving: &mut Serving<L>,
         buffer: &mut ReplyBuffer,
-        unsent: &mut Unsent,
-        w: &mut Out,
-    ) -> Stage
+        wire: Wire<In, Out>,
+    ) -> (Stage, Wire<In, Out>)
         ensures goes { (left : Option (List ℕ)) → (pending : List ℕ)
             → Goes self.now.by.by.events.engine.now.ids L.recorded (C.Tells self.now.by.by.clock.now) self.now.by.by.call
-            (sight (stage.Trimming trimming) serving.old.client.reader.known left pending (append_known (Out.contents w.old) unsent.old))
-            (sight result serving.new.client.reader.known left pending (append_known (Out.contents w.new) unsent.new)) }
+            (sight (stage.Trimming trimming) serving.old.client.reader.known left pending (Out.contents wire.entry.w))
+            (sight result.0 serving.new.client.reader.known left pending (Out.contents result.1.w)) }
+        ensures reader { result.1.r ≡ wire.entry.r }
     {
         serving.begin(self.by.by.call);
         match trim_some(&self.by.by.events, &mut serving.client, trimming.refusals) {
-            Trimmed::Done => self.end_wait(trimming.waiting, serving, buffer, unsent, w),
-            Trimmed::Lost => self.end_wait(lost(trimming), serving, buffer, unsent, w),
-            Trimmed::Left(refusals) => Stage::Trimming(Trimming {
-                waiting: trimming.waiting,
-                revision: trimming.revision,
-                refusals,
-            }),
+            Trimmed::Done => self.end_wait(&trimming.waiting, serving, buffer, wire),
+            Trimmed::Lost => self.end_wait(&lost(trimming), serving, buffer, wire),
+            Trimmed::Left(refusals) => {
+                let left = Trimming {
+                    waiting: trimming.waiting,
+                    revision: trimming.revision,
+                    refusals,
+                };
+                (Stage::Trimming(left), wire)
+            }
         }
     }
 
     /// Writes the reply of a request that was done before: how far the connection is then.
-    fn end_wait<Out: Write>(
+    fn end_wait<In, Out: Write>(
         &self,
-        waiting: Waiting,
+        waiting: &Waiting,
         serving: &mut Serving<L>,
         buffer: &mut ReplyBuffer,
-        unsent: &mut Unsent,
-        w: &mut Out,
-    ) -> Stage
-        ensures { EndsWait self.now.by.by.events.engine.now.ids waiting serving.old
-            (append_known (Out.contents w.old) unsent.old) serving.new (append_known (Out.contents w.new) unsent.new) result }
+        wire: Wire<In, Out>,
+    ) -> (Stage, Wire<In, Out>)
+        ensures ends { EndsWait self.now.by.by.events.engine.now.ids waiting.now serving.old
+            (Out.contents wire.entry.w) serving.new (Out.contents result.1.w) result.0 }
+        ensures reader { result.1.r ≡ wire.entry.r }
     {
-        let mut w = Counted::new(Going { inner: w, unsent });
-        match end_wait(self.alloc, &self.by, serving, &waiting, buffer, &mut w) {
+        let Wire { r, w } = wire;
+        let mut w = Counted::new(w);
+        let stage = match end_wait(self.alloc, &self.by, serving, waiting, buffer, &mut w) {
             Ok(turn) => stage_after(turn, serving.handed),
             Err(_) => Stage::Closing,
+        };
+        (stage, Wire { r, w: w.into_inner() })
+    }
+}
+
+impl<In, Out> Wire<In, Out> {
+    /// With what some turns came to.
+    fn turned(self, stage: Stage, after: After) -> Turned<In, Out>
+        ensures { result ≡ record { stage = stage; after = after; wire = self } }
+    {
+        Turned {
+            stage,
+            after,
+            wire: self,
         }
     }
 }
 
-impl Reading {
-    /// A request was answered, or none is to come.
-    fn answered(stage: Stage) -> Reading
-        ensures { result.stage ≡ stage }
-    {
-        Reading {
-            stage,
-            is_dry: false,
-        }
+/// How far a connection is behind a step. A read that failed since nothing more is there ends nothing.
+fn stage_behind<L: EngineName>(
+    stepped: Result<Step, Front>,
+    is_dry: bool,
+    serving: &Serving<L>,
+) -> Stage
+    ensures { IsBehind stepped is_dry serving.now.handed serving.now.revision result }
+{
+    match stepped {
+        Ok(Step::Turned(turn)) => stage_after(turn, serving.handed),
+        Ok(Step::Waits(waiting)) => held(waiting, serving.revision),
+        Err(Front::Read) if is_dry => Stage::Reading,
+        Err(_) => Stage::Closing,
     }
+}
+
+/// How far a connection is whose answer waits for trimming.
+fn held(waiting: Waiting, revision: u64) -> Stage
+    ensures { IsHeld waiting revision result }
+{
+    Stage::Trimming(Trimming {
+        waiting,
+        revision,
+        refusals: 0,
+    })
 }
 
 /// How far a connection is behind a request that was answered, whose watch's stream goes on elsewhere

@@ -9,14 +9,15 @@ use crate::life::Stage;
 use crate::line::Line;
 use crate::lines::Next;
 use crate::shared::Shared;
-use crate::turns::{After, Turning};
+use crate::turns::{After, Turning, Wire};
 use engine_lock::{Client, EngineName};
 use http_input::Input;
-use http_peer::{Clock, Coming, Gate, Socket, Wish, open_peer};
+use http_peer::{Clock, Coming, Gate, Going, Socket, Wish, open_peer};
 use http_reply::ReplyBuffer;
 use recorded_engine::Recorded;
 use std::alloc::Global;
 use std::io::ErrorKind;
+use std::mem;
 use std::net::TcpStream;
 use std::sync::Wait;
 use std::sync::atomic::Ordering;
@@ -245,14 +246,22 @@ where
             ended: &shared.ended,
         };
         let mut dry = !is_wet;
-        let mut r = Coming {
-            inner: Socket::new(&line.stream),
-            dry: &mut dry,
+        let wire = Wire {
+            r: Coming {
+                inner: Socket::new(&line.stream),
+                dry: &mut dry,
+            },
+            w: Going {
+                inner: Socket::new(&line.stream),
+                unsent: &mut line.life.unsent,
+            },
         };
-        let mut w = Socket::new(&line.stream);
+        let stage = mem::replace(&mut line.life.stage, Stage::Closing);
         self.serving.client.know(&line.life.known);
-        let after = turning.turns(&mut self.serving, buffer, input, &mut line.life, &mut r, &mut w);
+        let turned = turning.turns(&mut self.serving, buffer, input, stage, wire);
+        line.life.stage = turned.stage;
         line.life.known = self.serving.client.known();
+        let after = turned.after;
         line.freshen();
         after
     }
