@@ -4,3 +4,4 @@ pub mod Giving
 pub mod Lives
 pub mod Readings
 pub mod Talks
+pub mod Trimmings

@@ -118,7 +118,7 @@ module _ (ids : Ids) (recorded : Bool) (At : ℕ → Type 0) (call : ℕ) where
       by (Some n) e f = ap known_of f
 
   -- a finished reply leaves nothing elsewhere that was not
-  finishes_here : (s t : Hands) (w : Option ℕ) → s.handed ≡ None → handing.Finishes ids s w t → t.handed ≡ None
+  pub finishes_here : (s t : Hands) (w : Option ℕ) → s.handed ≡ None → handing.Finishes ids s w t → t.handed ≡ None
   finishes_here s t w here f = by s.handed f
     where
       by : (h : Option ℕ) → handing.FinishesBy ids h s w t → t.handed ≡ None
@@ -134,6 +134,12 @@ module _ (ids : Ids) (recorded : Bool) (At : ℕ → Type 0) (call : ℕ) where
     told = is_told (streamed o.settled o.watch) o.settled close s e.written out r e.told;
     finishes = finishes e.written t o.watch (ap (λ (c : Caller). c.about) (told_client (streamed o.settled o.watch) o.settled close s e.written out r e.told) ∙ about) e.finishes;
   }
+
+  -- and leaves its connection open only with no stream elsewhere
+  pub ends_open : (o : Outcome) (close : Bool) (s t : Hands) (out : List ℕ) (r : Result Bool Front) → s.handed ≡ None → r ≡ Ok false
+      → EndsWith Hands handing.Tells (handing.Finishes ids) o close s out t r → t.handed ≡ None
+  ends_open o close s t out r none e h = finishes_here h.written t o.watch
+      (stays_here (streamed o.settled o.watch) o.settled close s h.written out r e h.told ∙ none) h.finishes
 
   -- ---- a request
 

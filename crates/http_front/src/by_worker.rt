@@ -1,14 +1,17 @@
 //! An engine answers a connection whose streams go on elsewhere.
-ghost use Rattle.std.specs.Prelude.{◌≡◌, None};
+ghost use Rattle.std.specs.Prelude.{◌≡◌, ◌<◌, None};
 ghost use Rattle.engine_lock.specs.Locked.{naming};
 ghost use Rattle.http_front.specs.Handing as handing;
+ghost use Rattle.http_front.specs.Lines.{TrimsSome};
 
 use crate::by_engine::ByEngine;
+use crate::trimming::{Trimmed, trim_some};
 use engine_lock::{Client, EngineName};
 use http_input::Request;
 use http_loop::{Answering, Told};
 use http_peer::{Clock, Gate};
 use json_gateway::Outcome;
+use recorded_engine::Recorded;
 use std::alloc::Global;
 use std::marker::Model;
 use std::sync::Wait;
@@ -55,6 +58,19 @@ impl<L: EngineName> Serving<L> {
     {
         self.client.set_about(call);
         self.handed = None;
+    }
+
+    /// Makes at most 100 trimming steps, as [`trim_some`] does.
+    pub(crate) fn trim<G: Gate, R: Wait>(
+        &mut self,
+        events: &Recorded<'_, L, G, R>,
+        refusals: u64,
+    ) -> Trimmed
+        requires { refusals < 1000 }
+        ensures trims { TrimsSome events.now.engine.now.ids self.old.client refusals result self.new.client }
+        ensures rest { self.new ≡ record self.old { client = self.new.client } }
+    {
+        trim_some(events, &mut self.client, refusals)
     }
 }
 

@@ -8,7 +8,7 @@ use crate::by_worker::{ByWorker, Serving};
 use crate::awaiting::Trimming;
 use crate::life::Stage;
 use crate::lines::Lines;
-use crate::trimming::{Trimmed, lost, trim_some};
+use crate::trimming::{Trimmed, lost};
 use engine_lock::EngineName;
 use http_input::Input;
 use http_loop::{Step, Turn, Waiting, end_wait, take_step};
@@ -190,12 +190,12 @@ where
     ) -> (Stage, Wire<In, Out>)
         ensures goes { (left : Option (List ℕ)) → (pending : List ℕ)
             → Goes self.now.by.by.events.engine.now.ids L.recorded (C.Tells self.now.by.by.clock.now) self.now.by.by.call
-            (sight (stage.Trimming trimming) serving.old.client.reader.known left pending (Out.contents wire.entry.w))
+            (sight (stage.Trimming trimming) serving.old.client.reader.known left pending (Out.contents wire.w))
             (sight result.0 serving.new.client.reader.known left pending (Out.contents result.1.w)) }
-        ensures reader { result.1.r ≡ wire.entry.r }
+        ensures reader { result.1.r ≡ wire.r }
     {
         serving.begin(self.by.by.call);
-        match trim_some(&self.by.by.events, &mut serving.client, trimming.refusals) {
+        match serving.trim(&self.by.by.events, trimming.refusals) {
             Trimmed::Done => self.end_wait(&trimming.waiting, serving, buffer, wire),
             Trimmed::Lost => self.end_wait(&lost(trimming), serving, buffer, wire),
             Trimmed::Left(refusals) => {
@@ -218,8 +218,8 @@ where
         wire: Wire<In, Out>,
     ) -> (Stage, Wire<In, Out>)
         ensures ends { EndsWait self.now.by.by.events.engine.now.ids waiting.now serving.old
-            (Out.contents wire.entry.w) serving.new (Out.contents result.1.w) result.0 }
-        ensures reader { result.1.r ≡ wire.entry.r }
+            (Out.contents wire.w) serving.new (Out.contents result.1.w) result.0 }
+        ensures reader { result.1.r ≡ wire.r }
     {
         let Wire { r, w } = wire;
         let mut w = Counted::new(w);
