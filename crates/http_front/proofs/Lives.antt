@@ -22,7 +22,7 @@ use Rattle.http_loop.specs.Answered.{Conn, IsAnswered}
 use Rattle.http_loop.specs.Stepped.{EndsWith, Finished, ReadsOn, Steps, Waits}
 use Rattle.http_loop.specs.Texts.{Grows, turn_of}
 use Rattle.http_loop.specs.Turned.{IsTurn, MayHaveAfter, Progress, Serves, SoFar, TurnsOnce, progress}
-use Rattle.http_loop.proofs.Conns.{end, failed, last, on, reads_on}
+use Rattle.http_loop.proofs.Conns.{end, failed, gave_none, last, on, reads_on}
 use Rattle.http_loop.proofs.Texts.{by_both, seen_as, wrote_more}
 use Rattle.http_loop.proofs.Turns.{turns}
 use Rattle.http_front.specs.Engines as engines
@@ -54,10 +54,6 @@ module _ (ids : Ids) (recorded : Bool) (At : ℕ → Type 0) (call : ℕ) (begun
   learns known later left pending wrote (stage.Streaming n) p h = h
   learns known later left pending wrote stage.Closing p h = h
 
-  -- what has gone out with what is to is named otherwise
-  Same : Option (List ℕ) → Option (List ℕ) → Type 0
-  Same c c' = Appends c c' []
-
   grows_on : (a b c : Option (List ℕ)) (Are : List ℕ → Type 0) → Grows a b Are → Appends b c [] → Grows a c Are
   grows_on a b c Are g h = record {
     out = g.out;
@@ -65,17 +61,36 @@ module _ (ids : Ids) (recorded : Bool) (At : ℕ → Type 0) (call : ℕ) (begun
     are = g.are;
   }
 
-  ended_on : (c c' : Option (List ℕ)) → Appends c c' [] → Ended ids recorded At call begun c → Ended ids recorded At call begun c'
-  ended_on c c' w e = record {
-    count = e.count;
-    knows = e.knows;
-    end = e.end;
-    serves = λ most l. by most begun.left (e.serves most l);
-  }
+  serves_on : (c c' : Option (List ℕ)) → Appends c c' [] → (most : ℕ) (k : Known) (r : Result ℕ Front) → Serves Known Is most begun c k r → Serves Known Is most begun c' k r
+  serves_on c c' w most k r s = by begun.left s
     where
-      by : (most : ℕ) (left : Option (List ℕ)) → Serves Known Is most (record begun { left = left }) c e.knows e.end → Serves Known Is most (record begun { left = left }) c' e.knows e.end
-      by most None s = (s.0, grows_on begun.wrote c c' (λ out. Conn Known Is begun.state (begun.pending ++ s.0) most out e.knows e.end) s.1 w)
-      by most (Some xs) s = grows_on begun.wrote c c' (λ out. Conn Known Is begun.state (begun.pending ++ xs) most out e.knows e.end) s w
+      by : (left : Option (List ℕ)) → Serves Known Is most (record begun { left = left }) c k r → Serves Known Is most (record begun { left = left }) c' k r
+      by None s = (s.0, grows_on begun.wrote c c' (λ out. Conn Known Is begun.state (begun.pending ++ s.0) most out k r) s.1 w)
+      by (Some xs) s = grows_on begun.wrote c c' (λ out. Conn Known Is begun.state (begun.pending ++ xs) most out k r) s w
+
+  -- some of what is to go out went out
+  pub sent : (known : List Entry) (left : Option (List ℕ)) (p : List ℕ) (c c' : Option (List ℕ)) (x : Stage) → Appends c c' []
+      → Lives ids recorded At call begun known left p c x → Lives ids recorded At call begun known left p c' x
+  sent known left p c c' stage.Reading w h = record {
+    count = h.count;
+    knows = h.knows;
+    so_far = reads_on Known Is begun.left left begun.pending p h.count begun.wrote c begun.state h.knows h.so_far left p c' h.knows
+        (record { came = []; gave = gave_none left; pending = sym (append-nil p); state = refl; quiet = w });
+    here = h.here;
+    within = h.within;
+  }
+  sent known left p c c' (stage.Trimming x) w h = record {
+    count = h.count; before = h.before; so_far = h.so_far; submitted = h.submitted; first = h.first;
+    waits = record {
+      came = h.waits.came; gave = h.waits.gave; request = h.waits.request; reads = h.waits.reads; answers = h.waits.answers; waits = h.waits.waits; close = h.waits.close;
+      quiet = wrote_more h.before.wrote c c' [] [] h.waits.quiet w;
+    };
+    revision = h.revision; knows = h.knows; made = h.made; here = h.here; within = h.within;
+  }
+  sent known left p c c' (stage.Streaming n) w h =
+      (record { count = h.0.count; knows = h.0.knows; end = h.0.end; serves = λ most l. serves_on c c' w most h.0.knows h.0.end (h.0.serves most l) }, h.1)
+  sent known left p c c' stage.Closing w h =
+      record { count = h.count; knows = h.knows; end = h.end; serves = λ most l. serves_on c c' w most h.knows h.end (h.serves most l) }
 
   -- ---- a turn
 

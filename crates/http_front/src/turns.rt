@@ -1,7 +1,8 @@
 //! The turns of a connection: what a thread does once it has it.
-ghost use Rattle.std.specs.Prelude.{◌≡◌, ℕ, List, Option};
-ghost use Rattle.std.specs.Io.KnownBytes.{append_known};
+ghost use Rattle.std.specs.Prelude.{◌≡◌, ◌⊎◌, ℕ, List, [], Option, IfSome};
+ghost use Rattle.std.specs.Io.KnownBytes.{Appends, append_known};
 ghost use Rattle.http_front.specs.declared.life.Stage.TheVariants as stage;
+ghost use Rattle.http_front.specs.declared.turns.After.TheVariants as after;
 ghost use Rattle.http_front.specs.Lines.{EndsWait, Goes, IsAway, IsBehind, IsHeld, sight, stage_of};
 
 use crate::by_worker::{ByWorker, Serving};
@@ -15,6 +16,7 @@ use http_loop::{Step, Turn, Waiting, end_wait, take_step};
 use http_peer::{Clock, Coming, Gate, Going};
 use http_reply::{Counted, Front, ReplyBuffer};
 use std::alloc::Global;
+use std::io;
 use std::io::{Read, Write};
 use std::mem;
 use std::sync::Wait;
@@ -111,39 +113,74 @@ where
             if count >= MOST_TURNS && !self.lines.are_few() {
                 break;
             }
-            match wire.w.unsent.send(&mut wire.w.inner) {
-                Ok(true) => {}
-                Ok(false) => return wire.turned(stage, After::Writes),
-                Err(_) => return wire.turned(stage, After::Over),
-            }
-            match stage {
-                Stage::Reading if self.is_over(input) => {
-                    return wire.turned(Stage::Reading, After::Over);
+            let turned = self.turn(serving, buffer, input, stage, wire);
+            stage = turned.stage;
+            wire = turned.wire;
+            match turned.after {
+                After::Again => stays = true,
+                After::Reads if stays && input.is_empty() && self.lines.are_few() => {
+                    *wire.r.dry = false;
+                    stays = false;
                 }
-                Stage::Reading => {
-                    let reading = self.read(serving, buffer, input, wire);
-                    stage = reading.stage;
-                    wire = reading.wire;
-                    if reading.is_dry {
-                        if !(stays && input.is_empty() && self.lines.are_few()) {
-                            return wire.turned(stage, After::Reads);
-                        }
-                        *wire.r.dry = false;
-                    }
-                    stays = !reading.is_dry;
-                }
-                Stage::Trimming(trimming) => {
-                    let (next, left) = self.trim(trimming, serving, buffer, wire);
-                    stage = next;
-                    wire = left;
-                }
-                Stage::Streaming(number) => {
-                    return wire.turned(Stage::Streaming(number), After::Away(number));
-                }
-                Stage::Closing => return wire.turned(Stage::Closing, After::Over),
+                after => return wire.turned(stage, after),
             }
         }
         wire.turned(stage, After::Again)
+    }
+
+    /// One turn, once all has gone out that is to.
+    fn turn<'p, In: Read, Out: Write>(
+        &self,
+        serving: &mut Serving<L>,
+        buffer: &mut ReplyBuffer,
+        input: &mut Input,
+        stage: Stage,
+        wire: Wire<Coming<'p, In>, Going<'p, Out>>,
+    ) -> Turned<Coming<'p, In>, Going<'p, Out>>
+        ensures goes { Goes self.now.by.by.events.engine.now.ids L.recorded (C.Tells self.now.by.by.clock.now) self.now.by.by.call
+            (sight stage serving.old.client.reader.known (In.remaining wire.entry.r.inner) input.old
+            (append_known (Out.contents wire.entry.w.inner) wire.entry.w.unsent.now))
+            (sight result.stage serving.new.client.reader.known (In.remaining result.wire.r.inner) input.new
+            (append_known (Out.contents result.wire.w.inner) result.wire.w.unsent.now)) }
+        ensures away { IsAway result.after result.stage }
+    {
+        let (wants, wire) = sent(wire);
+        if let Some(after) = wants {
+            return wire.turned(stage, after);
+        }
+        self.due(serving, buffer, input, stage, wire)
+    }
+
+    /// What is next for a connection of which all has gone out.
+    fn due<'p, In: Read, Out: Write>(
+        &self,
+        serving: &mut Serving<L>,
+        buffer: &mut ReplyBuffer,
+        input: &mut Input,
+        stage: Stage,
+        wire: Wire<Coming<'p, In>, Out>,
+    ) -> Turned<Coming<'p, In>, Out>
+        ensures goes { Goes self.now.by.by.events.engine.now.ids L.recorded (C.Tells self.now.by.by.clock.now) self.now.by.by.call
+            (sight stage serving.old.client.reader.known (In.remaining wire.entry.r.inner) input.old (Out.contents wire.entry.w))
+            (sight result.stage serving.new.client.reader.known (In.remaining result.wire.r.inner) input.new (Out.contents result.wire.w)) }
+        ensures away { IsAway result.after result.stage }
+    {
+        match stage {
+            Stage::Reading if self.is_over(input) => wire.turned(Stage::Reading, After::Over),
+            Stage::Reading => {
+                let reading = self.read(serving, buffer, input, wire);
+                let after = if reading.is_dry { After::Reads } else { After::Again };
+                reading.wire.turned(reading.stage, after)
+            }
+            Stage::Trimming(trimming) => {
+                let (stage, wire) = self.trim(trimming, serving, buffer, wire);
+                wire.turned(stage, After::Again)
+            }
+            Stage::Streaming(number) => {
+                wire.turned(Stage::Streaming(number), After::Away(number))
+            }
+            Stage::Closing => wire.turned(Stage::Closing, After::Over),
+        }
     }
 
     /// Whether a connection ends here, since the server does and no byte of a next request has come.
@@ -241,6 +278,32 @@ impl<In, Out> Wire<In, Out> {
             after,
             wire: self,
         }
+    }
+}
+
+/// Has as much go out as its client takes; what a connection then wants, where that was not all.
+fn sent<'p, In, Out: Write>(
+    wire: Wire<In, Going<'p, Out>>,
+) -> (Option<After>, Wire<In, Going<'p, Out>>)
+    ensures wants { IfSome result.0 (λ a. (a ≡ after.Writes) ⊎ (a ≡ after.Over)) }
+    ensures reader { result.1.r ≡ wire.entry.r }
+    ensures same { Appends (append_known (Out.contents wire.entry.w.inner) wire.entry.w.unsent.now)
+        (append_known (Out.contents result.1.w.inner) result.1.w.unsent.now) [] }
+{
+    let Wire { r, w } = wire;
+    let mut w = w;
+    let wants = wants_behind(w.send());
+    (wants, Wire { r, w })
+}
+
+/// What a connection wants behind a sending that did not end well with all; `None` where it did.
+fn wants_behind(sent: io::Result<bool>) -> Option<After>
+    ensures { IfSome result (λ a. (a ≡ after.Writes) ⊎ (a ≡ after.Over)) }
+{
+    match sent {
+        Ok(true) => None,
+        Ok(false) => Some(After::Writes),
+        Err(_) => Some(After::Over),
     }
 }
 

@@ -50,7 +50,7 @@ may_more None b came later g m = tt
 may_more (Some xs) None came later g m = absurd g
 may_more (Some xs) (Some ys) came later g m = ap (λ l. came ++ l) m ∙ sym g
 
-gave_none : (a : Option (List ℕ)) → Gave a [] a
+pub gave_none : (a : Option (List ℕ)) → Gave a [] a
 gave_none None = tt
 gave_none (Some xs) = refl
 

@@ -1,7 +1,7 @@
 //! The client at the other end of a connection, whose socket does not wait.
-ghost use Rattle.std.specs.Prelude.{◌≡◌, ◌≢◌, ◌++◌, ◌<◌, ◌≤◌, [], true, false, length, Err, IfOk, IfErr, IsErrAnd, IsOk, OnErr};
+ghost use Rattle.std.specs.Prelude.{nat_eq, ◌≡◌, ◌≢◌, ◌++◌, ◌<◌, ◌≤◌, [], true, false, length, Err, IfOk, IfErr, IsErrAnd, IsOk, OnErr};
 ghost use Rattle.std.specs.Io.{ReadsAtMost, WritesAtMost};
-ghost use Rattle.std.specs.Io.KnownBytes.{Keeps, ReadConsumes, WriteAppends, append_known};
+ghost use Rattle.std.specs.Io.KnownBytes.{Appends, Keeps, ReadConsumes, WriteAppends, append_known};
 ghost use Rattle.std.specs.IoError.{error_kind};
 ghost use Rattle.http_peer.specs.Reads.{IsDry};
 ghost use Rattle.http_peer.specs.Sent.{GoesOut, KeepsRest, taken};
@@ -60,6 +60,18 @@ pub struct Going<'p, W> {
     pub inner: W,
     /// What has not gone out.
     pub unsent: &'p mut Unsent,
+}
+
+impl<'p, W: Write> Going<'p, W> {
+    /// Has as much go out as its writer takes, as [`Unsent::send`] does: true where that was all. What has
+    /// gone out with what is kept is what it was.
+    pub fn send(&mut self) -> io::Result<bool>
+        ensures same { Appends (append_known (W.contents self.old.inner) self.old.unsent.now)
+            (append_known (W.contents self.new.inner) self.new.unsent.now) [] }
+        ensures told { IfOk result (λ all. all ≡ nat_eq (length self.new.unsent.now) 0) }
+    {
+        self.unsent.send(&mut self.inner)
+    }
 }
 
 impl<'p, W: Write> Write for Going<'p, W> {
