@@ -177,9 +177,7 @@ impl<L: EngineName> Lines<L> {
         if !self.slots.has_room(rt, alloc, place) {
             return Some(line);
         }
-        self.stand(rt, place, line, |set, socket, name| {
-            set.add(socket, name, Wish::Read)
-        })
+        self.stand(rt, place, line, Wish::Read, true)
     }
 
     /// Puts a connection at its place again, and asks for it. Hands it back where the system refuses.
@@ -190,19 +188,18 @@ impl<L: EngineName> Lines<L> {
         wish: Wish,
     ) -> Option<Box<Line<L>>> {
         let place = line.place();
-        self.stand(rt, place, line, |set, socket, name| {
-            set.ask(socket, name, wish)
-        })
+        self.stand(rt, place, line, wish, false)
     }
 
     /// Puts a connection at its place before it is asked for, since another thread may have it as soon
-    /// as it is.
-    fn stand<R: Wait, F: FnOnce(&Set, RawFd, u64) -> bool + Drop>(
+    /// as it is; `is_new` says that its socket is not in the set yet.
+    fn stand<R: Wait>(
         &self,
         rt: &R,
         place: usize,
         line: Box<Line<L>>,
-        ask: F,
+        wish: Wish,
+        is_new: bool,
     ) -> Option<Box<Line<L>>> {
         let Ok(socket) = RawFd::try_from(place) else {
             return Some(line);
@@ -210,7 +207,13 @@ impl<L: EngineName> Lines<L> {
         if let Some(line) = self.slots.put(rt, place, line) {
             return Some(line);
         }
-        if ask(&self.set, socket, place as u64) {
+        let name = place as u64;
+        let is_asked = if is_new {
+            self.set.add(socket, name, wish)
+        } else {
+            self.set.ask(socket, name, wish)
+        };
+        if is_asked {
             return None;
         }
         self.slots.take(rt, place)

@@ -7,13 +7,13 @@ ghost use Rattle.http_front.specs.Lines.{EndsWait, Goes, IsAway, IsBehind, IsHel
 
 use crate::by_worker::{ByWorker, Serving};
 use crate::awaiting::Trimming;
-use crate::life::Stage;
+use crate::life::{Life, Stage};
 use crate::lines::Lines;
 use crate::trimming::{Trimmed, lost};
 use engine_lock::EngineName;
 use http_input::Input;
 use http_loop::{Step, Turn, Waiting, end_wait, take_step};
-use http_peer::{Clock, Coming, Gate, Going};
+use http_peer::{Clock, Coming, Gate, Going, Unsent};
 use http_reply::{Counted, Front, ReplyBuffer};
 use std::alloc::Global;
 use std::io;
@@ -62,6 +62,14 @@ pub(crate) struct Turned<In, Out> {
     pub(crate) wire: Wire<In, Out>,
 }
 
+/// What a visit to a connection came to.
+#[derive(Drop)]
+pub(crate) struct Visited<In, Out> {
+    /// What the connection wants then.
+    pub(crate) after: After,
+    pub(crate) wire: Wire<In, Out>,
+}
+
 /// What a reading of a connection came to.
 #[derive(Drop)]
 struct Reading<In, Out> {
@@ -89,21 +97,68 @@ where
     C: Clock,
     R: Wait + time::Clock,
 {
+    /// Gives a connection its turns, by a client that takes note first of all that the connection knows of.
+    /// `is_wet` tells whether something can be read.
+    pub(crate) fn visit<In: Read, Out: Write>(
+        &self,
+        serving: &mut Serving<L>,
+        buffer: &mut ReplyBuffer,
+        input: &mut Input,
+        life: &mut Life<L>,
+        wire: Wire<In, Out>,
+        is_wet: bool,
+    ) -> Visited<In, Out>
+        requires { life.old.call ≡ self.now.by.by.call }
+        ensures goes { Goes self.now.by.by.events.engine.now.ids L.recorded (C.Tells self.now.by.by.clock.now) life.old.call
+            (sight life.old.stage life.old.known (In.remaining wire.r) input.old (append_known (Out.contents wire.w) life.old.unsent))
+            (sight life.new.stage life.new.known (In.remaining result.wire.r) input.new
+            (append_known (Out.contents result.wire.w) life.new.unsent)) }
+        ensures away { IsAway result.after life.new.stage }
+        ensures call { life.new.call ≡ life.old.call }
+    {
+        serving.client.know(&life.known);
+        let stage = mem::replace(&mut life.stage, Stage::Closing);
+        let unsent = mem::replace(&mut life.unsent, Unsent::new(self.alloc));
+        let wire = Wire {
+            r: Coming {
+                inner: wire.r,
+                dry: !is_wet,
+            },
+            w: Going {
+                inner: wire.w,
+                unsent,
+            },
+        };
+        let turned = self.turns(serving, buffer, input, stage, wire);
+        let Wire { r, w } = turned.wire;
+        let wire = Wire {
+            r: r.inner,
+            w: w.inner,
+        };
+        life.unsent = w.unsent;
+        life.stage = turned.stage;
+        life.known = serving.client.known();
+        Visited {
+            after: turned.after,
+            wire,
+        }
+    }
+
     /// At most 16 turns of a connection, or 64 where there are no more connections than threads, and what
     /// it wants then. No request is read while anything has not gone out.
-    pub(crate) fn turns<'p, In: Read, Out: Write>(
+    fn turns<In: Read, Out: Write>(
         &self,
         serving: &mut Serving<L>,
         buffer: &mut ReplyBuffer,
         input: &mut Input,
         stage: Stage,
-        wire: Wire<Coming<'p, In>, Going<'p, Out>>,
-    ) -> Turned<Coming<'p, In>, Going<'p, Out>>
+        wire: Wire<Coming<In>, Going<Out>>,
+    ) -> Turned<Coming<In>, Going<Out>>
         ensures goes { Goes self.now.by.by.events.engine.now.ids L.recorded (C.Tells self.now.by.by.clock.now) self.now.by.by.call
-            (sight stage serving.old.client.reader.known (In.remaining wire.entry.r.inner) input.old
-            (append_known (Out.contents wire.entry.w.inner) wire.entry.w.unsent.now))
+            (sight stage serving.old.client.reader.known (In.remaining wire.r.inner) input.old
+            (append_known (Out.contents wire.w.inner) wire.w.unsent))
             (sight result.stage serving.new.client.reader.known (In.remaining result.wire.r.inner) input.new
-            (append_known (Out.contents result.wire.w.inner) result.wire.w.unsent.now)) }
+            (append_known (Out.contents result.wire.w.inner) result.wire.w.unsent)) }
         ensures away { IsAway result.after result.stage }
     {
         let mut stage = stage;
@@ -119,7 +174,7 @@ where
             match turned.after {
                 After::Again => stays = true,
                 After::Reads if stays && input.is_empty() && self.lines.are_few() => {
-                    *wire.r.dry = false;
+                    wire.r.dry = false;
                     stays = false;
                 }
                 after => return wire.turned(stage, after),
@@ -129,19 +184,19 @@ where
     }
 
     /// One turn, once all has gone out that is to.
-    fn turn<'p, In: Read, Out: Write>(
+    fn turn<In: Read, Out: Write>(
         &self,
         serving: &mut Serving<L>,
         buffer: &mut ReplyBuffer,
         input: &mut Input,
         stage: Stage,
-        wire: Wire<Coming<'p, In>, Going<'p, Out>>,
-    ) -> Turned<Coming<'p, In>, Going<'p, Out>>
+        wire: Wire<Coming<In>, Going<Out>>,
+    ) -> Turned<Coming<In>, Going<Out>>
         ensures goes { Goes self.now.by.by.events.engine.now.ids L.recorded (C.Tells self.now.by.by.clock.now) self.now.by.by.call
-            (sight stage serving.old.client.reader.known (In.remaining wire.entry.r.inner) input.old
-            (append_known (Out.contents wire.entry.w.inner) wire.entry.w.unsent.now))
+            (sight stage serving.old.client.reader.known (In.remaining wire.r.inner) input.old
+            (append_known (Out.contents wire.w.inner) wire.w.unsent))
             (sight result.stage serving.new.client.reader.known (In.remaining result.wire.r.inner) input.new
-            (append_known (Out.contents result.wire.w.inner) result.wire.w.unsent.now)) }
+            (append_known (Out.contents result.wire.w.inner) result.wire.w.unsent)) }
         ensures away { IsAway result.after result.stage }
     {
         let (wants, wire) = sent(wire);
@@ -152,16 +207,16 @@ where
     }
 
     /// What is next for a connection of which all has gone out.
-    fn due<'p, In: Read, Out: Write>(
+    fn due<In: Read, Out: Write>(
         &self,
         serving: &mut Serving<L>,
         buffer: &mut ReplyBuffer,
         input: &mut Input,
         stage: Stage,
-        wire: Wire<Coming<'p, In>, Out>,
-    ) -> Turned<Coming<'p, In>, Out>
+        wire: Wire<Coming<In>, Out>,
+    ) -> Turned<Coming<In>, Out>
         ensures goes { Goes self.now.by.by.events.engine.now.ids L.recorded (C.Tells self.now.by.by.clock.now) self.now.by.by.call
-            (sight stage serving.old.client.reader.known (In.remaining wire.entry.r.inner) input.old (Out.contents wire.entry.w))
+            (sight stage serving.old.client.reader.known (In.remaining wire.r.inner) input.old (Out.contents wire.w))
             (sight result.stage serving.new.client.reader.known (In.remaining result.wire.r.inner) input.new (Out.contents result.wire.w)) }
         ensures away { IsAway result.after result.stage }
     {
@@ -189,15 +244,15 @@ where
     }
 
     /// A request is read, as far as it is there, and answered.
-    fn read<'p, In: Read, Out: Write>(
+    fn read<In: Read, Out: Write>(
         &self,
         serving: &mut Serving<L>,
         buffer: &mut ReplyBuffer,
         input: &mut Input,
-        wire: Wire<Coming<'p, In>, Out>,
-    ) -> Reading<Coming<'p, In>, Out>
+        wire: Wire<Coming<In>, Out>,
+    ) -> Reading<Coming<In>, Out>
         ensures goes { Goes self.now.by.by.events.engine.now.ids L.recorded (C.Tells self.now.by.by.clock.now) self.now.by.by.call
-            (sight stage.Reading serving.old.client.reader.known (In.remaining wire.entry.r.inner) input.old (Out.contents wire.entry.w))
+            (sight stage.Reading serving.old.client.reader.known (In.remaining wire.r.inner) input.old (Out.contents wire.w))
             (sight result.stage serving.new.client.reader.known (In.remaining result.wire.r.inner) input.new (Out.contents result.wire.w)) }
     {
         serving.begin(self.by.by.call);
@@ -208,7 +263,7 @@ where
             r: r.into_inner(),
             w: w.into_inner(),
         };
-        let is_dry = *wire.r.dry;
+        let is_dry = wire.r.dry;
         Reading {
             is_dry: is_dry && matches!(stepped, Err(Front::Read)),
             stage: stage_behind(stepped, is_dry, serving),
@@ -282,13 +337,13 @@ impl<In, Out> Wire<In, Out> {
 }
 
 /// Has as much go out as its client takes; what a connection then wants, where that was not all.
-fn sent<'p, In, Out: Write>(
-    wire: Wire<In, Going<'p, Out>>,
-) -> (Option<After>, Wire<In, Going<'p, Out>>)
+fn sent<In, Out: Write>(
+    wire: Wire<In, Going<Out>>,
+) -> (Option<After>, Wire<In, Going<Out>>)
     ensures wants { IfSome result.0 (λ a. (a ≡ after.Writes) ⊎ (a ≡ after.Over)) }
-    ensures reader { result.1.r ≡ wire.entry.r }
-    ensures same { Appends (append_known (Out.contents wire.entry.w.inner) wire.entry.w.unsent.now)
-        (append_known (Out.contents result.1.w.inner) result.1.w.unsent.now) [] }
+    ensures reader { result.1.r ≡ wire.r }
+    ensures same { Appends (append_known (Out.contents wire.w.inner) wire.w.unsent)
+        (append_known (Out.contents result.1.w.inner) result.1.w.unsent) [] }
 {
     let Wire { r, w } = wire;
     let mut w = w;

@@ -12,12 +12,11 @@ use crate::shared::Shared;
 use crate::turns::{After, Turning, Wire};
 use engine_lock::{Client, EngineName};
 use http_input::Input;
-use http_peer::{Clock, Coming, Gate, Going, Socket, Wish, open_peer};
+use http_peer::{Clock, Gate, Socket, Wish, open_peer};
 use http_reply::ReplyBuffer;
 use recorded_engine::Recorded;
 use std::alloc::Global;
 use std::io::ErrorKind;
-use std::mem;
 use std::net::TcpStream;
 use std::sync::Wait;
 use std::sync::atomic::Ordering;
@@ -245,23 +244,13 @@ where
             lines: &shared.lines,
             ended: &shared.ended,
         };
-        let mut dry = !is_wet;
         let wire = Wire {
-            r: Coming {
-                inner: Socket::new(&line.stream),
-                dry: &mut dry,
-            },
-            w: Going {
-                inner: Socket::new(&line.stream),
-                unsent: &mut line.life.unsent,
-            },
+            r: Socket::new(&line.stream),
+            w: Socket::new(&line.stream),
         };
-        let stage = mem::replace(&mut line.life.stage, Stage::Closing);
-        self.serving.client.know(&line.life.known);
-        let turned = turning.turns(&mut self.serving, buffer, input, stage, wire);
-        line.life.stage = turned.stage;
-        line.life.known = self.serving.client.known();
-        let after = turned.after;
+        let life = &mut line.life;
+        let visited = turning.visit(&mut self.serving, buffer, input, life, wire, is_wet);
+        let after = visited.after;
         line.freshen();
         after
     }

@@ -19,30 +19,30 @@ use std::io::{ErrorKind, Read, Write};
 /// read that does not fill its room has taken all that was there, so `dry` spares the next one; where
 /// more came meanwhile, or the client has ended, the reader tells so once it is asked for again.
 #[derive(Drop)]
-pub struct Coming<'p, R> {
+pub struct Coming<R> {
     /// Its reader.
     pub inner: R,
     /// Whether nothing more is there, as far as it is known.
-    pub dry: &'p mut bool,
+    pub dry: bool,
 }
 
-impl<'p, R: Read> Read for Coming<'p, R> {
+impl<R: Read> Read for Coming<R> {
     ghost remaining = { λ c. R.remaining c.inner };
 
     fn read(&mut self, buf: &mut [u8]) -> io::Result<usize>
         ensures bound { ReadsAtMost result buf.new }
         ensures bytes { ReadConsumes (R.remaining self.old.inner) (R.remaining self.new.inner) result buf.new }
-        ensures spared { self.old.dry.now ≡ true → (self.new.inner ≡ self.old.inner)
-            × (self.new.dry.now ≡ true) × (buf.new ≡ buf.old)
+        ensures spared { self.old.dry ≡ true → (self.new.inner ≡ self.old.inner)
+            × (self.new.dry ≡ true) × (buf.new ≡ buf.old)
             × IsErrAnd result (λ e. error_kind e ≡ ErrorKind.WouldBlock) }
-        ensures dry { self.old.dry.now ≡ false
-            → IsDry (λ e. error_kind e ≡ ErrorKind.WouldBlock) result (length buf.new) self.new.dry.now }
+        ensures dry { self.old.dry ≡ false
+            → IsDry (λ e. error_kind e ≡ ErrorKind.WouldBlock) result (length buf.new) self.new.dry }
     {
-        if *self.dry {
+        if self.dry {
             return Err(io::Error::from(ErrorKind::WouldBlock));
         }
         let came = self.inner.read(buf);
-        *self.dry = match &came {
+        self.dry = match &came {
             Ok(count) => *count > 0 && *count < buf.len(),
             Err(error) => error.kind() == ErrorKind::WouldBlock,
         };
@@ -55,55 +55,55 @@ impl<'p, R: Read> Read for Coming<'p, R> {
 /// has it go out. So a write takes all, or it fails; where no memory is found for the rest of one of
 /// which some went out, it takes those.
 #[derive(Drop)]
-pub struct Going<'p, W> {
+pub struct Going<W> {
     /// Its writer.
     pub inner: W,
     /// What has not gone out.
-    pub unsent: &'p mut Unsent,
+    pub unsent: Unsent,
 }
 
-impl<'p, W: Write> Going<'p, W> {
+impl<W: Write> Going<W> {
     /// Has as much go out as its writer takes, as [`Unsent::send`] does: true where that was all. What has
     /// gone out with what is kept is what it was.
     pub fn send(&mut self) -> io::Result<bool>
-        ensures same { Appends (append_known (W.contents self.old.inner) self.old.unsent.now)
-            (append_known (W.contents self.new.inner) self.new.unsent.now) [] }
-        ensures told { IfOk result (λ all. all ≡ nat_eq (length self.new.unsent.now) 0) }
+        ensures same { Appends (append_known (W.contents self.old.inner) self.old.unsent)
+            (append_known (W.contents self.new.inner) self.new.unsent) [] }
+        ensures told { IfOk result (λ all. all ≡ nat_eq (length self.new.unsent) 0) }
     {
         self.unsent.send(&mut self.inner)
     }
 }
 
-impl<'p, W: Write> Write for Going<'p, W> {
-    ghost contents = { λ g. append_known (W.contents g.inner) g.unsent.now };
+impl<W: Write> Write for Going<W> {
+    ghost contents = { λ g. append_known (W.contents g.inner) g.unsent };
 
     fn write(&mut self, buf: &[u8]) -> io::Result<usize>
         ensures bound { WritesAtMost result buf.now }
-        ensures bytes { WriteAppends (append_known (W.contents self.old.inner) self.old.unsent.now)
-            (append_known (W.contents self.new.inner) self.new.unsent.now) result buf.now }
+        ensures bytes { WriteAppends (append_known (W.contents self.old.inner) self.old.unsent)
+            (append_known (W.contents self.new.inner) self.new.unsent) result buf.now }
         ensures goes { GoesOut (W.contents self.old.inner) (W.contents self.new.inner)
-            (self.old.unsent.now ++ taken result buf.now) self.new.unsent.now }
-        ensures behind { self.old.unsent.now ≢ [] → (self.new.inner ≡ self.old.inner)
-            × (self.new.unsent.now ≡ self.old.unsent.now ++ taken result buf.now)
+            (self.old.unsent ++ taken result buf.now) self.new.unsent }
+        ensures behind { self.old.unsent ≢ [] → (self.new.inner ≡ self.old.inner)
+            × (self.new.unsent ≡ self.old.unsent ++ taken result buf.now)
             × IfErr result (λ e. error_kind e ≡ ErrorKind.OutOfMemory) }
-        ensures all { IfOk result (λ n. n < length buf.now → (0 < n) × (self.new.unsent.now ≡ [])) }
-        ensures kept { OnErr result (self.new.unsent.now ≡ self.old.unsent.now) }
+        ensures all { IfOk result (λ n. n < length buf.now → (0 < n) × (self.new.unsent ≡ [])) }
+        ensures kept { OnErr result (self.new.unsent ≡ self.old.unsent) }
         ensures fault { IfErr result (λ e. error_kind e ≢ ErrorKind.WouldBlock) }
     {
         if !self.unsent.is_empty() {
-            return keep_rest(self.unsent, buf, Ok(0));
+            return keep_rest(&mut self.unsent, buf, Ok(0));
         }
         let made = write_now(&mut self.inner, buf);
-        keep_rest(self.unsent, buf, made)
+        keep_rest(&mut self.unsent, buf, made)
     }
 
     /// Does nothing: what is kept waits for [`Unsent::send`].
     fn flush(&mut self) -> io::Result<()>
-        ensures bytes { Keeps (append_known (W.contents self.old.inner) self.old.unsent.now)
-            (append_known (W.contents self.new.inner) self.new.unsent.now) }
+        ensures bytes { Keeps (append_known (W.contents self.old.inner) self.old.unsent)
+            (append_known (W.contents self.new.inner) self.new.unsent) }
         ensures ok { IsOk result }
         ensures kept { (self.new.inner ≡ self.old.inner)
-            × (self.new.unsent.now ≡ self.old.unsent.now) }
+            × (self.new.unsent ≡ self.old.unsent) }
     {
         Ok(())
     }

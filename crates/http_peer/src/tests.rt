@@ -55,42 +55,36 @@ impl Write for Signals {
 /// Whether two texts come out whole and in order, where a writer takes so many bytes at first and then
 /// so many with each sending.
 fn comes_out(alloc: Global, first: usize, more: usize) -> bool {
-    let mut unsent = Unsent::new(alloc);
-    let mut narrow = Narrow {
-        got: Vec::new(alloc),
-        good: first,
+    let mut going = Going {
+        inner: Narrow {
+            got: Vec::new(alloc),
+            good: first,
+        },
+        unsent: Unsent::new(alloc),
     };
-    let wrote = {
-        let mut going = Going {
-            inner: &mut narrow,
-            unsent: &mut unsent,
-        };
-        let one = matches!(going.write(b"abcdefgh"), Ok(8));
-        one && matches!(going.write(b"ijkl"), Ok(4))
-    };
-    if !wrote {
+    let one = matches!(going.write(b"abcdefgh"), Ok(8));
+    if !(one && matches!(going.write(b"ijkl"), Ok(4))) {
         return false;
     }
     for _ in 0..20 {
-        narrow.good = more;
-        match unsent.send(&mut narrow) {
+        going.inner.good = more;
+        match going.send() {
             Ok(all) => {
-                if all != unsent.is_empty() {
+                if all != going.unsent.is_empty() {
                     return false;
                 }
             }
             Err(_) => return false,
         }
     }
-    unsent.is_empty() && narrow.got.as_slice() == b"abcdefghijkl".as_slice()
+    going.unsent.is_empty() && going.inner.got.as_slice() == b"abcdefghijkl".as_slice()
 }
 
 /// How a write of a letter fails, behind so many signals.
 fn fails_behind(alloc: Global, signals: u64) -> Option<ErrorKind> {
-    let mut unsent = Unsent::new(alloc);
     let mut going = Going {
         inner: Signals(signals),
-        unsent: &mut unsent,
+        unsent: Unsent::new(alloc),
     };
     match going.write(b"a") {
         Ok(_) => None,
@@ -101,21 +95,20 @@ fn fails_behind(alloc: Global, signals: u64) -> Option<ErrorKind> {
 /// What a read of so many bytes gives of five, and whether it is dry then; at 9, of a reader that finds nothing.
 fn reads(room: usize) -> (usize, bool) {
     let mut buf = [0; 9];
-    let mut dry = false;
     if room == 9 {
         let mut coming = Coming {
             inner: Signals(0),
-            dry: &mut dry,
+            dry: false,
         };
         let count = coming.read(&mut buf).unwrap_or(99);
-        return (count, dry);
+        return (count, coming.dry);
     }
     let mut coming = Coming {
         inner: b"abcde".as_slice(),
-        dry: &mut dry,
+        dry: false,
     };
     let count = coming.read(&mut buf[..room.min(9)]).unwrap_or(99);
-    (count, dry)
+    (count, coming.dry)
 }
 
 #[test]

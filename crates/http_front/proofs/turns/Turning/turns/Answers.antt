@@ -8,13 +8,13 @@ pub returns-in_default-clause-goes : goal.returns-in_default-clause-goes
 returns-in_default-clause-goes g c begun h =
     subst (λ t. Lives c.args.self.now.by.by.events.engine.now.ids g.L.EngineName.recorded (g.C.Clock.Tells c.args.self.now.by.by.clock.now) c.args.self.now.by.by.call begun
     c.turn-turned.new.serving.client.reader.known (g.In.Read.remaining t.wire.r.inner) c.turn-turned.new.input
-    (append_known (g.Out.Write.contents t.wire.w.inner) t.wire.w.unsent.now) t.stage)
+    (append_known (g.Out.Write.contents t.wire.w.inner) t.wire.w.unsent) t.stage)
     (sym c.turned.ensures) (c.turn-turned.ensures.goes begun (c.loop-count.invariant begun h))
 
 pub loop-count-preserved : goal.loop-count-preserved
 loop-count-preserved g c begun h =
-    let same : c.match-turned.wire.w.unsent.now ≡ c.turn-turned.result.wire.w.unsent.now =
-        elim c.match-turned.branch [ in-Again w ↦ ap (λ x. x.w.unsent.now) w.wire-is | in-Reads w ↦ ap (λ x. x.w.unsent.now) w.wire-is ] in
+    let same : c.match-turned.wire.w.unsent ≡ c.turn-turned.result.wire.w.unsent =
+        elim c.match-turned.branch [ in-Again w ↦ ap (λ x. x.w.unsent) w.wire-is | in-Reads w ↦ ap (λ x. x.w.unsent) w.wire-is ] in
     subst (λ (unsent : List ℕ). Lives c.args.self.now.by.by.events.engine.now.ids g.L.EngineName.recorded (g.C.Clock.Tells c.args.self.now.by.by.clock.now) c.args.self.now.by.by.call begun
     c.turn-turned.new.serving.client.reader.known (g.In.Read.remaining c.turn-turned.result.wire.r.inner) c.turn-turned.new.input
     (append_known (g.Out.Write.contents c.turn-turned.result.wire.w.inner) unsent) c.turn-turned.result.stage)
@@ -24,5 +24,5 @@ pub returns-clause-goes : goal.returns-clause-goes
 returns-clause-goes g c begun h =
     subst (λ t. Lives c.args.self.now.by.by.events.engine.now.ids g.L.EngineName.recorded (g.C.Clock.Tells c.args.self.now.by.by.clock.now) c.args.self.now.by.by.call begun
     c.loop-count.serving.client.reader.known (g.In.Read.remaining t.wire.r.inner) c.loop-count.input
-    (append_known (g.Out.Write.contents t.wire.w.inner) t.wire.w.unsent.now) t.stage)
+    (append_known (g.Out.Write.contents t.wire.w.inner) t.wire.w.unsent) t.stage)
     (sym c.turned-2.ensures) (c.loop-count.invariant begun h)
