@@ -51,10 +51,13 @@ module _ (ids : Ids) (recorded : Bool) (At : ℕ → Type 0) (c : Caller) (a : A
 
   pub came_bad : (bad : Bad) (o : Outcome) → Fails bad (request_of path a.body) → Refuses o.settled (is_want bad) (fault_of_reading bad) → o.watch ≡ None → o.waits ≡ false
       → s.outcome ≡ o → AnswersFirst ids recorded At c a s c
-  came_bad bad o fails refuses unwatched ready e = inr (subst (λ (o : Outcome). Refused (path_asked a) a.body c o c × (o.waits ≡ false)) (sym e) (record {
-    bad = bad;
-    fails = subst (λ (p : List ℕ). Fails bad (request_of p a.body)) asks fails;
-    refuses = refuses;
-    unwatched = unwatched;
-    same = refl;
-  }, ready))
+  came_bad bad o fails refuses unwatched ready e = inr (subst (λ (o : Outcome). Refused (path_asked a) a.body c o c × (o.waits ≡ false)) (sym e) (
+    record {
+      bad = bad;
+      fails = subst (λ (p : List ℕ). Fails bad (request_of p a.body)) asks fails;
+      refuses = refuses;
+      unwatched = unwatched;
+      same = refl;
+    },
+    ready,
+  ))

@@ -45,11 +45,24 @@ module _ (ids : Ids) (recorded : Bool) (At : ℕ → Type 0) (call : ℕ) (begun
   pub learns : (known later : List Entry) (left : Option (List ℕ)) (pending : List ℕ) (wrote : Option (List ℕ)) (x : Stage) → IsPrefix known later
       → Lives ids recorded At call begun known left pending wrote x → Lives ids recorded At call begun later left pending wrote x
   learns known later left pending wrote stage.Reading p h = record {
-    count = h.count; knows = h.knows; so_far = h.so_far; here = h.here; within = prefix_trans h.knows.front known later h.within p;
+    count = h.count;
+    knows = h.knows;
+    so_far = h.so_far;
+    here = h.here;
+    within = prefix_trans h.knows.front known later h.within p;
   }
   learns known later left pending wrote (stage.Trimming x) p h = record {
-    count = h.count; before = h.before; so_far = h.so_far; submitted = h.submitted; first = h.first; waits = h.waits; revision = h.revision;
-    knows = h.knows; made = h.made; here = h.here; within = prefix_trans h.knows.front known later h.within p;
+    count = h.count;
+    before = h.before;
+    so_far = h.so_far;
+    submitted = h.submitted;
+    first = h.first;
+    waits = h.waits;
+    revision = h.revision;
+    knows = h.knows;
+    made = h.made;
+    here = h.here;
+    within = prefix_trans h.knows.front known later h.within p;
   }
   learns known later left pending wrote (stage.Streaming n) p h = h
   learns known later left pending wrote stage.Closing p h = h
@@ -80,12 +93,26 @@ module _ (ids : Ids) (recorded : Bool) (At : ℕ → Type 0) (call : ℕ) (begun
     within = h.within;
   }
   sent known left p c c' (stage.Trimming x) w h = record {
-    count = h.count; before = h.before; so_far = h.so_far; submitted = h.submitted; first = h.first;
+    count = h.count;
+    before = h.before;
+    so_far = h.so_far;
+    submitted = h.submitted;
+    first = h.first;
     waits = record {
-      came = h.waits.came; gave = h.waits.gave; request = h.waits.request; reads = h.waits.reads; answers = h.waits.answers; waits = h.waits.waits; close = h.waits.close;
+      came = h.waits.came;
+      gave = h.waits.gave;
+      request = h.waits.request;
+      reads = h.waits.reads;
+      answers = h.waits.answers;
+      waits = h.waits.waits;
+      close = h.waits.close;
       quiet = wrote_more h.before.wrote c c' [] [] h.waits.quiet w;
     };
-    revision = h.revision; knows = h.knows; made = h.made; here = h.here; within = h.within;
+    revision = h.revision;
+    knows = h.knows;
+    made = h.made;
+    here = h.here;
+    within = h.within;
   }
   sent known left p c c' (stage.Streaming n) w h =
       (record { count = h.0.count; knows = h.0.knows; end = h.0.end; serves = λ most l. serves_on c c' w most h.0.knows h.0.end (h.0.serves most l) }, h.1)
@@ -164,15 +191,23 @@ module _ (ids : Ids) (recorded : Bool) (At : ℕ → Type 0) (call : ℕ) (begun
       waits = subst (λ (w : Pending). Waits Known (λ k a o later. lines.AnswersFirst ids recorded At call k a y.answers.submitted later × (o ≡ y.answers.submitted.outcome))
           (progress h.knows left p c) (progress (known_of t) left' q c') w) (sym e)
           (record {
-            came = y.came; gave = y.gave; request = y.request; reads = y.reads;
-            answers = (record {
-              client = s.client;
-              then = t.client;
-              is_for = (h.within, about);
-              answers = y.answers.answers;
-              knows = λ i. record { front = t.client.reader.known; away = (y.answers.handed ∙ sym here) i };
-            }, y.answers.outcome);
-            waits = y.waits; close = y.close; quiet = y.quiet;
+            came = y.came;
+            gave = y.gave;
+            request = y.request;
+            reads = y.reads;
+            answers = (
+              record {
+                client = s.client;
+                then = t.client;
+                is_for = (h.within, about);
+                answers = y.answers.answers;
+                knows = λ i. record { front = t.client.reader.known; away = (y.answers.handed ∙ sym here) i };
+              },
+              y.answers.outcome,
+            );
+            waits = y.waits;
+            close = y.close;
+            quiet = y.quiet;
           });
       revision = r ∙ y.answers.revision;
       knows = known_of t;

@@ -148,7 +148,7 @@ module _ (ids : Ids) (recorded : Bool) (At : ℕ → Type 0) (call : ℕ) where
     answered t a out r d =
         let h = d.answers.0 in
         let left = ends d.outcome a.close d.done t out r ((firsts ids recorded At ⊤ s.client d.done.client a h.submitted h.answers).about ∙ about)
-            (record { written = d.written; told = d.told; finishes = d.finishes }) in
+        (record { written = d.written; told = d.told; finishes = d.finishes }) in
         record {
           outcome = d.outcome;
           done = known_of d.done;
@@ -235,16 +235,18 @@ module _ (ids : Ids) (recorded : Bool) (At : ℕ → Type 0) (call : ℕ) where
       pub once_last : (x : Result Turn Front) → IsLastTurn x → TurnsOnce Hands ByHands (progress s left p c) (progress t left' q c') x
           → (later : Known) × TurnsOnce Known ByAny (progress k left p c) (progress later left' q c') x
       once_last x l h =
-          let found = turns_any t (p ++ (h.came ++ rest_of left')) (q ++ rest_of left') x h.turn.out (h.turn.are (rest_of left') (may_end left' x)) in
-          (found.0, record {
-            came = h.came;
-            gave = h.gave;
-            turn = record {
-              out = h.turn.out;
-              wrote = h.turn.wrote;
-              are = λ later m. subst (λ (z : List ℕ). IsTurn Known ByAny k (p ++ (h.came ++ z)) (q ++ z) found.0 x h.turn.out) (sym (only x later l m)) found.1;
-            };
-          })
+          let found = turns_any t (p ++ (h.came ++ rest_of left')) (q ++ rest_of left') x h.turn.out (h.turn.are (rest_of left') (may_end left' x)) in (
+            found.0,
+            record {
+              came = h.came;
+              gave = h.gave;
+              turn = record {
+                out = h.turn.out;
+                wrote = h.turn.wrote;
+                are = λ later m. subst (λ (z : List ℕ). IsTurn Known ByAny k (p ++ (h.came ++ z)) (q ++ z) found.0 x h.turn.out) (sym (only x later l m)) found.1;
+              };
+            },
+          )
 
       pub open_here : (x : Result Turn Front) → s.handed ≡ None → x ≡ Ok turn.More → TurnsOnce Hands ByHands (progress s left p c) (progress t left' q c') x → t.handed ≡ None
       open_here x none e h = more_here t (p ++ (h.came ++ rest_of left')) (q ++ rest_of left') x h.turn.out none e (h.turn.are (rest_of left') (may_end left' x))

@@ -45,6 +45,7 @@ mod line;
 mod lines;
 mod shared;
 mod slots;
+mod spare;
 mod streaming;
 mod threads;
 mod trimming;

@@ -8,8 +8,8 @@ use std::io;
 use std::io::ErrorKind;
 use std::net::{Net, TcpListener};
 use std::os::fd::{AsRawFd, RawFd};
-use std::sync::atomic::{AtomicBool, AtomicU64, Ordering};
 use std::sync::Wait;
+use std::sync::atomic::{AtomicBool, AtomicU64, Ordering};
 
 /// The name of the listener in the set. No socket has this number.
 const LISTENER: u64 = u64::MAX - 1;

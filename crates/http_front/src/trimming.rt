@@ -2,8 +2,8 @@
 ghost use Rattle.std.specs.Prelude.{◌≡◌, ◌<◌};
 ghost use Rattle.http_front.specs.Lines.{TrimsSome, lost_wait};
 
-use crate::by_engine::MOST_REFUSALS;
 use crate::awaiting::Trimming;
+use crate::by_engine::MOST_REFUSALS;
 use engine_lock::{Client, EngineName};
 use http_loop::Waiting;
 use http_peer::Gate;
@@ -56,7 +56,9 @@ pub(crate) fn lost(trimming: Trimming) -> Waiting
     ensures { result ≡ lost_wait trimming.waiting trimming.revision }
 {
     let Trimming {
-        waiting, revision, ..
+        waiting,
+        revision,
+        ..
     } = trimming;
     Waiting {
         outcome: Outcome {

@@ -5,8 +5,8 @@ ghost use Rattle.http_front.specs.declared.life.Stage.TheVariants as stage;
 ghost use Rattle.http_front.specs.declared.turns.After.TheVariants as after;
 ghost use Rattle.http_front.specs.Lines.{EndsWait, Goes, IsAway, IsBehind, IsHeld, sight, stage_of};
 
-use crate::by_worker::{ByWorker, Serving};
 use crate::awaiting::Trimming;
+use crate::by_worker::{ByWorker, Serving};
 use crate::life::{Life, Stage};
 use crate::lines::Lines;
 use crate::trimming::{Trimmed, lost};
@@ -16,12 +16,10 @@ use http_loop::{Step, Turn, Waiting, end_wait, take_step};
 use http_peer::{Clock, Coming, Gate, Going, Unsent};
 use http_reply::{Counted, Front, ReplyBuffer};
 use std::alloc::Global;
-use std::io;
 use std::io::{Read, Write};
-use std::mem;
 use std::sync::Wait;
 use std::sync::atomic::{AtomicBool, Ordering};
-use std::time;
+use std::{io, mem, time};
 
 /// What a connection wants behind its turns.
 #[derive(Clone, Copy, PartialEq, Eq)]
@@ -224,7 +222,11 @@ where
             Stage::Reading if self.is_over(input) => wire.turned(Stage::Reading, After::Over),
             Stage::Reading => {
                 let reading = self.read(serving, buffer, input, wire);
-                let after = if reading.is_dry { After::Reads } else { After::Again };
+                let after = if reading.is_dry {
+                    After::Reads
+                } else {
+                    After::Again
+                };
                 reading.wire.turned(reading.stage, after)
             }
             Stage::Trimming(trimming) => {
@@ -319,7 +321,13 @@ where
             Ok(turn) => stage_after(turn, serving.handed),
             Err(_) => Stage::Closing,
         };
-        (stage, Wire { r, w: w.into_inner() })
+        (
+            stage,
+            Wire {
+                r,
+                w: w.into_inner(),
+            },
+        )
     }
 }
 
@@ -337,9 +345,7 @@ impl<In, Out> Wire<In, Out> {
 }
 
 /// Has as much go out as its client takes; what a connection then wants, where that was not all.
-fn sent<In, Out: Write>(
-    wire: Wire<In, Going<Out>>,
-) -> (Option<After>, Wire<In, Going<Out>>)
+fn sent<In, Out: Write>(wire: Wire<In, Going<Out>>) -> (Option<After>, Wire<In, Going<Out>>)
     ensures wants { IfSome result.0 (λ a. (a ≡ after.Writes) ⊎ (a ≡ after.Over)) }
     ensures reader { result.1.r ≡ wire.r }
     ensures same { Appends (append_known (Out.contents wire.w.inner) wire.w.unsent)

@@ -1,14 +1,14 @@
 //! A worker: it gives one connection after the other its turns, whichever is ready.
 
-use crate::by_worker::Serving;
+use crate::by_engine::ByEngine;
+use crate::by_worker::{ByWorker, Serving};
 use crate::duties::Worked;
 use crate::handing::{Handed, Waking};
-use crate::by_engine::ByEngine;
-use crate::by_worker::ByWorker;
 use crate::life::Stage;
 use crate::line::Line;
 use crate::lines::Next;
 use crate::shared::Shared;
+use crate::spare::Spare;
 use crate::turns::{After, Turning, Wire};
 use engine_lock::{Client, EngineName};
 use http_input::Input;
@@ -28,9 +28,6 @@ const MOST_ACCEPTS: u64 = 16;
 /// A buffer that a longer reply took gives its room back, in bytes.
 const MOST_KEPT: usize = 262_144;
 
-/// An input that a longer request took does, in bytes.
-const MOST_ROOM: usize = 16_384;
-
 /// What a thread serves connections with.
 #[derive(Drop)]
 struct Worker<'s, L: EngineName, G, C, R> {
@@ -41,7 +38,7 @@ struct Worker<'s, L: EngineName, G, C, R> {
     /// Where replies are laid out; none where no memory was found for it yet.
     buffer: Option<ReplyBuffer>,
     /// An input of which nothing is left, for a connection that has none.
-    spare: Option<Box<Input>>,
+    spare: Spare,
 }
 
 /// What came of an accept.
@@ -75,7 +72,7 @@ where
         shared,
         serving: Serving::new(client),
         buffer: None,
-        spare: None,
+        spare: Spare::new(alloc),
     };
     let mut next = Next::Nothing;
     for _ in rt.forever() {
@@ -206,7 +203,8 @@ where
 
     /// Gives a connection its turns. Where no memory is found for a buffer or an input it is over.
     fn served(&mut self, line: &mut Line<L>, is_wet: bool) -> After {
-        let (Some(buffer), Some(input)) = (self.next_buffer(), self.input_of(line)) else {
+        let (Some(buffer), Some(input)) = (self.next_buffer(), self.spare.take(line.input.take()))
+        else {
             return After::Over;
         };
         let (mut buffer, mut input) = (buffer, input);
@@ -214,7 +212,7 @@ where
         if buffer.room() <= MOST_KEPT {
             self.buffer = Some(buffer);
         }
-        self.keep_input(line, input);
+        line.input = self.spare.keep(input);
         after
     }
 
@@ -260,28 +258,6 @@ where
         match self.buffer.take() {
             Some(buffer) => Some(buffer),
             None => ReplyBuffer::new(self.alloc).ok(),
-        }
-    }
-
-    /// What has come of a connection and was not answered; an input of which nothing is left, where
-    /// nothing has. `None` where no memory is found for that.
-    fn input_of(&mut self, line: &mut Line<L>) -> Option<Box<Input>> {
-        if let Some(input) = line.input.take() {
-            return Some(input);
-        }
-        match self.spare.take() {
-            Some(input) => Some(input),
-            None => Box::new(self.alloc, Input::new(self.alloc).ok()?).ok(),
-        }
-    }
-
-    /// What has come of a connection and was not answered stays with it; where nothing is left of it the
-    /// thread has the input for the next.
-    fn keep_input(&mut self, line: &mut Line<L>, input: Box<Input>) {
-        if !input.is_empty() {
-            line.input = Some(input);
-        } else if input.room() <= MOST_ROOM {
-            self.spare = Some(input);
         }
     }
 

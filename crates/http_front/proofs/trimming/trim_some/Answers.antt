@@ -10,11 +10,16 @@ pub loop-init : goal.loop-init
 loop-init g c = (AreMadeBehind.none, c.requires)
 
 pub returns-in-Ok-Done : goal.returns-in-Ok-Done
-returns-in-Ok-Done g c = (c.loop.client, c.loop.refusals, c.loop.invariant.0, record {
-  last = c.in-Ok-Done.field-0;
-  trims = c.in-Ok-Done.ensures.trims;
-  ends = subst (λ (x : Trim). is_done (told_of x) ≡ true) (sym c.in-Ok-Done.field-0-is) refl;
-})
+returns-in-Ok-Done g c = (
+  c.loop.client,
+  c.loop.refusals,
+  c.loop.invariant.0,
+  record {
+    last = c.in-Ok-Done.field-0;
+    trims = c.in-Ok-Done.ensures.trims;
+    ends = subst (λ (x : Trim). is_done (told_of x) ≡ true) (sym c.in-Ok-Done.field-0-is) refl;
+  },
+)
 
 pub returns-then-refusals-eq-MOST_REFUSALS : goal.returns-then-refusals-eq-MOST_REFUSALS
 returns-then-refusals-eq-MOST_REFUSALS g c = subst (λ (k : ℕ). AreMadeBehind c.args.events.now.engine.now.ids c.args.client.now c.args.refusals k c.trim.new.client)

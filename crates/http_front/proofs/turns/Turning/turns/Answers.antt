@@ -14,13 +14,13 @@ returns-in_default-clause-goes g c begun h =
 pub loop-count-preserved : goal.loop-count-preserved
 loop-count-preserved g c begun h =
     let left : g.In.Read.remaining c.match-turned.wire.r.inner ≡ g.In.Read.remaining c.turn-turned.result.wire.r.inner =
-        elim c.match-turned.branch [ in-Again w ↦ ap (λ x. g.In.Read.remaining x.r.inner) w.wire-is | in-Reads w ↦ ap (λ x. g.In.Read.remaining x.r.inner) w.wire-is ] in
+    elim c.match-turned.branch [ in-Again w ↦ ap (λ x. g.In.Read.remaining x.r.inner) w.wire-is | in-Reads w ↦ ap (λ x. g.In.Read.remaining x.r.inner) w.wire-is ] in
     let wrote : append_known (g.Out.Write.contents c.match-turned.wire.w.inner) c.match-turned.wire.w.unsent
-            ≡ append_known (g.Out.Write.contents c.turn-turned.result.wire.w.inner) c.turn-turned.result.wire.w.unsent =
-        elim c.match-turned.branch [
-          | in-Again w ↦ ap (λ x. append_known (g.Out.Write.contents x.w.inner) x.w.unsent) w.wire-is
-          | in-Reads w ↦ ap (λ x. append_known (g.Out.Write.contents x.w.inner) x.w.unsent) w.wire-is
-        ] in
+    ≡ append_known (g.Out.Write.contents c.turn-turned.result.wire.w.inner) c.turn-turned.result.wire.w.unsent =
+    elim c.match-turned.branch [
+      | in-Again w ↦ ap (λ x. append_known (g.Out.Write.contents x.w.inner) x.w.unsent) w.wire-is
+      | in-Reads w ↦ ap (λ x. append_known (g.Out.Write.contents x.w.inner) x.w.unsent) w.wire-is
+    ] in
     subst (λ (l : Option (List ℕ)). Lives c.args.self.now.by.by.events.engine.now.ids g.L.EngineName.recorded (g.C.Clock.Tells c.args.self.now.by.by.clock.now) c.args.self.now.by.by.call begun
     c.turn-turned.new.serving.client.reader.known l c.turn-turned.new.input
     (append_known (g.Out.Write.contents c.match-turned.wire.w.inner) c.match-turned.wire.w.unsent) c.turn-turned.result.stage) (sym left)
