@@ -14,6 +14,7 @@ ghost use Rattle.engine_lock.specs.Entering.{Learns, StaysOut, made_by};
 ghost use Rattle.engine_lock.specs.Locked.{IsNew, left, naming};
 ghost use Rattle.engine_lock.specs.Makings.{event_made, outcome_made};
 
+use crate::known::Known;
 use crate::making::{Made, Making, Makings};
 use crate::opening::EngineName;
 use event_book::{Front, Holder, Listing};
@@ -170,6 +171,25 @@ impl<L: EngineName> Client<L> {
         ensures { AnswersOf (untrimmed (led_to self.now.reader.known)) query.now result }
     {
         self.reader.range(alloc, query)
+    }
+
+    /// The front of all that the client has read or was told of for its reads. Takes no memory, and
+    /// copies a number.
+    pub fn known(&self) -> Known<L>
+        ensures { result ≡ self.now.reader.known }
+    {
+        Known::of(self.reader.known())
+    }
+
+    /// Takes note of what another client of the engine knew ([`Client::known`]): each later reading
+    /// begins with it. Where this client knows more already, nothing changes. Its reading is left. Takes no
+    /// memory, constant time, and waits for nobody.
+    pub fn know(&mut self, known: &Known<L>)
+        ensures knows { IsPrefix known.now self.new.reader.known }
+        ensures begins { IsPrefix self.old.reader.known self.new.reader.known }
+        ensures others { self.new ≡ record (left self.old) { reader = self.new.reader } }
+    {
+        let _knows_more = self.reader.learn(known.front());
     }
 
     /// [`Client::enter`], and lends the client to be read by [`Client::range`]. Once what was lent is

@@ -52,6 +52,7 @@ mod client;
 mod closing;
 pub mod engine;
 mod kept;
+mod known;
 mod making;
 mod noting;
 pub mod opening;
@@ -63,6 +64,7 @@ pub use asked::Asked;
 pub use client::Client;
 pub use closing::CloseFault;
 pub use engine::{Engine, Submitted, locked};
+pub use known::Known;
 pub use opening::{EngineName, Opening};
 pub use taken::Taken;
 

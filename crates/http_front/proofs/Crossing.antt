@@ -16,6 +16,7 @@ use Rattle.http_front.specs.contracts.shared.Shared as Shared
 use Rattle.http_front.specs.contracts.duties.Worked as Worked
 use Rattle.http_peer.proofs.door.Door.TheSendSync as door
 use Rattle.http_front.proofs.handing.Handing.TheSendSync as handing
+use Rattle.http_front.proofs.lines.Lines.TheSendSync as lines
 
 pub shared_sync : (a : NamedLft) (T G C : RattleType) (n : names.Ghosts T.Denot) (b : lists.Ghosts T.Denot) (g : ledger.Ghosts T.Denot)
     → IsSync G → IsSync C → IsSync (Shared.the_row a T G C n b g)
@@ -29,7 +30,7 @@ shared_sync a T G C n b g s u =
           shr_sync _ _ _ u,
           (
             shr_sync _ _ _ listener,
-            (mutex.the_sync Door.the_row door.the_send, (handing.the_field_sync, (flag.the_field_sync, tt))),
+            (mutex.the_sync Door.the_row door.the_send, (lines.the_field_sync T n b g, (handing.the_field_sync, (flag.the_field_sync, tt)))),
           ),
         ),
       ),

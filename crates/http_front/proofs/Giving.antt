@@ -20,7 +20,7 @@ use Rattle.http_loop.specs.declared.answering.Told.{Told}
 use Rattle.http_loop.specs.declared.answering.Told.TheVariants as told
 use Rattle.http_loop.specs.Answered.{AreMessages, Conn, IsAnswered, IsStream, IsStreamOf, IsTold, streamed}
 use Rattle.http_loop.specs.Turned.{NotBegun, Serves, progress}
-use Rattle.http_front.specs.Engines.{Answers, AreMade, AreQuiet, Awaits, Begins, Does, Finishes, Gets, Looks, Says, Starts, Stays, Submits, Tells}
+use Rattle.http_front.specs.Engines.{Answers, AnswersFirst, AreMadeBehind, AreQuiet, Awaits, Begins, Does, Finishes, Gets, Looks, Says, Starts, Stays, Submits, SubmitsFirst, Tells}
 
 -- ---- of any calls
 
@@ -56,15 +56,15 @@ enters ids c d e o x = record {
 module _ (ids : Ids) (recorded : Bool) (At : ℕ → Type 0) (Left : Type 0) where
   -- ---- one call
 
-  made : (c d : Caller) (n : ℕ) → AreMade ids c n d → Gets c d
-  made c _ _ AreMade.none = rests c c refl
-  made c d _ (AreMade.more {n} {d = m} t before h) = both c m d (made c m n before) (enters ids m d _ _ h.enters)
-  made c d _ (AreMade.again {n} {d = m} before h) = both c m d (made c m n before) (shown m d h.0 (ap (λ (c : Caller). c.about) h.1))
+  pub made : (start : ℕ) (c d : Caller) (n : ℕ) → AreMadeBehind ids c start n d → Gets c d
+  made b c _ _ AreMadeBehind.none = rests c c refl
+  made b c d _ (AreMadeBehind.more {n} {d = m} t before h) = both c m d (made b c m n before) (enters ids m d _ _ h.enters)
+  made b c d _ (AreMadeBehind.again {n} {d = m} before h) = both c m d (made b c m n before) (shown m d h.0 (ap (λ (c : Caller). c.about) h.1))
 
   awaits : (s : Submitted) (o : Outcome) (c d : Caller) → Awaits ids s o c d → Gets c d
   awaits s _ c _ (Awaits.at_once h) = rests c c refl
-  awaits s _ c d (Awaits.behind h t) = both c t.from d (made c t.from t.refusals t.made) (enters ids t.from d _ _ t.trims.enters)
-  awaits s _ c d (Awaits.lost h t) = made c d 1000 t
+  awaits s _ c d (Awaits.behind h t) = both c t.from d (made 0 c t.from t.refusals t.made) (enters ids t.from d _ _ t.ends.trims.enters)
+  awaits s _ c d (Awaits.lost h t) = made 0 c d 1000 t
 
   does : (c d : Caller) (asking : Asking) (o : Outcome) → Does ids At c asking o d → Gets c d
   does c d asking o h = both c h.told d (enters ids c h.told _ _ h.submits.enters) (awaits h.submitted o h.told d h.awaits)
@@ -88,6 +88,15 @@ module _ (ids : Ids) (recorded : Bool) (At : ℕ → Type 0) (Left : Type 0) whe
   answers : (c d : Caller) (a : Asked) (o : Outcome) → Answers ids recorded At c a o d → Gets c d
   answers c d a o (inl h) = done c d _ h.command o h.does
   answers c d a o (inr h) = rests c d (ap seen h.same)
+
+  first : (c d : Caller) (asking : Asking) (command : Command) (s : Submitted)
+      → SubmitsFirst ids At c asking s d ⊎ (Looks ids recorded At c command s.outcome d × (s.outcome.waits ≡ false)) → Gets c d
+  first c d asking command s (inl b) = both c b.from d (starts asking.command c b.from b.starts) (enters ids b.from d _ _ b.submits.enters)
+  first c d asking command s (inr l) = done c d asking command s.outcome (inr l.0)
+
+  pub firsts : (c d : Caller) (a : Asked) (s : Submitted) → AnswersFirst ids recorded At c a s d → Gets c d
+  firsts c d a s (inl h) = first c d _ h.command s h.does
+  firsts c d a s (inr h) = rests c d (ap seen h.0.same)
 
   quiet : (n : ℕ) (c d : Caller) → AreQuiet ids n c d → Gets c d
   quiet n c _ AreQuiet.none = rests c c refl

@@ -45,20 +45,30 @@ use Rattle.http_loop.specs.Connections.{path_asked}
 
 -- ---- trimming, for an answer that waits for it
 
--- Trimming steps were made for a client, one after the other, of which the last so many were refused for want of memory.
-pub data AreMade (ids : Ids) (c : Caller) : ℕ → Caller → Type 0 where
-  none : AreMade ids c 0 c
-  more : {n : ℕ} {d later : Caller} (t : Trim) → AreMade ids c n d → TrimsFor ids d t later → AreMade ids c 0 later
-  again : {n : ℕ} {d later : Caller} → AreMade ids c n d → ShowsTo d later → AreMade ids c (n + 1) later
+-- Trimming steps were made for a client, one after the other, of which the last so many were refused for want of memory,
+-- those before them counted, of which there were so many.
+pub data AreMadeBehind (ids : Ids) (c : Caller) (before : ℕ) : ℕ → Caller → Type 0 where
+  none : AreMadeBehind ids c before before c
+  more : {n : ℕ} {d later : Caller} (t : Trim) → AreMadeBehind ids c before n d → TrimsFor ids d t later
+      → AreMadeBehind ids c before 0 later
+  again : {n : ℕ} {d later : Caller} → AreMadeBehind ids c before n d → ShowsTo d later
+      → AreMadeBehind ids c before (n + 1) later
+
+abbrev pub AreMade : Ids → Caller → ℕ → Caller → Type 0
+AreMade ids c = AreMadeBehind ids c 0
+
+-- the last of them said that trimming is done
+pub record Last (ids : Ids) (from later : Caller) : Type 0 where
+  pub last : Trim
+  pub trims : TrimsFor ids from last later
+  pub ends : is_done (told_of last) ≡ true
 
 -- they ended with one that says that trimming is done
 pub record Trims (ids : Ids) (c later : Caller) : Type 0 where
   pub refusals : ℕ
   pub from : Caller
   pub made : AreMade ids c refusals from
-  pub last : Trim
-  pub trims : TrimsFor ids from last later
-  pub ends : is_done (told_of last) ≡ true
+  pub ends : Last ids from later
 
 -- so, or it was given up, after 1,000 refusals in a row
 abbrev pub AreTrimmed : Ids → Bool → Caller → Caller → Type 0
@@ -145,6 +155,14 @@ pub record Submits (ids : Ids) (At : ℕ → Type 0) (c : Caller) (asking : Aski
   pub starts : Starts ids At asking.command c from
   pub does : Does ids At from asking o later
 
+-- It was submitted so, and the trimming that its answer waits for is not done yet.
+pub record SubmitsFirst (ids : Ids) (At : ℕ → Type 0) (c : Caller) (asking : Asking) (s : Submitted) (later : Caller) : Type 0 where
+  pub from : Caller
+  pub starts : Starts ids At asking.command c from
+  pub now : ℕ
+  pub at : At now
+  pub submits : lock.Submits ids from now asking s later
+
 -- It is a Range, and it was read beside the engine.
 pub record Looks (ids : Ids) (recorded : Bool) (At : ℕ → Type 0) (c : Caller) (command : Command) (o : Outcome) (later : Caller) : Type 0 where
   pub query : RangeQuery
@@ -176,6 +194,12 @@ pub record Refused (path body : List ℕ) (c : Caller) (o : Outcome) (later : Ca
 abbrev pub Answers : Ids → Bool → (ℕ → Type 0) → Caller → Asked → Outcome → Caller → Type 0
 Answers ids recorded At c a o later = Did (path_asked a) a.body (λ command. Submits ids At c (asking_by (path_asked a) a.body command) o later
     ⊎ Looks ids recorded At c command o later) ⊎ Refused (path_asked a) a.body c o later
+
+-- the same, but for the trimming that its answer waits for
+abbrev pub AnswersFirst : Ids → Bool → (ℕ → Type 0) → Caller → Asked → Submitted → Caller → Type 0
+AnswersFirst ids recorded At c a s later = Did (path_asked a) a.body (λ command. SubmitsFirst ids At c (asking_by (path_asked a) a.body command) s later
+    ⊎ (Looks ids recorded At c command s.outcome later × (s.outcome.waits ≡ false)))
+    ⊎ (Refused (path_asked a) a.body c s.outcome later × (s.outcome.waits ≡ false))
 
 -- of a script: it was submitted, at the engine's clock, as the moment 0 leaves that
 abbrev pub Posts : Ids → Caller → List ℕ → List ℕ → Outcome → Caller → Type 0

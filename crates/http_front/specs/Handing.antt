@@ -5,17 +5,24 @@ use Rattle.http_head.specs.Requests.{Asked}
 use Rattle.json_gateway.specs.declared.outcome.Outcome.{Outcome}
 use Rattle.engine_lock.specs.Locked as locked
 use Rattle.engine_lock.specs.Locked.{Caller}
+use Rattle.engine_lock.specs.declared.engine.Submitted.{Submitted}
 use Rattle.http_loop.specs.declared.answering.Told.{Told}
 use Rattle.http_loop.specs.declared.answering.Told.TheVariants as told
 use Rattle.http_front.specs.Engines as engines
 
--- a client, and the watch whose stream goes on elsewhere
+-- a client, the watch whose stream goes on elsewhere, and the revision behind the last command
 pub record Hands : Type 0 where
   pub client : Caller
   pub handed : Option ℕ
+  pub revision : ℕ
 
-abbrev pub Answers : Ids → Bool → (ℕ → Type 0) → Hands → Asked → Outcome → Hands → Type 0
-Answers ids recorded At s a o t = engines.Answers ids recorded At s.client a o t.client × (t.handed ≡ s.handed)
+-- what a request comes to, but for the trimming that its answer waits for
+pub record Answers (ids : Ids) (recorded : Bool) (At : ℕ → Type 0) (s : Hands) (a : Asked) (o : Outcome) (t : Hands) : Type 0 where
+  pub submitted : Submitted
+  pub answers : engines.AnswersFirst ids recorded At s.client a submitted t.client
+  pub outcome : o ≡ submitted.outcome
+  pub revision : t.revision ≡ submitted.revision
+  pub handed : t.handed ≡ s.handed
 
 -- a stream goes on elsewhere at once
 abbrev pub Tells : Hands → ℕ → Told → Hands → Type 0

@@ -10,7 +10,7 @@ use std::sync::Wait;
 /// How much a server serves.
 #[derive(Clone, Copy, Debug, PartialEq, Eq)]
 pub struct Limits {
-    /// How many connections at once.
+    /// How many threads give connections their turns.
     pub workers: u64,
     /// How many in all, at most 2^63 - 1.
     pub connections: u64,

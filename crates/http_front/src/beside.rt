@@ -38,6 +38,7 @@ pub(crate) fn looked<L: EngineName, G: Gate, C: Clock, R: Wait>(
     requires { C.Tells clock.now now }
     ensures looks { IfSome result (λ o. Looks events.now.engine.now.ids L.recorded (C.Tells clock.now)
         client.old command.now o client.new) }
+    ensures ready { IfSome result (λ o. o.waits ≡ false) }
     ensures none { IfNone result (Starts events.now.engine.now.ids (C.Tells clock.now) command.now
         client.old client.new) }
 {
@@ -69,6 +70,7 @@ fn looked_up<L: EngineName, G: Gate, C: Clock, R: Wait>(
     requires { C.Tells clock.now now }
     ensures looks { IfSome result (λ o. LooksUp events.now.engine.now.ids L.recorded (C.Tells clock.now)
         client.old query.now o client.new) }
+    ensures ready { IfSome result (λ o. o.waits ≡ false) }
     ensures none { IfNone result
         (Stays events.now.engine.now.ids (C.Tells clock.now) client.old client.new) }
 {
@@ -124,6 +126,7 @@ fn read_beside<L: EngineName>(
     ids: &Ids,
 ) -> Option<Outcome>
     ensures reads { IfSome result (λ o. Reads ids.now client.old query.now o client.new) }
+    ensures ready { IfSome result (λ o. o.waits ≡ false) }
     ensures none { IfNone result (client.new ≡ left client.old) }
 {
     if client.enter().is_err() {

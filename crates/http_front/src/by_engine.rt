@@ -1,8 +1,10 @@
 //! An engine answers a connection, on behalf of one of its clients.
-ghost use Rattle.std.specs.Prelude.{◌≡◌, ◌⊎◌, None, MatchOption};
+ghost use Rattle.std.specs.Prelude.{◌≡◌, ◌⊎◌, None, false, MatchOption};
 ghost use Rattle.json_gateway.specs.Endings.{Refuses, fault_of_reading, is_want};
 ghost use Rattle.http_front.specs.Engines as engines;
-ghost use Rattle.http_front.specs.Engines.{AreTrimmed, Awaits, Does, IsQuiet, Looks, Posts, Says, Submits, lost_answer};
+ghost use Rattle.http_input.specs.Inputs.{request_view};
+ghost use Rattle.http_front.specs.Engines.{AnswersFirst, AreTrimmed, Awaits, Does, IsQuiet, Looks, Posts, Says};
+ghost use Rattle.http_front.specs.Engines.{SubmitsFirst, lost_answer};
 
 use crate::beside::looked;
 use crate::directed::Standing;
@@ -21,7 +23,7 @@ use std::{thread, time};
 const WATCH_REST: u64 = 20;
 
 /// After so many refusals of a trimming step in a row the answer that waits for it is lost.
-const MOST_REFUSALS: u64 = 1000;
+pub(crate) const MOST_REFUSALS: u64 = 1000;
 
 /// What answers a connection: an engine, which others change too, for one of its clients.
 #[derive(Drop)]
@@ -51,16 +53,8 @@ where
 
     /// Does the command that a request asks for, once the gate lets it, at the clock's moment.
     fn answer(&self, alloc: Global, state: &mut Client<L>, request: &Request<'_>) -> Outcome {
-        self.events.gate.before(self.call);
-        let path = command_path(request);
-        match read(alloc, path, request.body) {
-            Ok(command) => {
-                let now = self.clock.now();
-                let asked = Asked::by(&command, path, request.body);
-                done(&self.events, self.clock, alloc, state, now, &asked)
-            }
-            Err(bad) => refused(alloc, bad),
-        }
+        let submitted = self.begin(alloc, state, request);
+        awaited(&self.events, state, submitted)
     }
 
     /// The next message of a watch. It rests where there is none, or where no memory was found for
@@ -86,6 +80,70 @@ where
     }
 }
 
+impl<'e, L, G, C, R> ByEngine<'e, L, G, C, R>
+where
+    L: EngineName,
+    G: Gate,
+    C: Clock,
+    R: Wait + time::Clock,
+{
+    /// Does the command that a request asks for, as [`Answering::answer`] does, but for the trimming
+    /// that its answer waits for, where its outcome says that it waits.
+    pub(crate) fn begin(
+        &self,
+        alloc: Global,
+        client: &mut Client<L>,
+        request: &Request<'_>,
+    ) -> Submitted
+        ensures { AnswersFirst self.now.events.engine.now.ids L.recorded (C.Tells self.now.clock.now)
+            client.old (request_view request.now) result client.new }
+    {
+        self.events.gate.before(self.call);
+        let path = command_path(request);
+        match read(alloc, path, request.body) {
+            Ok(command) => {
+                let now = self.clock.now();
+                let asked = Asked::by(&command, path, request.body);
+                begun(&self.events, self.clock, alloc, client, now, &asked)
+            }
+            Err(bad) => at_once(refused(alloc, bad)),
+        }
+    }
+}
+
+/// Does the command that a request asks for, at the moment `now`, which the clock told: reads a Range
+/// beside the engine where it can be, and else submits it. The trimming that its answer waits for is not
+/// done.
+fn begun<L: EngineName, G: Gate, C: Clock, R: Wait>(
+    events: &Recorded<'_, L, G, R>,
+    clock: &C,
+    alloc: Global,
+    client: &mut Client<L>,
+    now: u64,
+    asked: &Asked<'_>,
+) -> Submitted
+    requires { C.Tells clock.now now }
+    ensures { SubmitsFirst events.now.engine.now.ids (C.Tells clock.now) client.old asked.now result client.new
+        ⊎ (Looks events.now.engine.now.ids L.recorded (C.Tells clock.now) client.old asked.now.command
+        result.outcome client.new × (result.outcome.waits ≡ false)) }
+{
+    match looked(events, clock, alloc, client, now, asked.command()) {
+        Some(outcome) => at_once(outcome),
+        None => events.submit(client, now, asked),
+    }
+}
+
+/// What a request came to that made no change.
+fn at_once(outcome: Outcome) -> Submitted
+    ensures { result.outcome ≡ outcome }
+{
+    Submitted {
+        outcome,
+        published: true,
+        revision: 0,
+    }
+}
+
 /// What the stream of a watch is told next; `None` where it is told nothing, or no memory was found.
 fn told_next<L: EngineName, G: Gate, R: Wait>(
     events: &Recorded<'_, L, G, R>,
@@ -108,6 +166,7 @@ fn refused(alloc: Global, bad: Bad) -> Outcome
     ensures refuses { Refuses result.settled (is_want bad) (fault_of_reading bad) }
     ensures watch { result.watch ≡ None }
     ensures raised { result.raised ≡ None }
+    ensures ready { result.waits ≡ false }
 {
     Outcome {
         settled: dismissed(alloc, bad),
@@ -115,27 +174,6 @@ fn refused(alloc: Global, bad: Bad) -> Outcome
         watch: None,
         waits: false,
     }
-}
-
-/// Does the command that a request asks for, at the moment `now`, which the clock told: reads a Range
-/// beside the engine where it can be, and else submits it.
-fn done<L: EngineName, G: Gate, C: Clock, R: Wait>(
-    events: &Recorded<'_, L, G, R>,
-    clock: &C,
-    alloc: Global,
-    client: &mut Client<L>,
-    now: u64,
-    asked: &Asked<'_>,
-) -> Outcome
-    requires { C.Tells clock.now now }
-    ensures { Submits events.now.engine.now.ids (C.Tells clock.now) client.old asked.now result client.new
-        ⊎ Looks events.now.engine.now.ids L.recorded (C.Tells clock.now) client.old asked.now.command
-        result client.new }
-{
-    if let Some(outcome) = looked(events, clock, alloc, client, now, asked.command()) {
-        return outcome;
-    }
-    performed(events, clock, client, now, asked)
 }
 
 /// Does what a POST of this body to this path asks for on behalf of a client, as an event of a script

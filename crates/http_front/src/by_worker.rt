@@ -1,13 +1,17 @@
 //! An engine answers a connection whose streams go on elsewhere.
-ghost use Rattle.std.specs.Prelude.{◌≡◌, None};
+ghost use Rattle.std.specs.Prelude.{◌≡◌, ◌<◌, None};
+ghost use Rattle.engine_lock.specs.Locked.{naming};
 ghost use Rattle.http_front.specs.Handing as handing;
+ghost use Rattle.http_front.specs.Lines.{TrimsSome};
 
 use crate::by_engine::ByEngine;
+use crate::trimming::{Trimmed, trim_some};
 use engine_lock::{Client, EngineName};
 use http_input::Request;
 use http_loop::{Answering, Told};
 use http_peer::{Clock, Gate};
 use json_gateway::Outcome;
+use recorded_engine::Recorded;
 use std::alloc::Global;
 use std::marker::Model;
 use std::sync::Wait;
@@ -18,6 +22,8 @@ use std::time;
 pub(crate) struct Serving<L: EngineName> {
     pub(crate) client: Client<L>,
     pub(crate) handed: Option<u64>,
+    /// The store's revision behind the last request.
+    pub(crate) revision: u64,
 }
 
 impl<L: EngineName> Model for Serving<L> {
@@ -30,23 +36,46 @@ impl<L: EngineName> Model for Serving<L> {
 
     ghost coded = { Prim.hlevel (codes, commands.the_row.coded, reads.the_row.coded) };
 
-    ghost view = { λ s. record { client = s.client; handed = s.handed } };
+    ghost view = { λ s. record { client = s.client; handed = s.handed; revision = s.revision } };
 }
 
 impl<L: EngineName> Serving<L> {
     /// Nothing goes on elsewhere yet.
     pub(crate) fn new(client: Client<L>) -> Self
-        ensures { result ≡ record { client = client; handed = None } }
+        ensures { result ≡ record { client = client; handed = None; revision = 0 } }
     {
         Serving {
             client,
             handed: None,
+            revision: 0,
         }
+    }
+
+    /// Begins with a connection of this number: each next event is about it, and no stream of it goes on
+    /// elsewhere yet.
+    pub(crate) fn begin(&mut self, call: u64)
+        ensures { self.new ≡ record self.old { client = naming self.old.client call; handed = None } }
+    {
+        self.client.set_about(call);
+        self.handed = None;
+    }
+
+    /// Makes at most 100 trimming steps, as [`trim_some`] does.
+    pub(crate) fn trim<G: Gate, R: Wait>(
+        &mut self,
+        events: &Recorded<'_, L, G, R>,
+        refusals: u64,
+    ) -> Trimmed
+        requires { refusals < 1000 }
+        ensures trims { TrimsSome events.now.engine.now.ids self.old.client refusals result self.new.client }
+        ensures rest { self.new ≡ record self.old { client = self.new.client } }
+    {
+        trim_some(events, &mut self.client, refusals)
     }
 }
 
 /// What answers a connection, as [`ByEngine`] does, but for its streams: behind the created message
-/// such a one goes on elsewhere.
+/// such a one goes on elsewhere; and but for answers that wait for trimming: that is not done here.
 #[derive(Drop)]
 pub(crate) struct ByWorker<'e, L: EngineName, G, C, R> {
     pub(crate) by: ByEngine<'e, L, G, C, R>,
@@ -69,8 +98,11 @@ where
         Answering::<Client<L>>::awaits(&self.by);
     }
 
+    /// The trimming that an outcome waits for is not done yet.
     fn answer(&self, alloc: Global, state: &mut Serving<L>, request: &Request<'_>) -> Outcome {
-        self.by.answer(alloc, &mut state.client, request)
+        let submitted = self.by.begin(alloc, &mut state.client, request);
+        state.revision = submitted.revision;
+        submitted.outcome
     }
 
     /// The stream goes on elsewhere.

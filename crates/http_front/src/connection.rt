@@ -8,11 +8,8 @@ ghost use Rattle.http_loop.specs.Texts.{IsOfConnection};
 ghost use Rattle.http_loop.specs.Turned.{NotBegun, Serves, progress};
 ghost use Rattle.engine_lock.specs.Locked.{Caller, naming};
 ghost use Rattle.http_front.specs.Engines.{Answers, Finishes, Gets, Tells};
-ghost use Rattle.http_front.specs.Handing as handing;
-ghost use Rattle.http_front.specs.Handing.{Hands};
 
 use crate::by_engine::ByEngine;
-use crate::by_worker::{ByWorker, Serving};
 use engine_lock::{Client, Engine, EngineName};
 use http_loop::serve_all;
 use http_peer::{Clock, Gate};
@@ -81,45 +78,4 @@ where
     };
     client.set_about(call);
     serve_all(alloc, &by, client, r, w, u64::MAX)
-}
-
-/// As [`work`], for a client whose streams go on elsewhere: behind the created message of a watch
-/// nothing more is written, the connection is left, and the watch stands, whose number `serving` then
-/// has.
-pub(crate) fn work_on<L, G, C, R, In, Out>(
-    rt: &R,
-    alloc: Global,
-    engine: &Engine<L>,
-    serving: &mut Serving<L>,
-    gate: &G,
-    clock: &C,
-    call: u64,
-    r: &mut Counted<In>,
-    w: &mut Counted<Out>,
-) -> Result<u64, Front>
-where
-    L: EngineName,
-    G: Gate,
-    C: Clock,
-    R: Wait + time::Clock,
-    In: Read,
-    Out: Write,
-    ensures serves { NotBegun (handing.naming serving.old call) serving.new
-        (Out.contents (inner_of w.old)) (Out.contents (inner_of w.new)) result
-        ⊎ Serves Hands (IsAnswered Hands (handing.Answers engine.now.ids L.recorded (C.Tells clock.now)) handing.Tells (handing.Finishes engine.now.ids))
-        18446744073709551615
-        (progress (handing.naming serving.old call) (In.remaining (inner_of r.old)) [] (Out.contents (inner_of w.old)))
-        (Out.contents (inner_of w.new)) serving.new result }
-    ensures reader { failures_of r.new ≡ failures_after_read result (failures_of r.old) }
-    ensures writer { failures_of w.new ≡ failures_after result (failures_of w.old) }
-    ensures fault { IfErr result IsOfConnection }
-{
-    let events = Recorded { rt, engine, gate };
-    let by = ByEngine {
-        events,
-        clock,
-        call,
-    };
-    serving.client.set_about(call);
-    serve_all(alloc, &ByWorker { by }, serving, r, w, u64::MAX)
 }

@@ -8,26 +8,23 @@ use crate::duties::Duty;
 use crate::handing::Waking;
 use crate::shared::Shared;
 use crate::threads::{
-    Keeping, Served, clients_of, closed, join_all, join_streaming, keeping_of, start, start_all,
-    with_client,
+    Keeping, Served, clients_of, closed, join_all, join_streaming, keeping_of, lines_of, start,
+    start_all, with_client,
 };
 use engine_lock::{Client, Engine, EngineName};
 use http_peer::{Clock, Gate};
 use http_reply::Front;
 use request_core::store::Core;
 use std::alloc::Global;
-use std::net::{IpAddr, Ipv4Addr, Ipv6Addr, Net, SocketAddr, TcpListener, TcpStream};
+use std::net::{Net, TcpListener};
 use std::sync::Wait;
 use std::sync::atomic::Ordering;
 use std::thread::{Scope, Threads};
 use std::time::Duration;
 use std::{thread, time};
 
-/// How often the worker that accepts is woken, until one connection came in.
-const WAKES: u64 = 10;
-
-/// How long one of these waits for the connection, in milliseconds.
-const WAKE_WAIT: u64 = 100;
+/// How long a look at the connections is before the next one where the server ends, in milliseconds.
+const LAST_REST: u64 = 20;
 
 /// Who runs a server by hand.
 pub trait Directing<L: EngineName> {
@@ -95,8 +92,13 @@ where
         Ok(made) => made,
         Err(front) => return Err(front),
     };
+    let lines = match lines_of(rt, alloc, listener, limits.workers) {
+        Ok(lines) => lines,
+        Err(front) => return Err(front),
+    };
     let connections = limits.connections;
-    let shared = Shared::new(&engine, gate, &Standing, listener, connections, handing);
+    let clock = &Standing;
+    let shared = Shared::new(&engine, gate, clock, listener, connections, lines, handing);
     let beside = Directed { client, keeping };
     let Served { clients, trouble } = run_directed(rt, alloc, &shared, clients, beside, director);
     drop(shared);
@@ -161,33 +163,24 @@ where
     }
     shared.ended.store(true, Ordering::SeqCst);
     shared.handing.wake();
-    wake(rt, shared.listener);
+    end_lines(rt, shared);
     let served = join_all(rt, alloc, working, trouble);
     let served = join_streaming(rt, shared, served, keeper);
     with_client(served, client)
 }
 
-/// Wakes the worker that waits for a connection, by one. Where none can be made, many others wait at
-/// the listener, and no worker waits for them.
-fn wake<R: Net>(rt: &R, listener: &TcpListener) {
-    let Ok(address) = listener.local_addr() else {
-        return;
-    };
-    let address = reachable(address);
-    for _ in 0..WAKES {
-        let came = TcpStream::connect_timeout(rt, &address, Duration::from_millis(WAKE_WAIT));
-        if came.is_ok() {
-            return;
+/// Lets no further connection in, and waits until all have ended: each ends after the request that it is
+/// in, and those of which no byte of a next request has come at once.
+fn end_lines<L: EngineName, G, C, R: Wait + time::Clock>(rt: &R, shared: &Shared<'_, L, G, C>) {
+    let mut door = shared.door.lock(rt);
+    door.shut();
+    drop(door);
+    shared.lines.shut();
+    for _ in rt.forever() {
+        shared.lines.look_at_end(rt);
+        if shared.lines.is_empty() {
+            break;
         }
+        thread::sleep(rt, Duration::from_millis(LAST_REST));
     }
-}
-
-/// An address by which this machine reaches a listener that listens there.
-fn reachable(address: SocketAddr) -> SocketAddr {
-    let ip = match address.ip() {
-        IpAddr::V4(ip) if ip.is_unspecified() => IpAddr::V4(Ipv4Addr::LOCALHOST),
-        IpAddr::V6(ip) if ip.is_unspecified() => IpAddr::V6(Ipv6Addr::LOCALHOST),
-        ip => ip,
-    };
-    SocketAddr::new(ip, address.port())
 }

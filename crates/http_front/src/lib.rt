@@ -6,15 +6,14 @@
 //! change too: it writes the texts of exactly the outcomes of the events that were made for its client,
 //! one for each request that was read, or of what that client read beside the engine, and nothing besides
 //! (`specs/Engines.antt`). Both are the one loop of
-//! `http_loop`. [`pool`] accepts the connections of a listener and serves each on a thread of its
-//! own by [`work`], beside a thread that trims and one that ends leases; when all have ended it
+//! `http_loop`. [`pool`] accepts the connections of a listener, of which any of some threads gives any
+//! its turns that is ready, beside a thread that trims and one that ends leases; when all have ended it
 //! closes the engine and gives its core, which stands for the world that the history of all that was done
 //! leads to, or the fault is one of servers.
 //!
 //! A [`Gate`] holds requests back for tests, is told where a request is waited for, and knows
-//! whether a client has left; a [`Clock`] tells the moments by which leases end. The gate and the
-//! reader that `pool` hands in look at the peer (`http_peer`), so that no client keeps a worker for
-//! nothing.
+//! whether a client has left; a [`Clock`] tells the moments by which leases end. A connection
+//! that waits is a value (`Line` of `line.rt`), and no client keeps a worker.
 //!
 //! [`pool_directed`] serves without the two threads beside the connections, until somebody ends it
 //! ([`Directing`]).
@@ -31,6 +30,7 @@
 //! The tests stand in the crate `server_tests`.
 #![tactic(auto)]
 
+mod awaiting;
 mod background;
 mod begun;
 mod beside;
@@ -40,9 +40,16 @@ mod connection;
 mod directed;
 mod duties;
 mod handing;
+mod life;
+mod line;
+mod lines;
 mod shared;
+mod slots;
+mod spare;
 mod streaming;
 mod threads;
+mod trimming;
+mod turns;
 mod workers;
 
 pub use begun::{Begun, Limits};

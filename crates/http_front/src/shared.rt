@@ -2,6 +2,7 @@
 ghost use Rattle.std.specs.Prelude.{◌≡◌};
 
 use crate::handing::Handing;
+use crate::lines::Lines;
 use engine_lock::{Engine, EngineName};
 use http_peer::Door;
 use recorded_engine::Recorded;
@@ -18,10 +19,12 @@ pub(crate) struct Shared<'s, L: EngineName, G, C> {
     pub(crate) listener: &'s TcpListener,
     /// Under which a worker accepts a connection.
     pub(crate) door: Mutex<Door>,
+    /// The connections that stand.
+    pub(crate) lines: Lines<L>,
     /// By which streams that have begun are handed over.
     pub(crate) handing: Handing,
-    /// Whether the server ends: no further connection is let in, each worker ends after the request
-    /// that it is in, and so do the threads beside them. Without a director it is set once the workers
+    /// Whether the server ends: no further connection is let in, each ends after the request that it
+    /// is in, and the threads beside the workers end. Without a director it is set once the workers
     /// have ended.
     pub(crate) ended: AtomicBool,
 }
@@ -34,6 +37,7 @@ impl<'s, L: EngineName, G, C> Shared<'s, L, G, C> {
         clock: &'s C,
         listener: &'s TcpListener,
         connections: u64,
+        lines: Lines<L>,
         handing: Handing,
     ) -> Self {
         Shared {
@@ -42,6 +46,7 @@ impl<'s, L: EngineName, G, C> Shared<'s, L, G, C> {
             clock,
             listener,
             door: Mutex::new(Door::new(connections)),
+            lines,
             handing,
             ended: AtomicBool::new(false),
         }

@@ -281,8 +281,10 @@ impl<'s, L: EngineName, G: Gate, C, R: Wait + time::Clock> Keeper<'s, L, G, C, R
         engine.behind(self.rt, &mut self.watching.now.due);
     }
 
-    /// Once a second each is looked at of which something has not gone out: those that take nothing end.
+    /// Once a second each is looked at of which something has not gone out, and each connection: those
+    /// that take nothing end.
     fn look(&mut self) {
+        self.shared.lines.look(self.rt);
         self.find_behind();
         let _ = self.streams.numbers(&mut self.watching.all);
         for _ in 0..MOST_AT_ONCE {

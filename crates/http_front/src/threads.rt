@@ -8,6 +8,7 @@ ghost use Rattle.http_front.specs.Ends.{IsOfServer, fault_of};
 use crate::begun::{Begun, Limits};
 use crate::duties::{Duty, Worked, keep};
 use crate::handing::Handing;
+use crate::lines::Lines;
 use crate::shared::Shared;
 use crate::streaming::Watching;
 use engine_lock::{Client, Engine, EngineName};
@@ -25,26 +26,25 @@ use std::{thread, time};
 /// core: there is one history of events, each of one of some clients; the core stands for the world that
 /// it leads to, and its revision is 1 plus all changes that these clients made (`IsClosed`).
 ///
-/// It runs `workers` threads, each with one connection at a time, to that connection's end or until the
-/// stream of a watch has begun on it; one thread that looks after all such streams; one that trims; and
-/// one that ends leases. A worker accepts under a lock, which is free again before the connection is
-/// served. Once `connections` of them were accepted, at most 2^63 - 1, no
-/// further one is; the server ends when all of them have.
+/// It runs `workers` threads, of which any gives any connection its turns that is ready, until the
+/// connection's end or until the stream of a watch has begun on it; one thread that looks after all such
+/// streams; one that trims; and one that ends leases. Once `connections` of them were accepted, at most
+/// 2^63 - 1, no further one is; the server ends when all of them have. As many wait at the listener as
+/// the system allows; where it has no file for one, they wait until a connection ends.
 ///
-/// No client keeps a worker for nothing. A connection on which no byte of a next request has come
-/// for a second is closed, between requests, where another one waits and no worker is free. The stream
-/// of a watch keeps none: what its client sends after the request is thrown away, it ends once that has
-/// ended its sending side, and a message is made only once the one before has gone out. A write of which
-/// no byte is taken for 10 s fails, and ends the connection. A client that has begun a request, be it as slow as it will, keeps its own worker.
+/// No client keeps a worker: a request is answered once all of it is there, and what a client does not
+/// take waits for it, while none of its further requests is read. A connection is never closed for being idle;
+/// it ends where its client takes no byte of what waits for it for 10 s. An answer that waits for trimming
+/// keeps no worker either. The stream of a watch keeps none: what its client sends after the request is
+/// thrown away, it ends once that has ended its sending side, and a message is made only once the one
+/// before has gone out. Want of memory for a connection ends that connection alone.
 ///
 /// Fails, when all threads have ended, with
 ///
 /// - `Front::Memory`, where the lists of clients and of threads find no memory: no connection is
 ///   accepted then, unless it was the list of the clients that came back at the end;
-/// - `Front::Spawn`, where a thread could not be started, or the system has no file for the set of
-///   streams: none is accepted then, either;
-/// - `Front::Accept`, where an accept failed; the worker that made it has ended there, and the
-///   others went on;
+/// - `Front::Spawn`, where a thread could not be started, or the system has no file for the sets of
+///   connections and streams: none is accepted then, either;
 /// - `Front::Unclosed`, where the engine has no place for a client of each worker and three more, or
 ///   where it made clients beside these, which cannot come back.
 pub fn pool<L, G, C, R>(
@@ -110,7 +110,12 @@ where
         Ok(made) => made,
         Err(front) => return Err(front),
     };
-    let shared = Shared::new(&engine, gate, clock, listener, limits.connections, handing);
+    let lines = match lines_of(rt, alloc, listener, limits.workers) {
+        Ok(lines) => lines,
+        Err(front) => return Err(front),
+    };
+    let connections = limits.connections;
+    let shared = Shared::new(&engine, gate, clock, listener, connections, lines, handing);
     let beside = Beside {
         trimmer,
         expirer,
@@ -152,6 +157,21 @@ pub(crate) fn keeping_of<L: EngineName, R: Wait + Net>(
     };
     match Watching::new(rt, alloc) {
         Ok((watching, handing)) => Ok((Keeping { client, watching }, handing)),
+        Err(_) => Err(Front::Spawn),
+    }
+}
+
+/// What the workers wait with.
+pub(crate) fn lines_of<L: EngineName, R: Net>(
+    rt: &R,
+    alloc: Global,
+    listener: &TcpListener,
+    workers: u64,
+) -> Result<Lines<L>, Front>
+    ensures fault { IfErr result IsOfServer }
+{
+    match Lines::new(rt, alloc, listener, workers) {
+        Ok(lines) => Ok(lines),
         Err(_) => Err(Front::Spawn),
     }
 }
@@ -341,6 +361,9 @@ where
     let trouble = if all { trouble } else { Some(Trouble::Spawn) };
     if trouble.is_some() {
         guard.shut();
+    }
+    if guard.is_shut() {
+        shared.lines.shut();
     }
     drop(guard);
     (working, trouble)

@@ -50,6 +50,11 @@ impl Buffer {
         self.end - self.start
     }
 
+    /// Its room in bytes, with that of the bytes.
+    pub(crate) fn room(&self) -> usize {
+        self.room.len()
+    }
+
     /// Lets the first bytes go. Takes no memory, and moves none.
     pub(crate) fn skip(&mut self, count: usize)
         requires { count ≤ length (items self.old) }

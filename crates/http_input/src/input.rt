@@ -92,6 +92,11 @@ impl Input {
         self.len() == 0
     }
 
+    /// Its room in bytes, with that of the bytes that wait. Takes no memory.
+    pub fn room(&self) -> usize {
+        self.buffer.room()
+    }
+
     /// Reads until there is a whole head; `None` where the input ends before a first byte.
     fn next_head<R: Read>(&mut self, r: &mut Counted<R>) -> Result<Option<Head>, Front>
         ensures kept { Extends self.old self.new }

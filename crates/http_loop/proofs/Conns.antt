@@ -8,6 +8,7 @@ use Rattle.http_reply.specs.declared.front.Front.TheVariants as front
 use Rattle.http_loop.specs.declared.writing.Turn.{Turn}
 use Rattle.http_loop.specs.declared.writing.Turn.TheVariants as turn
 use Rattle.http_loop.specs.Answered.{Conn}
+use Rattle.http_loop.specs.Stepped.{ReadsOn}
 use Rattle.http_loop.specs.Texts.{Grows, replies_more}
 use Rattle.http_loop.specs.Turned.{Begins, Ends, Gave, MayHaveAfter, NotBegun, Serves, SoFar, Turned, Turns, progress}
 use Rattle.http_loop.proofs.Texts.{by_both, by_none, seen_as, wrote_none}
@@ -25,7 +26,7 @@ more_twice n m (Err f) = refl
 -- ---- the bytes of a reader
 
 -- what it still has, where it tells that, and else nothing
-abbrev rest_of : Option (List ℕ) → List ℕ
+abbrev pub rest_of : Option (List ℕ) → List ℕ
 rest_of None = []
 rest_of (Some xs) = xs
 
@@ -37,7 +38,7 @@ may_rest : (a : Option (List ℕ)) → MayHave a (rest_of a)
 may_rest None = tt
 may_rest (Some xs) = refl
 
-may_end : (a : Option (List ℕ)) (r : Result Turn Front) → MayHaveAfter a r (rest_of a)
+pub may_end : (a : Option (List ℕ)) (r : Result Turn Front) → MayHaveAfter a r (rest_of a)
 may_end (Some xs) r = refl
 may_end None (Ok turn.More) = tt
 may_end None (Ok turn.Last) = refl
@@ -49,7 +50,7 @@ may_more None b came later g m = tt
 may_more (Some xs) None came later g m = absurd g
 may_more (Some xs) (Some ys) came later g m = ap (λ l. came ++ l) m ∙ sym g
 
-gave_none : (a : Option (List ℕ)) → Gave a [] a
+pub gave_none : (a : Option (List ℕ)) → Gave a [] a
 gave_none None = tt
 gave_none (Some xs) = refl
 
@@ -83,7 +84,7 @@ module _ (S : Type 0) (Is : S → Asked → List ℕ → S → Result Bool Front
 
   -- ---- runs of turns
 
-  begins_none : (s : S) (bytes : List ℕ) → Begins S Is s bytes 0 bytes s []
+  pub begins_none : (s : S) (bytes : List ℕ) → Begins S Is s bytes 0 bytes s []
   begins_none s bytes k more u r x = named s bytes u k (0 + k) more more r (replies_more 0 r) (omega arith) refl (no_more r) x
 
   module _ (s : S) (bytes left : List ℕ) (n : ℕ) (t : S) (x : List ℕ) (g : Begins S Is s bytes n left t x) where
@@ -125,6 +126,23 @@ module _ (S : Type 0) (Is : S → Asked → List ℕ → S → Result Bool Front
         (seen_as c c' (λ out. (later : List ℕ) → MayHave b later → Begins S Is s (p ++ (f.came ++ later)) n (q ++ later) t out)
         (λ out. Conn S Is s (p ++ (f.came ++ rest_of b)) most out t (Ok n))
         (λ x h. ends_here s (p ++ (f.came ++ rest_of b)) (q ++ rest_of b) n t x (h (rest_of b) (may_rest b)) most (omega (arith, l, m))) f.begun)
+
+    -- more bytes were read, and no request was there whole
+    pub reads_on : (d : Option (List ℕ)) (o : List ℕ) (c'' : Option (List ℕ)) (u : S) → ReadsOn S (progress t b q c') (progress u d o c'')
+        → SoFar S Is n (progress s a p c) (progress u d o c'')
+    reads_on d o c'' u k = record {
+      came = f.came ++ k.came;
+      gave = gave_more a b d f.came k.came f.gave k.gave;
+      begun = by_both c c' c'' (λ out. (later : List ℕ) → MayHave b later → Begins S Is s (p ++ (f.came ++ later)) n (q ++ later) t out)
+          (λ out. out ≡ [])
+          (λ out. (later : List ℕ) → MayHave d later → Begins S Is s (p ++ ((f.came ++ k.came) ++ later)) n (o ++ later) u out)
+          (λ x y h e later m. subst (λ (out : List ℕ). Begins S Is s (p ++ ((f.came ++ k.came) ++ later)) n (o ++ later) u out) (sym (ap (λ y. x ++ y) e ∙ append-nil x))
+          (subst (λ (u : S). Begins S Is s (p ++ ((f.came ++ k.came) ++ later)) n (o ++ later) u x) (sym k.state)
+          (subst (λ (rest : List ℕ). Begins S Is s (p ++ ((f.came ++ k.came) ++ later)) n rest t x) (sym (append_assoc q k.came later) ∙ ap (λ l. l ++ later) (sym k.pending))
+          (subst (λ (bytes : List ℕ). Begins S Is s (p ++ bytes) n (q ++ (k.came ++ later)) t x) (sym (append_assoc f.came k.came later))
+          (h (k.came ++ later) (may_more b d k.came later k.gave m)))))) f.begun
+          (record { out = []; wrote = k.quiet; are = refl });
+    }
 
     module _ (d : Option (List ℕ)) (o : List ℕ) (c'' : Option (List ℕ)) (u : S) where
       -- one turn more

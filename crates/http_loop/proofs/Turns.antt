@@ -5,7 +5,7 @@ use Rattle.std.proofs.lemmas.List.{append_cancel_left}
 use Rattle.std.specs.Io.KnownBytes.{Appends}
 use Rattle.http_head.specs.declared.head.Head.{Head}
 use Rattle.http_head.specs.Heads.{Fault, Names, bad_head, bad_length, too_long, window}
-use Rattle.http_head.specs.Requests.{Asked, IsCut}
+use Rattle.http_head.specs.Requests.{Asked, IsCut, ReadsAsked}
 use Rattle.http_input.specs.Inputs.{Came, Extends, IsWhole, Says, Took, asked_of, failures_after_read}
 use Rattle.http_input.proofs.Told.{says}
 use Rattle.http_reply.specs.declared.front.Front.{Front}
@@ -16,23 +16,23 @@ use Rattle.http_loop.specs.declared.writing.Turn.{Turn}
 use Rattle.http_loop.specs.declared.writing.Turn.TheVariants as turn
 use Rattle.http_loop.specs.Answered.{Conn}
 use Rattle.http_loop.specs.Texts.{Declines, Grows, IsSent, end_of, front_of, turn_of}
-use Rattle.http_loop.specs.Turned.{Ends, Gave, MayHaveAfter, Turned, Turns, progress}
+use Rattle.http_loop.specs.Turned.{Gave, IsTurn, MayHaveAfter, Progress, Turned, Turns, TurnsOnce, progress}
 use Rattle.http_loop.proofs.Texts.{by_none, seen_as, silent}
 
 -- ---- what was read
 
 -- bytes that go on where the others end were given
-gave : (left left' : Option (List ℕ)) (p q : List ℕ) → (k : Extends p q) → Took left left' p q → Gave left k.more left'
+pub gave : (left left' : Option (List ℕ)) (p q : List ℕ) → (k : Extends p q) → Took left left' p q → Gave left k.more left'
 gave None left' p q k t = tt
 gave (Some xs) None p q k t = t
 gave (Some xs) (Some ys) p q k t = append_cancel_left p xs (k.more ++ ys) (t ∙ ap (λ l. l ++ ys) k.is ∙ append_assoc p k.more ys)
 
 -- the whole is what stands in the buffer and what comes
-whole : (p q : List ℕ) (k : Extends p q) (later : List ℕ) → p ++ (k.more ++ later) ≡ q ++ later
+pub whole : (p q : List ℕ) (k : Extends p q) (later : List ℕ) → p ++ (k.more ++ later) ≡ q ++ later
 whole p q k later = sym (append_assoc p k.more later) ∙ ap (λ l. l ++ later) (sym k.is)
 
 -- a turn that ends the connection
-abbrev IsLastTurn : Result Turn Front → Type 0
+abbrev pub IsLastTurn : Result Turn Front → Type 0
 IsLastTurn (Ok turn.More) = ⊥
 IsLastTurn _ = ⊤
 
@@ -60,92 +60,115 @@ came_some None q later r (Ok turn.Last) l m h = nothing q later r m h
 came_some None q later r (Ok turn.End) l m h = nothing q later r m h
 came_some None q later r (Err f) l m h = nothing q later r m h
 
+-- ---- one turn
+
+module _ (S : Type 0) (Is : S → Asked → List ℕ → S → Result Bool Front → Type 0) where
+  -- whatever follows it, it is the first of
+  turned : (s t : S) (bytes left : List ℕ) (y : Result Turn Front) (out : List ℕ) → IsTurn S Is s bytes left t y out → Turned S Is s bytes left t y out
+  turned s t bytes left y out (IsTurn.answered a (Ok true) h i) = λ l. Conn.closing l a left h i
+  turned s t bytes left y out (IsTurn.answered a (Ok false) h i) = λ k more u r m. Conn.more k a h i m
+  turned s t bytes left y out (IsTurn.answered a (Err f) h i) = λ l. Conn.broken l a left h i
+  turned s t bytes left y out (IsTurn.ended e) = λ l. subst (λ (bytes : List ℕ). Conn S Is s bytes (1 + l) [] s (Ok 0)) (sym e) (Conn.at_end l)
+  turned s t bytes left y out (IsTurn.within h) = λ l. Conn.within l h
+  turned s t bytes left y out (IsTurn.unanswered f r n i) = λ l. Conn.unanswered l f r n i
+  turned s t bytes left y out (IsTurn.unread) = λ l. Conn.unread l
+  turned s t bytes left y out (IsTurn.unheld h) = λ l. Conn.unheld l h
+
+  pub turns : (old new : Progress S) (y : Result Turn Front) → TurnsOnce S Is old new y → Turns S Is old new y
+  turns old new y k = record {
+    came = k.came;
+    gave = k.gave;
+    turned = seen_as old.wrote new.wrote
+        (λ out. (later : List ℕ) → MayHaveAfter new.left y later → IsTurn S Is old.state (old.pending ++ (k.came ++ later)) (new.pending ++ later) new.state y out)
+        (λ out. (later : List ℕ) → MayHaveAfter new.left y later → Turned S Is old.state (old.pending ++ (k.came ++ later)) (new.pending ++ later) new.state y out)
+        (λ out f later m. turned old.state new.state (old.pending ++ (k.came ++ later)) (new.pending ++ later) y out (f later m)) k.turn;
+  }
+
 module _ (S : Type 0) (Is : S → Asked → List ℕ → S → Result Bool Front → Type 0) (s t : S) (left left' : Option (List ℕ)) (p q : List ℕ) (k : Extends p q)
     (took : Took left left' p q) where
   -- a request was read: the bytes begin with it
   module _ (q' : List ℕ) (x : Head) (o : Option Head) (e : o ≡ Some x) (h : Came left' q (Ok o))
       (skipped : q' ≡ drop (x.len + x.body) q) (a : Asked) (is : a ≡ asked_of q x) (c c' : Option (List ℕ)) where
-    pub asked : (r : Result Bool Front) (y : Result Turn Front) → y ≡ turn_of r → Grows c c' (λ out. Is s a out t r) → Turns S Is (progress s left p c) (progress t left' q' c') y
-    asked r y f g = subst (λ (y : Result Turn Front). Turns S Is (progress s left p c) (progress t left' q' c') y) (sym f)
-        (subst (λ (k : List ℕ). Turns S Is (progress s left p c) (progress t left' k c') (turn_of r)) (sym skipped)
+    found : IsWhole q x
+    found = subst (λ (o : Option Head). Came left' q (Ok o)) e h
+
+    -- and it is the request
+    pub reads : (later : List ℕ) → ReadsAsked (p ++ (k.more ++ later)) a (q' ++ later)
+    reads later = subst (λ (l : List ℕ). ReadsAsked (p ++ (k.more ++ later)) a (l ++ later)) (sym skipped)
+        (subst (λ (a : Asked). ReadsAsked (p ++ (k.more ++ later)) a (drop (x.len + x.body) q ++ later)) (sym is)
+        (says (p ++ (k.more ++ later)) q later (Ok (Some x)) (whole p q k later) found).1)
+
+    pub asked : (r : Result Bool Front) (y : Result Turn Front) → y ≡ turn_of r → Grows c c' (λ out. Is s a out t r)
+        → TurnsOnce S Is (progress s left p c) (progress t left' q' c') y
+    asked r y f g = subst (λ (y : Result Turn Front). TurnsOnce S Is (progress s left p c) (progress t left' q' c') y) (sym f)
         (record {
           came = k.more;
           gave = gave left left' p q k took;
-          turned = seen_as c c' (λ out. Is s (asked_of q x) out t r)
-              (λ out. (later : List ℕ) → MayHaveAfter left' (turn_of r) later
-              → Turned S Is s (p ++ (k.more ++ later)) (drop (x.len + x.body) q ++ later) t (turn_of r) out)
-              (λ out i later m. one (p ++ (k.more ++ later)) later (says (p ++ (k.more ++ later)) q later (Ok (Some x)) (whole p q k later) found) r out i)
-              (subst (λ (a : Asked). Grows c c' (λ out. Is s a out t r)) is g);
-        }))
-      where
-        found : IsWhole q x
-        found = subst (λ (o : Option Head). Came left' q (Ok o)) e h
-
-        one : (bytes rest : List ℕ) → Says bytes q rest (Ok (Some x)) → (r : Result Bool Front) (out : List ℕ) → Is s (asked_of q x) out t r
-            → Turned S Is s bytes (drop (x.len + x.body) q ++ rest) t (turn_of r) out
-        one bytes rest h (Ok true) out i = λ l. Conn.closing l (asked_of q x) (drop (x.len + x.body) q ++ rest) h.1 i
-        one bytes rest h (Ok false) out i = λ k more u r m. Conn.more k (asked_of q x) h.1 i m
-        one bytes rest h (Err f) out i = λ l. Conn.broken l (asked_of q x) (drop (x.len + x.body) q ++ rest) h.1 i
+          turn = seen_as c c' (λ out. Is s a out t r)
+              (λ out. (later : List ℕ) → MayHaveAfter left' (turn_of r) later → IsTurn S Is s (p ++ (k.more ++ later)) (q' ++ later) t (turn_of r) out)
+              (λ out i later m. IsTurn.answered a r (reads later) i) g;
+        })
 
   -- the input has ended
-  pub ended : (c : Option (List ℕ)) (o : Option Head) → o ≡ None → Came left' q (Ok o) → Turns S Is (progress s left p c) (progress s left' q c) (Ok turn.End)
+  pub ended : (c : Option (List ℕ)) (o : Option Head) → o ≡ None → Came left' q (Ok o) → TurnsOnce S Is (progress s left p c) (progress s left' q c) (Ok turn.End)
   ended c o e h = record {
     came = k.more;
     gave = gave left left' p q k took;
-    turned = by_none c (λ out. (later : List ℕ) → MayHaveAfter left' (Ok turn.End) later → Ends S Is s (p ++ (k.more ++ later)) s (Ok 0) out)
-        (λ later m l.
-        let none = says (p ++ (k.more ++ later)) q later (Ok None) (whole p q k later)
-        (came_some left' q later (Ok None) (Ok turn.End) tt m (subst (λ (o : Option Head). Came left' q (Ok o)) e h)) in
-        subst (λ (bytes : List ℕ). Conn S Is s bytes (1 + l) [] s (Ok 0)) (sym none.0) (Conn.at_end l));
+    turn = by_none c (λ out. (later : List ℕ) → MayHaveAfter left' (Ok turn.End) later → IsTurn S Is s (p ++ (k.more ++ later)) (q ++ later) s (Ok turn.End) out)
+        (λ later m. IsTurn.ended (says (p ++ (k.more ++ later)) q later (Ok None) (whole p q k later)
+        (came_some left' q later (Ok None) (Ok turn.End) tt m (subst (λ (o : Option Head). Came left' q (Ok o)) e h))).0);
   }
 
   -- the bytes begin with no request
   module _ (c c' : Option (List ℕ)) (m m' : ℕ) (end : Front) where
+    -- what was written says so of all of them, whatever is left
+    abbrev Refused : (List ℕ → Type 0) → Type 0
+    Refused Are = Grows c c' (λ out. (bytes later : List ℕ) → Are bytes → IsTurn S Is s bytes later s (Err end) out)
+
     -- a fault that is told of
-    refused : (f : Fault) → Declines (front_of f) c c' m m' end → Grows c c' (λ out. (bytes : List ℕ) → Names f (window bytes) → Ends S Is s bytes s (Err end) out)
+    refused : (f : Fault) → Declines (front_of f) c c' m m' end → Refused (λ bytes. Names f (window bytes))
     refused f d = record {
       out = d.out;
       wrote = d.wrote;
-      are = λ bytes n l. subst (λ (e : Front). Conn S Is s bytes (1 + l) d.out s (Err e)) (sym d.ends) (Conn.unanswered l f d.sending n d.sent);
+      are = λ bytes later n. subst (λ (e : Front). IsTurn S Is s bytes later s (Err e) d.out) (sym d.ends) (IsTurn.unanswered f d.sending n d.sent);
     }
 
     -- an end without words
-    unsaid : (x : Front) (Are : List ℕ → Type 0) → refusal_bytes x ≡ [] → ((bytes : List ℕ) → Are bytes → (l : ℕ) → Conn S Is s bytes (1 + l) [] s (Err x))
-        → Declines x c c' m m' end → Grows c c' (λ out. (bytes : List ℕ) → Are bytes → Ends S Is s bytes s (Err end) out)
+    unsaid : (x : Front) (Are : List ℕ → Type 0) → refusal_bytes x ≡ [] → ((bytes later : List ℕ) → Are bytes → IsTurn S Is s bytes later s (Err x) [])
+        → Declines x c c' m m' end → Refused Are
     unsaid x Are none k d =
         let quiet = silent (refusal_bytes x) d.out x d.sending none d.sent in
         record {
           out = [];
           wrote = subst (Appends c c') quiet.0 d.wrote;
-          are = λ bytes i l. subst (λ (e : Front). Conn S Is s bytes (1 + l) [] s (Err e)) (sym (d.ends ∙ quiet.1)) (k bytes i l);
+          are = λ bytes later i. subst (λ (e : Front). IsTurn S Is s bytes later s (Err e) []) (sym (d.ends ∙ quiet.1)) (k bytes later i);
         }
 
-    -- a statement of the bytes alone is one of what is later, too
-    any : (Are : List ℕ → Type 0) → Grows c c' (λ out. (bytes : List ℕ) → Are bytes → Ends S Is s bytes s (Err end) out)
-        → Grows c c' (λ out. (bytes later : List ℕ) → Are bytes → Ends S Is s bytes s (Err end) out)
-    any Are = seen_as c c' (λ out. (bytes : List ℕ) → Are bytes → Ends S Is s bytes s (Err end) out)
-        (λ out. (bytes later : List ℕ) → Are bytes → Ends S Is s bytes s (Err end) out) (λ out f bytes later i. f bytes i)
+    -- whatever comes later
+    behind : (Are : List ℕ → Type 0) → Refused Are → Grows c c' (λ out. (bytes later rest : List ℕ) → Are bytes → IsTurn S Is s bytes rest s (Err end) out)
+    behind Are = seen_as c c' (λ out. (bytes rest : List ℕ) → Are bytes → IsTurn S Is s bytes rest s (Err end) out)
+        (λ out. (bytes later rest : List ℕ) → Are bytes → IsTurn S Is s bytes rest s (Err end) out) (λ out f bytes later rest i. f bytes rest i)
 
     no_request : (x : Front) → Came left' q (Err x) → Declines x c c' m m' end
-        → Grows c c' (λ out. (bytes later : List ℕ) → Says bytes q later (Err x) → Ends S Is s bytes s (Err end) out)
-    no_request front.Head h d = any (λ bytes. Names bad_head (window bytes)) (refused bad_head d)
-    no_request front.Length h d = any (λ bytes. Names bad_length (window bytes)) (refused bad_length d)
-    no_request front.TooLong h d = any (λ bytes. Names too_long (window bytes)) (refused too_long d)
-    no_request front.Read h d = any (λ bytes. ⊤) (unsaid front.Read (λ bytes. ⊤) refl (λ bytes i l. Conn.unread l) d)
-    no_request front.End h d = any IsCut (unsaid front.End IsCut refl (λ bytes i l. Conn.within l i) d)
-    no_request front.Memory h d = any (λ bytes. 16384 ≤ length bytes) (unsaid front.Memory (λ bytes. 16384 ≤ length bytes) refl (λ bytes i l. Conn.unheld l i) d)
+        → Grows c c' (λ out. (bytes later rest : List ℕ) → Says bytes q later (Err x) → IsTurn S Is s bytes rest s (Err end) out)
+    no_request front.Head h d = behind (λ bytes. Names bad_head (window bytes)) (refused bad_head d)
+    no_request front.Length h d = behind (λ bytes. Names bad_length (window bytes)) (refused bad_length d)
+    no_request front.TooLong h d = behind (λ bytes. Names too_long (window bytes)) (refused too_long d)
+    no_request front.Read h d = behind (λ bytes. ⊤) (unsaid front.Read (λ bytes. ⊤) refl (λ bytes rest i. IsTurn.unread) d)
+    no_request front.End h d = behind IsCut (unsaid front.End IsCut refl (λ bytes rest i. IsTurn.within i) d)
+    no_request front.Memory h d = behind (λ bytes. 16384 ≤ length bytes) (unsaid front.Memory (λ bytes. 16384 ≤ length bytes) refl (λ bytes rest i. IsTurn.unheld i) d)
     no_request (front.Write n) h d = absurd h
     no_request front.Spawn h d = absurd h
     no_request front.Accept h d = absurd h
     no_request front.Unclosed h d = absurd h
 
-    pub declined : (x : Front) → Came left' q (Err x) → Declines x c c' m m' end → Turns S Is (progress s left p c) (progress s left' q c') (Err end)
+    pub declined : (x : Front) → Came left' q (Err x) → Declines x c c' m m' end → TurnsOnce S Is (progress s left p c) (progress s left' q c') (Err end)
     declined x h d = record {
       came = k.more;
       gave = gave left left' p q k took;
-      turned = seen_as c c' (λ out. (bytes later : List ℕ) → Says bytes q later (Err x) → Ends S Is s bytes s (Err end) out)
-          (λ out. (later : List ℕ) → MayHaveAfter left' (Err end) later → Ends S Is s (p ++ (k.more ++ later)) s (Err end) out)
-          (λ out f later m. f (p ++ (k.more ++ later)) later (says (p ++ (k.more ++ later)) q later (Err x) (whole p q k later)
+      turn = seen_as c c' (λ out. (bytes later rest : List ℕ) → Says bytes q later (Err x) → IsTurn S Is s bytes rest s (Err end) out)
+          (λ out. (later : List ℕ) → MayHaveAfter left' (Err end) later → IsTurn S Is s (p ++ (k.more ++ later)) (q ++ later) s (Err end) out)
+          (λ out f later m. f (p ++ (k.more ++ later)) later (q ++ later) (says (p ++ (k.more ++ later)) q later (Err x) (whole p q k later)
           (came_some left' q later (Err x) (Err end) tt m h))) (no_request x h d);
     }
 

@@ -7,6 +7,8 @@
 //! read, a write or memory failed: which replies went out, and of which text exactly how long a
 //! beginning.
 //!
+//! A connection that waits between its requests goes by single steps, [`take_step`].
+//!
 //! A core of `request_core` is one who answers. Over it the loop is [`serve_alone`]: what is
 //! written is what the model of the whole history answers the bytes that were read, however the
 //! reads cut them, and the core then stands for the model's world (`Conn` in
@@ -30,10 +32,12 @@ mod alone;
 mod answering;
 pub mod laws;
 mod serving;
+mod stepping;
 mod streaming;
 mod writing;
 
 pub use alone::serve_alone;
 pub use answering::{Answering, Told};
 pub use serving::serve_all;
-pub use writing::command_path;
+pub use stepping::{Step, Waiting, end_wait, take_step};
+pub use writing::{Turn, command_path};

@@ -124,14 +124,14 @@ fn take_turn<S, A: Answering<S>, R: Read, W: Write>(
 }
 
 /// Tells whoever answers where no byte of the next request has come.
-fn await_next<S, A: Answering<S>>(by: &A, input: &Input) {
+pub(crate) fn await_next<S, A: Answering<S>>(by: &A, input: &Input) {
     if input.is_empty() {
         by.awaits();
     }
 }
 
 /// Lets a request go that was answered: the bytes after it are the next one's.
-fn pass(input: &mut Input, head: Head)
+pub(crate) fn pass(input: &mut Input, head: Head)
     requires { IsWhole input.old head }
     ensures { input.new ≡ drop (head.len + head.body) input.old }
 {
@@ -160,7 +160,7 @@ fn answer<S, A: Answering<S>, W: Write>(
 }
 
 /// Writes what a request is answered: its reply, or the stream of the watch that it made.
-fn reply<S, A: Answering<S>, W: Write>(
+pub(crate) fn reply<S, A: Answering<S>, W: Write>(
     alloc: Global,
     by: &A,
     state: &mut S,

@@ -2,28 +2,40 @@
 //!
 //! A [`Gate`] holds requests back for tests, is told where a request is waited for, and knows
 //! whether a client has left, and whether events are written down; a [`Clock`] tells the moments by
-//! which leases end. A [`Door`] lets connections in one at a time, counts them, and keeps one that
-//! came while every worker was taken. A [`Peer`] is the client at the other end of a connection:
-//! [`Coming`] and [`Going`] read and write for it, and [`PeerGate`] is a gate that looks at it, so
-//! that no client keeps a worker for nothing.
+//! which leases end. A [`Door`] lets connections in one at a time, and counts them. [`Coming`] reads and
+//! [`Going`] writes by a reader or writer that does not wait, as a [`Socket`]: what it does not take is
+//! [`Unsent`]. A [`Set`] tells the threads of a server which sockets are ready, each to one of them.
 //!
-//! The one contract is the door's: connections have the numbers 1, 2, 3 and so on, in the order in
-//! which they came in, and none more than the limit. What is done at which moment no clause says;
-//! a caller is `http_front`:
+//! Proved is that connections have the numbers 1, 2, 3 and so on, in the order in which they came in,
+//! and none more than the limit; and, of any reader and writer that tells its bytes, that none is lost,
+//! made or moved on its way: what a writer has and then what is unsent grows by just what is written.
+//! What a socket takes and gives, and what is done at which moment, no clause says; a caller is
+//! `http_front`:
 //!
 //! ```text
 //! let (call, stream) = door.next(&listener)?;          // under a lock, which is free again then
-//! let peer = Peer::new(&stream, &listener, &door, &ended);
-//! work(.., &PeerGate { gate, peer: &peer }, .., Coming { peer: &peer }, Going { peer: &peer })
+//! set.add(socket, name, Wish::Read);
+//! let name = set.next();                               // any thread
+//! take_step(.., Coming { inner: Socket::new(&stream), dry }, Going { inner: Socket::new(&stream), unsent })
+//! Socket::new(&stream).send(unsent)                    // until it is true
+//! set.ask(socket, name, Wish::Read);
 //! ```
 //!
-//! When a peer is idle, has left or does not read is tested alone, in `tests/http`.
+//! Which sockets are ready is tested alone, in `tests/http`.
 #![tactic(auto)]
 
 mod door;
 mod gate;
 mod peer;
+mod set;
+mod socket;
+#[cfg(test)]
+mod tests;
+mod unsent;
 
 pub use door::{Door, MOST_CONNECTIONS};
 pub use gate::{Clock, Gate, OpenGate, Takes};
-pub use peer::{Coming, Going, Peer, PeerGate};
+pub use peer::{Coming, Going};
+pub use set::{Ready, Set, Wish, open_listener};
+pub use socket::{Socket, open_peer};
+pub use unsent::Unsent;

@@ -1,234 +1,134 @@
-//! The client at the other end of a connection: whether it has left, and whether it keeps a worker
-//! for nothing.
-ghost use Rattle.std.specs.Io.{ReadsAtMost};
+//! The client at the other end of a connection, whose socket does not wait.
+ghost use Rattle.std.specs.Prelude.{nat_eq, ◌≡◌, ◌≢◌, ◌++◌, ◌<◌, ◌≤◌, [], true, false, length, Err, IfOk, IfErr, IsErrAnd, IsOk, OnErr};
+ghost use Rattle.std.specs.Io.{ReadsAtMost, WritesAtMost};
+ghost use Rattle.std.specs.Io.KnownBytes.{Appends, Keeps, ReadConsumes, WriteAppends, append_known};
+ghost use Rattle.std.specs.IoError.{error_kind};
+ghost use Rattle.http_peer.specs.Reads.{IsDry};
+ghost use Rattle.http_peer.specs.Sent.{GoesOut, KeepsRest, taken};
 
-use crate::door::Door;
-use crate::gate::{Gate, Takes};
+use crate::socket::write_now;
+use crate::unsent::Unsent;
+use std::alloc::AllocError;
 use std::io;
 use std::io::{ErrorKind, Read, Write};
-use std::net::{TcpListener, TcpStream};
-use std::sync::Mutex;
-use std::sync::atomic::{AtomicBool, Ordering};
-use std::time::Duration;
 
-/// How long a read waits for a byte before the worker looks whether it is wanted, in milliseconds.
-const READ_WAIT: u64 = 100;
-
-/// After so many such waits in a row without a byte a connection is idle: after a second.
-const IDLE_WAITS: u64 = 10;
-
-/// How long a write waits for room for a byte before it is made again, in milliseconds.
-const WRITE_WAIT: u64 = 1000;
-
-/// After so many such waits in a row a write fails: after ten seconds without a byte taken.
-const MOST_WRITE_WAITS: u64 = 10;
-
-/// How many bytes are thrown away at once.
-const WASTE: usize = 4096;
-
-/// How many reads throw bytes away before a stream goes on.
-const MOST_WASTED: u64 = 256;
-
-/// The client of a connection.
+/// What comes from the client of a connection, as far as it is there, by a reader that fails with
+/// `WouldBlock` where nothing is.
+///
+/// A read that fails since nothing is there loses nothing, and `dry` tells it from one that failed. A
+/// read that does not fill its room has taken all that was there, so `dry` spares the next one; where
+/// more came meanwhile, or the client has ended, the reader tells so once it is asked for again.
 #[derive(Drop)]
-pub struct Peer<'s> {
-    stream: &'s TcpStream,
-    listener: &'s TcpListener,
-    door: &'s Mutex<Door>,
-    /// Whether the server ends.
-    ended: &'s AtomicBool,
-    /// Whether no byte of the next request has come.
-    awaits: AtomicBool,
+pub struct Coming<R> {
+    /// Its reader.
+    pub inner: R,
+    /// Whether nothing more is there, as far as it is known.
+    pub dry: bool,
 }
 
-impl<'s> Peer<'s> {
-    /// The client at the other end of a stream, which came in by this door. From then on a read of
-    /// the stream waits for 100 ms, and a write for a second; where the system refuses that, for
-    /// ever.
-    pub fn new(
-        stream: &'s TcpStream,
-        listener: &'s TcpListener,
-        door: &'s Mutex<Door>,
-        ended: &'s AtomicBool,
-    ) -> Self {
-        // Without it a reply may wait for the peer to take note of the one before.
-        let _ = stream.set_nodelay(true);
-        let _ = stream.set_read_timeout(Some(Duration::from_millis(READ_WAIT)));
-        let _ = stream.set_write_timeout(Some(Duration::from_millis(WRITE_WAIT)));
-        Peer {
-            stream,
-            listener,
-            door,
-            ended,
-            awaits: AtomicBool::new(false),
-        }
-    }
+impl<R: Read> Read for Coming<R> {
+    ghost remaining = { λ c. R.remaining c.inner };
 
-    /// Whether the client has ended its sending side, or the connection is broken. What it sent is
-    /// thrown away, a mebibyte at most. Waits for nothing.
-    fn has_left(&self) -> bool {
-        if self.stream.set_nonblocking(true).is_err() {
-            return false;
-        }
-        let left = self.is_at_end();
-        let _ = self.stream.set_nonblocking(false);
-        left
-    }
-
-    /// The same, where a read does not wait.
-    fn is_at_end(&self) -> bool {
-        let mut waste = [0; WASTE];
-        let mut stream = self.stream;
-        for _ in 0..MOST_WASTED {
-            match stream.read(&mut waste) {
-                Ok(0) => return true,
-                Ok(_) => {}
-                Err(error) => return !has_waited(&error),
-            }
-        }
-        false
-    }
-
-    /// A read that does not wait.
-    fn read_at_once(&self, buf: &mut [u8]) -> io::Result<usize>
-        ensures { ReadsAtMost result buf.new }
+    fn read(&mut self, buf: &mut [u8]) -> io::Result<usize>
+        ensures bound { ReadsAtMost result buf.new }
+        ensures bytes { ReadConsumes (R.remaining self.old.inner) (R.remaining self.new.inner) result buf.new }
+        ensures spared { self.old.dry ≡ true → (self.new.inner ≡ self.old.inner)
+            × (self.new.dry ≡ true) × (buf.new ≡ buf.old)
+            × IsErrAnd result (λ e. error_kind e ≡ ErrorKind.WouldBlock) }
+        ensures dry { self.old.dry ≡ false
+            → IsDry (λ e. error_kind e ≡ ErrorKind.WouldBlock) result (length buf.new) self.new.dry }
     {
-        self.stream.set_nonblocking(true)?;
-        let mut stream = self.stream;
-        let came = stream.read(buf);
-        self.stream.set_nonblocking(false)?;
+        if self.dry {
+            return Err(io::Error::from(ErrorKind::WouldBlock));
+        }
+        let came = self.inner.read(buf);
+        self.dry = match &came {
+            Ok(count) => *count > 0 && *count < buf.len(),
+            Err(error) => error.kind() == ErrorKind::WouldBlock,
+        };
         came
     }
-
-    /// Whether the server ends.
-    fn is_ending(&self) -> bool {
-        self.ended.load(Ordering::SeqCst)
-    }
-
-    /// Whether the connection is to end, after so many waits in a row without a byte; `awaits` tells
-    /// whether no byte of the next request has come. Where the server ends it is between requests at
-    /// once, and within one once it is idle; else it is between requests once it is idle, and another
-    /// client waits for a worker, and none is free.
-    fn is_over(&self, awaits: bool, waits: u64) -> bool {
-        let is_idle = waits >= IDLE_WAITS;
-        if self.is_ending() {
-            return awaits || is_idle;
-        }
-        awaits && is_idle && self.is_in_the_way()
-    }
-
-    /// Whether another client waits for a worker, and none is free.
-    fn is_in_the_way(&self) -> bool {
-        match self.door.try_lock() {
-            Some(door) => {
-                let mut door = door;
-                door.is_wanted(self.listener)
-            }
-            // A worker waits there.
-            None => false,
-        }
-    }
 }
 
-/// Whether a read or a write ended since no byte could come or go, or a signal came.
-fn has_waited(error: &io::Error) -> bool {
-    matches!(error.kind(), ErrorKind::WouldBlock | ErrorKind::Interrupted)
-}
-
-/// A gate that knows the client of its connection, too. Where the server ends, every client has left.
+/// What goes to the client of a connection, by a writer that fails with `WouldBlock` where it takes
+/// nothing: what it does not take at once is kept, behind what was kept before, until [`Unsent::send`]
+/// has it go out. So a write takes all, or it fails; where no memory is found for the rest of one of
+/// which some went out, it takes those.
 #[derive(Drop)]
-pub struct PeerGate<'p, 's, G> {
-    /// The gate of the server, which is told of the same, and asked.
-    pub gate: &'p G,
-    /// The client of the connection.
-    pub peer: &'p Peer<'s>,
+pub struct Going<W> {
+    /// Its writer.
+    pub inner: W,
+    /// What has not gone out.
+    pub unsent: Unsent,
 }
 
-impl<'p, 's, G: Gate> Gate for PeerGate<'p, 's, G> {
-    fn before(&self, call: u64) {
-        self.gate.before(call);
-    }
-
-    fn after(&self, call: u64) {
-        self.gate.after(call);
-    }
-
-    fn awaits(&self, call: u64) {
-        self.gate.awaits(call);
-        self.peer.awaits.store(true, Ordering::SeqCst);
-    }
-
-    fn has_left(&self, call: u64) -> bool {
-        self.peer.is_ending() || self.peer.has_left() || self.gate.has_left(call)
-    }
-
-    fn changed(&self) {
-        self.gate.changed();
-    }
-
-    fn is_recorded(&self) -> bool {
-        self.gate.is_recorded()
-    }
-
-    fn recorded<T: Takes>(&self, lines: &T) {
-        self.gate.recorded(lines);
+impl<W: Write> Going<W> {
+    /// Has as much go out as its writer takes, as [`Unsent::send`] does: true where that was all. What has
+    /// gone out with what is kept is what it was.
+    pub fn send(&mut self) -> io::Result<bool>
+        ensures same { Appends (append_known (W.contents self.old.inner) self.old.unsent)
+            (append_known (W.contents self.new.inner) self.new.unsent) [] }
+        ensures told { IfOk result (λ all. all ≡ nat_eq (length self.new.unsent) 0) }
+    {
+        self.unsent.send(&mut self.inner)
     }
 }
 
-/// What comes from the client of a connection. A signal ends no read. It ends, too, where no byte of a next request has
-/// come for a second, and another client waits for a worker, and none is free; and where the server
-/// ends, between requests, or within one once no byte of it has come for a second.
-#[derive(Drop)]
-pub struct Coming<'p, 's> {
-    /// The client.
-    pub peer: &'p Peer<'s>,
-}
+impl<W: Write> Write for Going<W> {
+    ghost contents = { λ g. append_known (W.contents g.inner) g.unsent };
 
-impl<'p, 's> Read for Coming<'p, 's> {
-    fn read(&mut self, buf: &mut [u8]) -> io::Result<usize> {
-        let awaits = self.peer.awaits.swap(false, Ordering::SeqCst);
-        if awaits && self.peer.is_ending() {
-            return Ok(0);
+    fn write(&mut self, buf: &[u8]) -> io::Result<usize>
+        ensures bound { WritesAtMost result buf.now }
+        ensures bytes { WriteAppends (append_known (W.contents self.old.inner) self.old.unsent)
+            (append_known (W.contents self.new.inner) self.new.unsent) result buf.now }
+        ensures goes { GoesOut (W.contents self.old.inner) (W.contents self.new.inner)
+            (self.old.unsent ++ taken result buf.now) self.new.unsent }
+        ensures behind { self.old.unsent ≢ [] → (self.new.inner ≡ self.old.inner)
+            × (self.new.unsent ≡ self.old.unsent ++ taken result buf.now)
+            × IfErr result (λ e. error_kind e ≡ ErrorKind.OutOfMemory) }
+        ensures all { IfOk result (λ n. n < length buf.now → (0 < n) × (self.new.unsent ≡ [])) }
+        ensures kept { OnErr result (self.new.unsent ≡ self.old.unsent) }
+        ensures fault { IfErr result (λ e. error_kind e ≢ ErrorKind.WouldBlock) }
+    {
+        if !self.unsent.is_empty() {
+            return keep_rest(&mut self.unsent, buf, Ok(0));
         }
-        let mut stream = self.peer.stream;
-        for waits in 1..u64::MAX {
-            match stream.read(buf) {
-                Err(error) if has_waited(&error) => {}
-                came => return came,
-            }
-            if self.peer.is_over(awaits, waits) {
-                break;
-            }
-        }
-        // A byte that came before another client was let in is answered.
-        match self.peer.read_at_once(buf) {
-            Err(error) if error.kind() == ErrorKind::WouldBlock => Ok(0),
-            came => came,
-        }
-    }
-}
-
-/// What goes to the client of a connection. A signal ends no write. A write fails, too, where no byte has been taken for ten
-/// seconds.
-#[derive(Drop)]
-pub struct Going<'p, 's> {
-    /// The client.
-    pub peer: &'p Peer<'s>,
-}
-
-impl<'p, 's> Write for Going<'p, 's> {
-    fn write(&mut self, buf: &[u8]) -> io::Result<usize> {
-        let mut stream = self.peer.stream;
-        for _ in 0..MOST_WRITE_WAITS {
-            match stream.write(buf) {
-                Err(error) if has_waited(&error) => {}
-                went => return went,
-            }
-        }
-        Err(io::Error::from(ErrorKind::TimedOut))
+        let made = write_now(&mut self.inner, buf);
+        keep_rest(&mut self.unsent, buf, made)
     }
 
-    fn flush(&mut self) -> io::Result<()> {
+    /// Does nothing: what is kept waits for [`Unsent::send`].
+    fn flush(&mut self) -> io::Result<()>
+        ensures bytes { Keeps (append_known (W.contents self.old.inner) self.old.unsent)
+            (append_known (W.contents self.new.inner) self.new.unsent) }
+        ensures ok { IsOk result }
+        ensures kept { (self.new.inner ≡ self.old.inner)
+            × (self.new.unsent ≡ self.old.unsent) }
+    {
         Ok(())
+    }
+}
+
+/// Keeps what a write of some bytes did not take. Gives how many of them it took or are kept: all, or,
+/// where no memory is found for the rest, those that it took. Fails with `OutOfMemory` where that is
+/// none, and as the write did.
+fn keep_rest(unsent: &mut Unsent, bytes: &[u8], made: io::Result<usize>) -> io::Result<usize>
+    requires { WritesAtMost made bytes.now }
+    ensures ok { IfOk made (λ gone. IfOk result (λ n. KeepsRest n gone bytes.now unsent.old unsent.new)) }
+    ensures err { IfOk made (λ gone. OnErr result ((gone ≡ 0) × (unsent.new ≡ unsent.old))) }
+    ensures memory { IfOk made (λ gone. IfErr result (λ e. error_kind e ≡ ErrorKind.OutOfMemory)) }
+    ensures fault { IfErr made (λ e. (result ≡ Err e) × (unsent.new ≡ unsent.old)) }
+{
+    let gone = match made {
+        Ok(gone) => gone,
+        Err(error) => return Err(error),
+    };
+    if gone == bytes.len() {
+        return Ok(gone);
+    }
+    match unsent.keep(&bytes[gone..]) {
+        Ok(()) => Ok(bytes.len()),
+        Err(AllocError) if gone > 0 => Ok(gone),
+        Err(AllocError) => Err(io::Error::from(ErrorKind::OutOfMemory)),
     }
 }

@@ -40,6 +40,13 @@ impl ReplyBuffer {
         })
     }
 
+    /// Its room in bytes.
+    pub fn room(&self) -> usize
+        ensures { result ≡ self.now }
+    {
+        self.text.capacity()
+    }
+
     /// Writes the pieces, one after the other, as one text.
     pub(crate) fn send<W: Write>(
         &mut self,
