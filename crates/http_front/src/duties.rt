@@ -12,7 +12,7 @@ use std::time;
 /// What a thread does.
 #[derive(Drop)]
 pub(crate) enum Duty {
-    /// Serves one connection after the other.
+    /// Gives connections their turns, whichever is ready.
     Work,
     /// Makes trimming steps.
     Trim,
