@@ -8,7 +8,7 @@ use Rattle.event_book.specs.Events.{Event}
 use Rattle.engine_lock.specs.Entering.{EntersAlone}
 use Rattle.engine_lock.specs.Locked.{Caller, IsNew}
 use Rattle.http_front.specs.Ends.{IsOfServer}
-use Rattle.http_front.specs.Engines.{Posts}
+use Rattle.http_connections.specs.Engines.{Posts}
 use Rattle.commands.specs.Playing.{PlaysLines, StopsPlaying}
 use Rattle.commands.specs.declared.fault.Fault.{Fault}
 use Rattle.commands.specs.declared.fault.Fault.TheVariants as fault

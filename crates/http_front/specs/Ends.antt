@@ -9,12 +9,10 @@ use Rattle.http_reply.specs.declared.front.Front.TheVariants as front
 abbrev pub IsOfServer : Front → Type 0
 IsOfServer front.Memory = ⊤
 IsOfServer front.Spawn = ⊤
-IsOfServer front.Accept = ⊤
 IsOfServer front.Unclosed = ⊤
 IsOfServer _ = ⊥
 
 -- what went wrong with a server, as the fault that it ends with
 abbrev pub fault_of : Trouble → Front
 fault_of trouble.Spawn = front.Spawn
-fault_of trouble.Accept = front.Accept
 fault_of trouble.Memory = front.Memory

@@ -4,12 +4,12 @@ ghost use Rattle.trim_core.specs.declared.trimmer.Trim.{Trim as TrimOf};
 ghost use Rattle.kv_model.specs.declared.refusal.Refusal.{Refusal as RefusalOf};
 ghost use Rattle.request_core.specs.declared.answer.Expiry.{Expiry as ExpiryOf};
 ghost use Rattle.engine_lock.specs.Entering.{MayTrim, SubmitsExpiry};
-ghost use Rattle.http_front.specs.Engines.{has_ended, is_last};
+ghost use Rattle.http_front.specs.Background.{has_ended, is_last};
 
-use crate::handing::Waking;
-use crate::shared::Shared;
 use engine_lock::{Client, EngineName};
 use http_peer::{Clock, Gate};
+use http_streams::Waking;
+use http_workers::Shared;
 use json_gateway::{Expiry, Refusal, Trim};
 use recorded_engine::Recorded;
 use std::sync::Wait;

@@ -5,15 +5,16 @@ ghost use Rattle.http_front.specs.Ends.{IsOfServer};
 
 use crate::begun::{Begun, Limits};
 use crate::duties::Duty;
-use crate::handing::Waking;
-use crate::shared::Shared;
 use crate::threads::{
     Keeping, Served, clients_of, closed, join_all, join_streaming, keeping_of, lines_of, start,
     start_all, with_client,
 };
 use engine_lock::{Client, Engine, EngineName};
-use http_peer::{Clock, Gate};
+use http_connections::StoppedClock;
+use http_peer::Gate;
 use http_reply::Front;
+use http_streams::Waking;
+use http_workers::Shared;
 use request_core::store::Core;
 use std::alloc::Global;
 use std::net::{Net, TcpListener};
@@ -32,21 +33,6 @@ pub trait Directing<L: EngineName> {
     /// engine came with, and the gate that is to be told of its events. The server ends when this
     /// returns.
     fn direct<G: Gate>(&mut self, engine: &Engine<L>, client: &mut Client<L>, gate: &G);
-}
-
-/// A clock that stands at its beginning. A moment that is handed in by it leaves the engine's clock,
-/// so that this stands where the engine was last told a moment by somebody else.
-#[derive(Clone, Copy, Drop)]
-pub(crate) struct Standing;
-
-impl Clock for Standing {
-    ghost use Rattle.std.specs.Prelude.{◌≡◌};
-
-    ghost Tells = { λ c now. now ≡ 0 };
-
-    fn now(&self) -> u64 {
-        0
-    }
 }
 
 /// Serves the connections that come in at a listener, as [`pool`](crate::pool) does, until a director
@@ -97,7 +83,7 @@ where
         Err(front) => return Err(front),
     };
     let connections = limits.connections;
-    let clock = &Standing;
+    let clock = &StoppedClock;
     let shared = Shared::new(&engine, gate, clock, listener, connections, lines, handing);
     let beside = Directed { client, keeping };
     let Served { clients, trouble } = run_directed(rt, alloc, &shared, clients, beside, director);
@@ -117,7 +103,7 @@ struct Directed<L: EngineName> {
 fn run_directed<L, G, D, R>(
     rt: &R,
     alloc: Global,
-    shared: &Shared<'_, L, G, Standing>,
+    shared: &Shared<'_, L, G, StoppedClock>,
     clients: Vec<Client<L>>,
     beside: Directed<L>,
     director: &mut D,
@@ -138,7 +124,7 @@ fn serve_directed<'s, E, L, G, D, R>(
     scope: &Scope<'s, E>,
     rt: &'s R,
     alloc: Global,
-    shared: &'s Shared<'s, L, G, Standing>,
+    shared: &'s Shared<'s, L, G, StoppedClock>,
     clients: Vec<Client<L>>,
     beside: Directed<L>,
     director: &mut D,

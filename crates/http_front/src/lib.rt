@@ -30,32 +30,15 @@
 //! The tests stand in the crate `server_tests`.
 #![tactic(auto)]
 
-mod awaiting;
 mod background;
 mod begun;
-mod beside;
-mod by_engine;
-mod by_worker;
-mod connection;
 mod directed;
 mod duties;
-mod handing;
-mod life;
-mod line;
-mod lines;
-mod shared;
-mod slots;
-mod spare;
-mod streaming;
 mod threads;
-mod trimming;
-mod turns;
-mod workers;
 
 pub use begun::{Begun, Limits};
-pub use by_engine::post;
-pub use connection::work;
 pub use directed::{Directing, pool_directed};
+pub use http_connections::{post, work};
 pub use http_head::Head;
 pub use http_input::{Input, Request, next_request};
 pub use http_loop::serve_alone;

@@ -6,14 +6,12 @@ ghost use Rattle.http_front.specs.Closed.{IsClosed};
 ghost use Rattle.http_front.specs.Ends.{IsOfServer, fault_of};
 
 use crate::begun::{Begun, Limits};
-use crate::duties::{Duty, Worked, keep};
-use crate::handing::Handing;
-use crate::lines::Lines;
-use crate::shared::Shared;
-use crate::streaming::Watching;
+use crate::duties::{Duty, keep};
 use engine_lock::{Client, Engine, EngineName};
 use http_peer::{Clock, Gate};
 use http_reply::Front;
+use http_streams::{Handing, Watching};
+use http_workers::{Lines, Shared};
 use request_core::store::Core;
 use std::alloc::Global;
 use std::net::{Net, TcpListener};
@@ -181,8 +179,6 @@ pub(crate) fn lines_of<L: EngineName, R: Net>(
 pub(crate) enum Trouble {
     /// A thread could not be started.
     Spawn,
-    /// An accept failed.
-    Accept,
     /// A list found no memory.
     Memory,
 }
@@ -194,7 +190,6 @@ fn front_of(trouble: Trouble) -> Front
 {
     match trouble {
         Trouble::Spawn => Front::Spawn,
-        Trouble::Accept => Front::Accept,
         Trouble::Memory => Front::Memory,
     }
 }
@@ -322,7 +317,7 @@ pub(crate) fn join_streaming<L: EngineName, G, C, R: Threads>(
     rt: &R,
     shared: &Shared<'_, L, G, C>,
     served: Served<L>,
-    keeper: Option<JoinHandle<Worked<L>>>,
+    keeper: Option<JoinHandle<Client<L>>>,
 ) -> Served<L> {
     shared.handing.close();
     join_one(rt, served, keeper)
@@ -332,10 +327,10 @@ pub(crate) fn join_streaming<L: EngineName, G, C, R: Threads>(
 fn join_one<L: EngineName, R: Threads>(
     rt: &R,
     served: Served<L>,
-    thread: Option<JoinHandle<Worked<L>>>,
+    thread: Option<JoinHandle<Client<L>>>,
 ) -> Served<L> {
     match thread {
-        Some(handle) => with_worked(served, handle.join(rt)),
+        Some(handle) => with_client(served, handle.join(rt)),
         None => served,
     }
 }
@@ -349,7 +344,7 @@ pub(crate) fn start_all<'s, E, L, G, C, R>(
     shared: &'s Shared<'s, L, G, C>,
     clients: Vec<Client<L>>,
     all: bool,
-) -> (Vec<JoinHandle<Worked<L>>>, Option<Trouble>)
+) -> (Vec<JoinHandle<Client<L>>>, Option<Trouble>)
 where
     L: EngineName + Send + Sync + 's,
     G: Gate + Sync + 's,
@@ -376,7 +371,7 @@ fn start_workers<'s, E, L, G, C, R>(
     alloc: Global,
     shared: &'s Shared<'s, L, G, C>,
     clients: Vec<Client<L>>,
-) -> (Vec<JoinHandle<Worked<L>>>, Option<Trouble>)
+) -> (Vec<JoinHandle<Client<L>>>, Option<Trouble>)
 where
     L: EngineName + Send + Sync + 's,
     G: Gate + Sync + 's,
@@ -407,7 +402,7 @@ pub(crate) fn start<'s, E, L, G, C, R>(
     shared: &'s Shared<'s, L, G, C>,
     client: Client<L>,
     duty: Duty,
-) -> Option<JoinHandle<Worked<L>>>
+) -> Option<JoinHandle<Client<L>>>
 where
     L: EngineName + Send + Sync + 's,
     G: Gate + Sync + 's,
@@ -424,7 +419,7 @@ where
 pub(crate) fn join_all<L: EngineName, R: Threads>(
     rt: &R,
     alloc: Global,
-    working: Vec<JoinHandle<Worked<L>>>,
+    working: Vec<JoinHandle<Client<L>>>,
     trouble: Option<Trouble>,
 ) -> Served<L> {
     let mut served = Served {
@@ -432,19 +427,9 @@ pub(crate) fn join_all<L: EngineName, R: Threads>(
         trouble,
     };
     for handle in working {
-        served = with_worked(served, handle.join(rt));
+        served = with_client(served, handle.join(rt));
     }
     served
-}
-
-/// One more thread has ended.
-fn with_worked<L: EngineName>(served: Served<L>, worked: Worked<L>) -> Served<L> {
-    let Worked { client, failed } = worked;
-    let mut served = served;
-    if failed {
-        served.trouble = Some(served.trouble.unwrap_or(Trouble::Accept));
-    }
-    with_client(served, client)
 }
 
 /// One more client came back.

@@ -4,7 +4,7 @@ use denote.Param.{param}
 use denote.Param.Send.{arg_send, param_send, shr_send}
 use Rattle.std.proofs.alloc.Global.TheSendSync as heap
 use Rattle.engine_lock.proofs.Crossing.{client_send, closure_send}
-use Rattle.http_front.proofs.Crossing.{shared_sync, worked_send}
+use Rattle.http_workers.proofs.Crossing.{shared_sync}
 use Rattle.http_front.proofs.duties.Duty.TheSendSync as duty
 use Rattle.http_front.proofs.threads.start.Goals as goal
 
@@ -18,4 +18,4 @@ spawn-requires-send-F g c κs _ =
 
 -- and what it hands back, from it
 pub spawn-requires-send-T : goal.spawn-requires-send-T
-spawn-requires-send-T g c κs _ = param_send 2 _ (arg_send _ no _ (worked_send (param 1 g.row.L) g.L.EngineName g.L.ListName g.L.Ledger))
+spawn-requires-send-T g c κs _ = param_send 2 _ (arg_send _ no _ (client_send (param 1 g.row.L) g.L.EngineName g.L.ListName g.L.Ledger))

@@ -1,0 +1,3 @@
+pub mod Engines
+pub mod Handing
+pub mod Lines

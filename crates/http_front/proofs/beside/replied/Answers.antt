@@ -1,5 +1,0 @@
-use Rattle.http_front.proofs.Readings.{text_is}
-use Rattle.http_front.proofs.beside.replied.Goals as goal
-
-pub returns-in-Ok : goal.returns-in-Ok
-returns-in-Ok c = λ told t. text_is c.args.ids.now c.args.reply.now c.in-Ok.bytes.items told t c.in-Ok.ensures

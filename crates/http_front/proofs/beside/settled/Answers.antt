@@ -1,8 +1,0 @@
-use Rattle.std.proofs.Common.{subst}
-use Rattle.http_front.specs.Engines.{IsAnswer}
-use Rattle.http_front.proofs.Readings.{declined_is}
-use Rattle.http_front.proofs.beside.settled.Goals as goal
-
-pub returns-in-Err : goal.returns-in-Err
-returns-in-Err c = λ told t. declined_is c.args.ids.now c.declined.result c.in-Err.refusal told c.declined.ensures.refuses
-    (subst (IsAnswer told) c.in-Err.is t)

@@ -1,0 +1,230 @@
+//! The connections of a server, and the threads that wait for them.
+use crate::line::Line;
+use crate::slots::{Ages, Slots};
+use engine_lock::EngineName;
+use http_connections::Crowd;
+use http_peer::{Ready, Set, Wish, open_listener};
+use http_streams::Looked;
+use std::alloc::Global;
+use std::io;
+use std::io::ErrorKind;
+use std::net::{Net, TcpListener};
+use std::os::fd::{AsRawFd, RawFd};
+use std::sync::Wait;
+use std::sync::atomic::{AtomicBool, Ordering};
+
+/// The name of the listener in the set. No socket has this number.
+const LISTENER: u64 = u64::MAX - 1;
+
+/// Looked at once a second, a connection of which the client has taken no byte for ten is over.
+const AGES: Ages = Ages {
+    unsent: 10,
+    unread: None,
+};
+
+/// Where the server ends it is looked at each 20 ms: a request that has begun to come is waited for
+/// while no second passes without a byte of it, and a reply while no ten seconds do.
+const LAST_AGES: Ages = Ages {
+    unsent: 500,
+    unread: Some(50),
+};
+
+/// What is there for a thread to do.
+#[derive(Clone, Copy)]
+pub(crate) enum Next {
+    /// Nothing, for now.
+    Nothing,
+    /// Nothing more: the server has ended.
+    Over,
+    /// To let a connection in.
+    Listener,
+    /// To give the connection at this place its turns: whether something can be read.
+    Line(usize, bool),
+}
+
+/// The connections that stand, the set by which threads wait for them, and how many there are. Each is
+/// at its place, and asked for; or a thread has it.
+#[derive(Drop)]
+pub struct Lines<L: EngineName> {
+    set: Set,
+    slots: Slots<L>,
+    listener: RawFd,
+    /// How many connections have come in and not ended.
+    pub(crate) crowd: Crowd,
+    /// Whether no further one comes in.
+    shut: AtomicBool,
+    /// Whether the listener is not asked for until a connection ends, since an accept found no place.
+    parked: AtomicBool,
+}
+
+impl<L: EngineName> Lines<L> {
+    /// No connection has come in at a listener, which waits for nothing from then on. Fails where the
+    /// system has no more files, or for want of memory.
+    pub fn new<R: Net>(
+        rt: &R,
+        alloc: Global,
+        listener: &TcpListener,
+        workers: u64,
+    ) -> io::Result<Lines<L>> {
+        let set = Set::new(rt)?;
+        let Ok(slots) = Slots::new(alloc) else {
+            return Err(io::Error::from(ErrorKind::OutOfMemory));
+        };
+        open_listener(listener)?;
+        let listener = listener.as_raw_fd();
+        if !set.add(listener, LISTENER, Wish::Read) {
+            return Err(io::Error::from(ErrorKind::OutOfMemory));
+        }
+        Ok(Lines {
+            set,
+            slots,
+            listener,
+            crowd: Crowd::new(workers),
+            shut: AtomicBool::new(false),
+            parked: AtomicBool::new(false),
+        })
+    }
+
+    /// Waits until something is ready. One thread alone is told of a connection.
+    pub(crate) fn next(&self) -> Next {
+        self.next_of(self.set.next())
+    }
+
+    /// The same, without waiting.
+    pub(crate) fn next_now(&self) -> Next {
+        self.next_of(self.set.next_now())
+    }
+
+    /// What is there to do where this is ready.
+    fn next_of(&self, ready: Ready) -> Next {
+        match ready {
+            Ready::Nothing => Next::Nothing,
+            Ready::Over => Next::Over,
+            Ready::Socket(LISTENER, _) => Next::Listener,
+            Ready::Socket(name, is_wet) => match usize::try_from(name) {
+                Ok(place) => Next::Line(place, is_wet),
+                Err(_) => Next::Nothing,
+            },
+        }
+    }
+
+    /// Asks for the listener again.
+    pub(crate) fn ask_listener(&self) {
+        let _ = self.set.ask(self.listener, LISTENER, Wish::Read);
+    }
+
+    /// The listener is asked for again once a connection ends, or a second has gone: an accept found no
+    /// place.
+    pub(crate) fn park_listener(&self) {
+        self.parked.store(true, Ordering::SeqCst);
+    }
+
+    /// Asks for the listener again where it is parked.
+    fn unpark_listener(&self) {
+        if self.parked.load(Ordering::SeqCst) && self.parked.swap(false, Ordering::SeqCst) {
+            self.ask_listener();
+        }
+    }
+
+    /// A connection has ended, or is looked after elsewhere, once its socket is let go.
+    pub(crate) fn went(&self) {
+        let was_last = self.crowd.went();
+        self.unpark_listener();
+        if was_last && self.shut.load(Ordering::SeqCst) {
+            self.set.end();
+        }
+    }
+
+    /// No further connection comes in: once all have ended, so do the threads.
+    pub fn shut(&self) {
+        self.shut.store(true, Ordering::SeqCst);
+        if self.is_empty() {
+            self.set.end();
+        }
+    }
+
+    /// Whether no connection stands.
+    pub fn is_empty(&self) -> bool {
+        self.crowd.is_empty()
+    }
+
+    /// The connection at a place, which nobody else has from then on.
+    pub(crate) fn take<R: Wait>(&self, rt: &R, place: usize) -> Option<Box<Line<L>>> {
+        self.slots.take(rt, place)
+    }
+
+    /// Puts a connection that has come in at its place, and asks for it. Hands it back where there is
+    /// no place for it, or the system refuses it.
+    pub(crate) fn add<R: Wait>(
+        &self,
+        rt: &R,
+        alloc: Global,
+        line: Box<Line<L>>,
+    ) -> Option<Box<Line<L>>> {
+        let place = line.place();
+        if !self.slots.has_room(rt, alloc, place) {
+            return Some(line);
+        }
+        self.stand(rt, place, line, Wish::Read, true)
+    }
+
+    /// Puts a connection at its place again, and asks for it. Hands it back where the system refuses.
+    pub(crate) fn ask<R: Wait>(
+        &self,
+        rt: &R,
+        line: Box<Line<L>>,
+        wish: Wish,
+    ) -> Option<Box<Line<L>>> {
+        let place = line.place();
+        self.stand(rt, place, line, wish, false)
+    }
+
+    /// Puts a connection at its place before it is asked for, since another thread may have it as soon
+    /// as it is; `is_new` says that its socket is not in the set yet.
+    fn stand<R: Wait>(
+        &self,
+        rt: &R,
+        place: usize,
+        line: Box<Line<L>>,
+        wish: Wish,
+        is_new: bool,
+    ) -> Option<Box<Line<L>>> {
+        let Ok(socket) = RawFd::try_from(place) else {
+            return Some(line);
+        };
+        if let Some(line) = self.slots.put(rt, place, line) {
+            return Some(line);
+        }
+        let name = place as u64;
+        let is_asked = if is_new {
+            self.set.add(socket, name, wish)
+        } else {
+            self.set.ask(socket, name, wish)
+        };
+        if is_asked {
+            return None;
+        }
+        self.slots.take(rt, place)
+    }
+
+    /// A connection is looked after elsewhere.
+    pub(crate) fn remove(&self, line: &Line<L>) {
+        if let Ok(socket) = RawFd::try_from(line.place()) {
+            self.set.remove(socket);
+        }
+    }
+
+    /// Looks at each connection where the server ends, each 20 ms.
+    pub fn look_at_end<R: Wait>(&self, rt: &R) {
+        self.slots.age(rt, LAST_AGES);
+    }
+}
+
+impl<L: EngineName> Looked for Lines<L> {
+    /// Once a second each connection is looked at, and the listener, so that nothing rests on a
+    /// thread's being told.
+    fn look<R: Wait>(&self, rt: &R) {
+        self.slots.age(rt, AGES);
+        self.unpark_listener();
+    }
+}

@@ -1,0 +1,329 @@
+//! A worker: it gives one connection after the other its turns, whichever is ready.
+ghost use Rattle.std.specs.Prelude.{◌≡◌};
+ghost use Rattle.http_connections.specs.Lines.{Goes};
+ghost use Rattle.http_workers.specs.Inputs.{at_place, seen};
+
+use crate::line::Line;
+use crate::lines::Next;
+use crate::shared::Shared;
+use crate::spare::Spare;
+use engine_lock::{Client, EngineName};
+use http_connections::{After, ByEngine, ByWorker, Serving, Stage, Turning, Wire};
+use http_input::Input;
+use http_peer::{Clock, Gate, Socket, Wish, open_peer};
+use http_reply::ReplyBuffer;
+use http_streams::{Handed, Waking};
+use recorded_engine::Recorded;
+use std::alloc::Global;
+use std::io::ErrorKind;
+use std::net::TcpStream;
+use std::sync::Wait;
+use std::sync::atomic::Ordering;
+use std::time;
+
+/// How many connections come in before others have turns.
+const MOST_ACCEPTS: u64 = 16;
+
+/// A buffer that a longer reply took gives its room back, in bytes.
+const MOST_KEPT: usize = 262_144;
+
+/// What a thread serves connections with.
+#[derive(Drop)]
+struct Worker<'s, L: EngineName, G, C, R> {
+    rt: &'s R,
+    alloc: Global,
+    shared: &'s Shared<'s, L, G, C>,
+    serving: Serving<L>,
+    /// Where replies are laid out; none where no memory was found for it yet.
+    buffer: Option<ReplyBuffer>,
+    /// An input of which nothing is left, for a connection that has none.
+    spare: Spare,
+}
+
+/// What came of an accept.
+enum Came {
+    /// A connection of this number.
+    One(u64, TcpStream),
+    /// None waits.
+    Nobody,
+    /// No further one is let in.
+    Shut,
+    /// The system has no place for one.
+    Full,
+}
+
+/// Gives connections their turns, whichever is ready, until the server has ended. Hands the client back,
+/// with the events that it made.
+pub fn keep_working<L, G, C, R>(
+    rt: &R,
+    alloc: Global,
+    shared: &Shared<'_, L, G, C>,
+    client: Client<L>,
+) -> Client<L>
+where
+    L: EngineName,
+    G: Gate,
+    C: Clock,
+    R: Wait + time::Clock,
+{
+    let mut worker = Worker {
+        rt,
+        alloc,
+        shared,
+        serving: Serving::new(client),
+        buffer: None,
+        spare: Spare::new(alloc),
+    };
+    let mut next = Next::Nothing;
+    for _ in rt.forever() {
+        next = match next {
+            Next::Nothing => shared.lines.next(),
+            Next::Over => break,
+            Next::Listener => worker.let_in(),
+            Next::Line(place, is_wet) => worker.visit(place, is_wet),
+        };
+    }
+    let Worker { serving, .. } = worker;
+    serving.client
+}
+
+impl<'s, L, G, C, R> Worker<'s, L, G, C, R>
+where
+    L: EngineName,
+    G: Gate,
+    C: Clock,
+    R: Wait + time::Clock,
+{
+    /// Lets connections in that wait at the listener, and asks for it again where more may come.
+    fn let_in(&mut self) -> Next {
+        let lines = &self.shared.lines;
+        for _ in 0..MOST_ACCEPTS {
+            match self.next() {
+                Came::One(call, stream) => self.begin(call, stream),
+                Came::Nobody => break,
+                Came::Shut => {
+                    lines.shut();
+                    return Next::Nothing;
+                }
+                Came::Full => {
+                    lines.park_listener();
+                    return Next::Nothing;
+                }
+            }
+        }
+        lines.ask_listener();
+        Next::Nothing
+    }
+
+    /// The next connection that waits.
+    fn next(&self) -> Came {
+        let mut door = self.shared.door.lock(self.rt);
+        if self.shared.ended.load(Ordering::SeqCst) {
+            door.shut();
+        }
+        match door.next(self.shared.listener) {
+            Ok(Some((call, stream))) => {
+                self.shared.lines.crowd.came();
+                Came::One(call, stream)
+            }
+            Ok(None) => Came::Shut,
+            Err(error) => match error.kind() {
+                ErrorKind::WouldBlock | ErrorKind::Interrupted | ErrorKind::ConnectionAborted => {
+                    Came::Nobody
+                }
+                _ => Came::Full,
+            },
+        }
+    }
+
+    /// A connection begins, and is asked for. Where no memory or no place is found for it, it ends.
+    fn begin(&mut self, call: u64, stream: TcpStream) {
+        let refused = self.added(call, stream);
+        if refused {
+            self.shared.lines.went();
+        }
+    }
+
+    /// The same; says whether it was refused.
+    fn added(&mut self, call: u64, stream: TcpStream) -> bool {
+        if open_peer(&stream).is_err() {
+            return true;
+        }
+        let known = self.serving.client.known();
+        let line = Line::new(self.alloc, call, stream, known);
+        match Box::new(self.alloc, line) {
+            Ok(line) => self.shared.lines.add(self.rt, self.alloc, line).is_some(),
+            Err(_) => true,
+        }
+    }
+
+    /// Takes the connection at a place, gives it its turns, and asks for it again. None is there where
+    /// another thread had it first, which asks for it behind its turns. Gives what is to be done next.
+    fn visit(&mut self, place: usize, is_wet: bool) -> Next {
+        let lines = &self.shared.lines;
+        let Some(line) = lines.take(self.rt, place) else {
+            return Next::Nothing;
+        };
+        let mut line = line;
+        let (after, next) = self.stay(&mut line, is_wet);
+        let left = match after {
+            After::Reads => lines.ask(self.rt, line, Wish::Read),
+            After::Writes => lines.ask(self.rt, line, Wish::Write),
+            After::Again => lines.ask(self.rt, line, Wish::Either),
+            After::Away(number) => {
+                self.hand_on(line, number);
+                None
+            }
+            After::Over => Some(line),
+        };
+        if let Some(line) = left {
+            self.end(line);
+        }
+        next
+    }
+
+    /// Gives a connection its turns, and further ones as long as there are no more connections than
+    /// threads and nothing else is ready. So a thread keeps one connection where there are few, which
+    /// costs less than to find it anew. Gives what is ready else, too.
+    fn stay(&mut self, line: &mut Line<L>, is_wet: bool) -> (After, Next)
+        ensures goes { Goes self.old.shared.now.engine.now.ids L.recorded (C.Tells self.old.shared.now.clock.now) line.old.life.call
+            self.old.serving.client self.new.serving.client
+            (at_place line.old.life.stage line.old.life.known line.old.input)
+            (at_place line.new.life.stage line.new.life.known line.new.input) }
+        ensures call { line.new.life.call ≡ line.old.life.call }
+        ensures shared { self.new.shared ≡ self.old.shared }
+    {
+        let lines = &self.shared.lines;
+        let mut is_wet = is_wet;
+        for _ in self.rt.forever() {
+            let after = self.served(line, is_wet);
+            if after != After::Again || !lines.crowd.are_few() {
+                return (after, Next::Nothing);
+            }
+            match lines.next_now() {
+                Next::Nothing => is_wet = true,
+                next => return (after, next),
+            }
+        }
+        unreachable!()
+    }
+
+    /// Gives a connection its turns, with what had come of it and was not answered, of which it keeps what
+    /// is left. Where no memory is found for a buffer or an input it is over.
+    fn served(&mut self, line: &mut Line<L>, is_wet: bool) -> After
+        ensures goes { Goes self.old.shared.now.engine.now.ids L.recorded (C.Tells self.old.shared.now.clock.now) line.old.life.call
+            self.old.serving.client self.new.serving.client
+            (at_place line.old.life.stage line.old.life.known line.old.input)
+            (at_place line.new.life.stage line.new.life.known line.new.input) }
+        ensures call { line.new.life.call ≡ line.old.life.call }
+        ensures shared { self.new.shared ≡ self.old.shared }
+    {
+        let Some(buffer) = next_buffer(self.alloc, &mut self.buffer) else {
+            return After::Over;
+        };
+        let Some(input) = self.spare.take(line.input.take()) else {
+            return After::Over;
+        };
+        let (mut buffer, mut input) = (buffer, input);
+        let after = self.turns(&mut buffer, &mut input, line, is_wet);
+        if buffer.room() <= MOST_KEPT {
+            self.buffer = Some(buffer);
+        }
+        line.input = self.spare.keep(input);
+        after
+    }
+
+    /// Gives a connection its turns. Its client reads nothing older than was read for it before.
+    fn turns(
+        &mut self,
+        buffer: &mut ReplyBuffer,
+        input: &mut Input,
+        line: &mut Line<L>,
+        is_wet: bool,
+    ) -> After
+        ensures goes { Goes self.old.shared.now.engine.now.ids L.recorded (C.Tells self.old.shared.now.clock.now) line.old.life.call
+            self.old.serving.client self.new.serving.client
+            (seen line.old.life.stage line.old.life.known input.old)
+            (seen line.new.life.stage line.new.life.known input.new) }
+        ensures call { line.new.life.call ≡ line.old.life.call }
+        ensures shared { self.new.shared ≡ self.old.shared }
+        ensures kept { line.new.input ≡ line.old.input }
+    {
+        let shared = self.shared;
+        let gate = Waking::new(shared.gate, &shared.handing, false);
+        let turning = Turning {
+            alloc: self.alloc,
+            by: ByWorker {
+                by: ByEngine {
+                    events: Recorded {
+                        rt: self.rt,
+                        engine: shared.engine,
+                        gate: &gate,
+                    },
+                    clock: shared.clock,
+                    call: line.life.call,
+                },
+            },
+            crowd: &shared.lines.crowd,
+            ended: &shared.ended,
+        };
+        let wire = Wire {
+            r: Socket::new(&line.stream),
+            w: Socket::new(&line.stream),
+        };
+        let life = &mut line.life;
+        let visited = turning.visit(&mut self.serving, buffer, input, life, wire, is_wet);
+        let after = visited.after;
+        line.freshen();
+        after
+    }
+
+    /// A connection is over: its socket is closed, and the watch of a stream is ended that did not get
+    /// away.
+    fn end(&mut self, line: Box<Line<L>>) {
+        let line = Box::into_inner(line);
+        let call = line.life.call;
+        let watch = match &line.life.stage {
+            Stage::Streaming(number) => Some(*number),
+            _ => None,
+        };
+        drop(line);
+        if let Some(number) = watch {
+            self.end_watch(call, number);
+        }
+        self.shared.lines.went();
+    }
+
+    /// Hands the stream of a watch over that has begun on a connection. Where no memory is found for
+    /// that, the watch is ended, and the connection.
+    fn hand_on(&mut self, line: Box<Line<L>>, number: u64) {
+        let line = Box::into_inner(line);
+        self.shared.lines.remove(&line);
+        let Line { life, stream, .. } = line;
+        let call = life.call;
+        let handed = Handed {
+            call,
+            number,
+            stream,
+        };
+        if self.shared.handing.hand(self.rt, handed).is_err() {
+            self.end_watch(call, number);
+        }
+        self.shared.lines.went();
+    }
+
+    /// Ends the watch of a stream, behind which the gate is told that its reply has ended.
+    fn end_watch(&mut self, call: u64, number: u64) {
+        let events = self.shared.events(self.rt);
+        let _ = events.drop_watch(&mut self.serving.client, number);
+        self.shared.gate.after(call);
+    }
+}
+
+/// Where replies are laid out: what was kept of that, or a new one; `None` where no memory is found for it.
+fn next_buffer(alloc: Global, kept: &mut Option<ReplyBuffer>) -> Option<ReplyBuffer> {
+    match kept.take() {
+        Some(buffer) => Some(buffer),
+        None => ReplyBuffer::new(alloc).ok(),
+    }
+}
