@@ -40,7 +40,8 @@ pub enum Args<'a> {
 pub struct Serve<'a> {
     /// Where it listens: an IP address or a host's name, a colon and a port.
     pub listen: &'a str,
-    /// How many connections it serves at once, from 2 to 32.
+    /// How many threads give connections their turns, from 2 to 32. Any number of connections is
+    /// served.
     pub workers: u64,
     /// After how many connections it ends, at most 2^63 - 1; 0 counts as that.
     pub connections: u64,

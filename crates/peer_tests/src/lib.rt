@@ -24,4 +24,6 @@ mod standing;
 #[cfg(test)]
 mod texts;
 #[cfg(test)]
+mod visits;
+#[cfg(test)]
 mod wanted;

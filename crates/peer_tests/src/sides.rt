@@ -38,7 +38,7 @@ pub(crate) struct End {
 
 /// A clock that stands.
 #[derive(Drop)]
-struct Still;
+pub(crate) struct Still;
 
 impl Clock for Still {
     fn now(&self) -> u64 {
@@ -48,7 +48,7 @@ impl Clock for Still {
 
 /// Holds no request back. The client of a watch has left once the watch is told nothing.
 #[derive(Drop)]
-struct Impatient;
+pub(crate) struct Impatient;
 
 impl Gate for Impatient {
     fn before(&self, _call: u64) {}

@@ -1,10 +1,11 @@
-//! An engine, and the gate of a server, which is told of each of its events.
+//! An engine, and the gate of a server, which is told of each of its events that may have a line.
 //!
-//! Each call of [`Recorded`] makes the event that the engine's call of that name makes, and has its
-//! contract, word for word. Then the gate is told, which may take the lines of the events where the
-//! engine writes them down ([`engine_lock::Engine::recorded`]); whoever has an engine and its gate
-//! makes events by this alone, so that no line waits for long. For example, of a command on behalf of
-//! a client:
+//! Each call of [`Recorded`] makes one event by the call of the engine that its comment names, with
+//! that call's contract. Behind each event that may have a line the gate is told, which may take the
+//! lines where the engine writes them down ([`engine_lock::Engine::recorded`]). Whoever has an engine
+//! and its gate makes each such event by this, so that no line waits for long. A moment and a
+//! certificate have no line of their own, and the gate is not told of them. For example, of a command
+//! on behalf of a client:
 //!
 //! ```text
 //! let events = Recorded { rt, engine, gate };

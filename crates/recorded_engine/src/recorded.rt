@@ -1,4 +1,4 @@
-//! The events of an engine, of each of which the gate is told once it is made.
+//! The events of an engine; the gate is told of each that may have a line, once it is made.
 ghost use Rattle.std.specs.Prelude.{◌≡◌, is_ok, IfErr, MatchResult};
 ghost use Rattle.kv_model.specs.Follows.Outcome.{said};
 ghost use Rattle.kv_model.specs.Wire.{WireTold};
@@ -14,9 +14,10 @@ use json_gateway::{Certified, Expiry, Message, Refusal, Trim, Trimmed};
 use std::alloc::AllocError;
 use std::sync::Wait;
 
-/// An engine, and the gate that is told of each of its events. Each call makes the event that the
-/// engine's call of that name makes, with its contract and its cost, and then tells the gate, which
-/// may take the lines ([`Engine::take_lines`]). An engine without a record has none.
+/// An engine, and the gate that is told of its events. Each call makes the event of the engine's call
+/// that its comment names, with that call's contract and its cost, and then, where the event may have
+/// a line, tells the gate, which may take the lines ([`Engine::take_lines`]). An engine without a
+/// record has none.
 #[derive(Drop)]
 pub struct Recorded<'e, L: EngineName, G, R> {
     /// What lets a call wait.

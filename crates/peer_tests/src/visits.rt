@@ -1,0 +1,219 @@
+//! A connection that is served in visits, by one client and then another: its bytes come in two parts,
+//! split at each place, and its replies go out in parts.
+ghost use Rattle.std.specs.Prelude.{◌≡◌, false};
+
+use crate::sides::{Impatient, ONES, Still};
+use crate::texts::{PUT, PUT_REPLY, REPLIES, REQUESTS};
+use engine_lock::{Engine, EngineName, Opening};
+use http_connections::{After, ByEngine, ByWorker, Crowd, Life, Serving, Turning, Wire};
+use http_front::Recorded;
+use http_input::Input;
+use http_reply::ReplyBuffer;
+use std::alloc::Global;
+use std::io::{ErrorKind, Read, Write};
+use std::marker::Brand;
+use std::sync::Wait;
+use std::sync::atomic::AtomicBool;
+use std::{io, time};
+
+/// How often a connection is visited at most.
+const MOST_VISITS: u64 = 600;
+
+/// Gives its bytes, and then nothing for now.
+#[derive(Drop)]
+struct Part<'b> {
+    bytes: &'b [u8],
+}
+
+impl<'b> Read for Part<'b> {
+    fn read(&mut self, buf: &mut [u8]) -> io::Result<usize> {
+        if self.bytes.is_empty() {
+            return Err(io::Error::from(ErrorKind::WouldBlock));
+        }
+        self.bytes.read(buf)
+    }
+}
+
+/// Takes so many bytes, and no more for now.
+#[derive(Drop)]
+struct Taking {
+    got: Vec<u8>,
+    most: usize,
+}
+
+impl Write for Taking {
+    fn write(&mut self, buf: &[u8]) -> io::Result<usize> {
+        let most = buf.len().min(self.most);
+        if most == 0 {
+            return Err(io::Error::from(ErrorKind::WouldBlock));
+        }
+        self.most -= most;
+        self.got.extend_from_slice(&buf[..most])?;
+        Ok(most)
+    }
+
+    fn flush(&mut self) -> io::Result<()> {
+        Ok(())
+    }
+}
+
+/// The put twice: what is sent, and what is answered.
+fn sent_and_answered(alloc: Global) -> (Vec<u8>, Vec<u8>) {
+    let mut sent = Vec::new(alloc);
+    let mut answered = Vec::new(alloc);
+    let _ = sent.extend_from_slice(&REQUESTS[..PUT]);
+    let _ = sent.extend_from_slice(&REQUESTS[..PUT]);
+    let _ = answered.extend_from_slice(&REPLIES[..PUT_REPLY]);
+    let _ = answered.extend_from_slice(&REPLIES[..PUT_REPLY - 3]);
+    let _ = answered.extend_from_slice(b"3\"}");
+    (sent, answered)
+}
+
+/// A connection, and the two clients that serve it in turn.
+#[derive(Drop)]
+struct Served<L: EngineName> {
+    clients: [Serving<L>; 2],
+    buffer: ReplyBuffer,
+    input: Input,
+    life: Life<L>,
+    w: Taking,
+}
+
+impl<L: EngineName> Served<L> {
+    fn new<R: Wait>(rt: &R, alloc: Global, engine: &mut Engine<L>) -> Option<Self> {
+        let one = engine.client(rt).ok()?;
+        let other = engine.client(rt).ok()?;
+        let known = other.known();
+        Some(Served {
+            clients: [Serving::new(one), Serving::new(other)],
+            buffer: ReplyBuffer::new(alloc).ok()?,
+            input: Input::new(alloc).ok()?,
+            life: Life::new(alloc, 1, known),
+            w: Taking {
+                got: Vec::new(alloc),
+                most: 0,
+            },
+        })
+    }
+}
+
+/// The connection is visited by one of the clients, and gives these bytes, of which it takes so many.
+fn visit<L: EngineName, R: Wait + time::Clock>(
+    turning: &Turning<'_, L, Impatient, Still, R>,
+    served: Served<L>,
+    client: usize,
+    bytes: &[u8],
+    most: usize,
+) -> Option<(Served<L>, After)> {
+    let mut served = served;
+    if served.life.call != turning.by.by.call {
+        return None;
+    }
+    let serving = served.clients.get_mut(client)?;
+    served.w.most = most;
+    let wire = Wire {
+        r: Part { bytes },
+        w: served.w,
+    };
+    let visited = turning.visit(
+        serving,
+        &mut served.buffer,
+        &mut served.input,
+        &mut served.life,
+        wire,
+        true,
+    );
+    served.w = visited.wire.w;
+    Some((served, visited.after))
+}
+
+/// What went out of a connection whose bytes come in two parts, and whose client takes so many bytes a
+/// visit; `None` where something found no memory, or a visit ends it.
+fn goes_out<L: EngineName, R: Wait + time::Clock>(
+    turning: &Turning<'_, L, Impatient, Still, R>,
+    served: Served<L>,
+    parts: (&[u8], &[u8]),
+    most: usize,
+) -> Option<Vec<u8>> {
+    let mut served = served;
+    let mut left = parts;
+    for count in 0..MOST_VISITS {
+        let bytes = left.0;
+        let (then, after) = visit(turning, served, count as usize % 2, bytes, most)?;
+        served = then;
+        match after {
+            After::Reads if left.1.is_empty() => return Some(served.w.got),
+            After::Reads => left = (left.1, b""),
+            After::Writes | After::Again => left.0 = b"",
+            After::Over | After::Away(_) => return None,
+        }
+    }
+    None
+}
+
+/// Whether all is answered of a connection whose bytes come in these parts.
+fn is_answered<L: EngineName, R: Wait + time::Clock>(
+    rt: &R,
+    alloc: Global,
+    opening: Opening,
+    parts: (&[u8], &[u8]),
+    most: usize,
+    wanted: &[u8],
+) -> bool
+    requires name { opening.name ≡ L.Ledger.name }
+    requires parts { opening.parts ≡ L.Ledger.parts }
+    requires book { opening.book ≡ L.ListName.book }
+    requires recorded { L.recorded ≡ false }
+    requires ids { L.ListName.ids ≡ record { cluster = 1; member = 1 } }
+{
+    let mut engine = Engine::<L>::new(alloc, opening, ONES);
+    let Some(served) = Served::new(rt, alloc, &mut engine) else {
+        return false;
+    };
+    let crowd = Crowd::new(2);
+    crowd.came();
+    let ended = AtomicBool::new(false);
+    let turning = Turning {
+        alloc,
+        by: ByWorker {
+            by: ByEngine {
+                events: Recorded {
+                    rt,
+                    engine: &engine,
+                    gate: &Impatient,
+                },
+                clock: &Still,
+                call: 1,
+            },
+        },
+        crowd: &crowd,
+        ended: &ended,
+    };
+    match goes_out(&turning, served, parts, most) {
+        Some(got) => got.as_slice() == wanted,
+        None => false,
+    }
+}
+
+/// The first place at which two puts, split there, come to something else, where the client takes so
+/// many bytes a visit.
+fn first_wrong<R: Wait + time::Clock>(rt: &R, alloc: Global, most: usize) -> Option<usize> {
+    let (sent, wanted) = sent_and_answered(alloc);
+    for place in 0..=2 * PUT {
+        let parts = (sent.get(..place)?, sent.get(place..)?);
+        let Ok(opening) = Opening::new(alloc, rt) else {
+            return Some(place);
+        };
+        if !is_answered::<Brand, R>(rt, alloc, opening, parts, most, &wanted) {
+            return Some(place);
+        }
+    }
+    None
+}
+
+#[test]
+fn visits_by_two_clients(rt: HostRuntime) {
+    let alloc = rt.alloc();
+    assert_eq!(rt; first_wrong(&rt, alloc, usize::MAX), None);
+    assert_eq!(rt; first_wrong(&rt, alloc, 40), None);
+}
