@@ -57,15 +57,23 @@ impl Write for Taking {
     }
 }
 
-/// The put twice: what is sent, and what is answered.
+/// A physical Compact, which is answered once what it lets go is trimmed.
+const COMPACT: &[u8] = b"POST /v3/kv/compaction HTTP/1.1\r\nHost: t\r\nContent-Length: 32\r\n\r\n\
+    {\"revision\":\"2\",\"physical\":true}";
+
+/// The put twice, and the Compact: what is sent, and what is answered.
 fn sent_and_answered(alloc: Global) -> (Vec<u8>, Vec<u8>) {
     let mut sent = Vec::new(alloc);
     let mut answered = Vec::new(alloc);
-    let _ = sent.extend_from_slice(&REQUESTS[..PUT]);
-    let _ = sent.extend_from_slice(&REQUESTS[..PUT]);
+    for _ in 0..2 {
+        let _ = sent.extend_from_slice(&REQUESTS[..PUT]);
+    }
+    let _ = sent.extend_from_slice(COMPACT);
     let _ = answered.extend_from_slice(&REPLIES[..PUT_REPLY]);
-    let _ = answered.extend_from_slice(&REPLIES[..PUT_REPLY - 3]);
-    let _ = answered.extend_from_slice(b"3\"}");
+    for _ in 0..2 {
+        let _ = answered.extend_from_slice(&REPLIES[..PUT_REPLY - 4]);
+        let _ = answered.extend_from_slice(b"3\"}}");
+    }
     (sent, answered)
 }
 
@@ -195,11 +203,11 @@ fn is_answered<L: EngineName, R: Wait + time::Clock>(
     }
 }
 
-/// The first place at which two puts, split there, come to something else, where the client takes so
+/// The first place at which these requests, split there, come to something else, where the client takes so
 /// many bytes a visit.
 fn first_wrong<R: Wait + time::Clock>(rt: &R, alloc: Global, most: usize) -> Option<usize> {
     let (sent, wanted) = sent_and_answered(alloc);
-    for place in 0..=2 * PUT {
+    for place in 0..=sent.len() {
         let parts = (sent.get(..place)?, sent.get(place..)?);
         let Ok(opening) = Opening::new(alloc, rt) else {
             return Some(place);
