@@ -30,16 +30,16 @@ use Rattle.http_connections.specs.Engines.{Answers, AnswersFirst, AreMadeBehind,
 abbrev pub seen : Caller → list.Caller × ℕ
 seen c = (c.holder, c.about)
 
-shown : (c d : Caller) → list.Shows c.holder d.holder → d.about ≡ c.about → Gets c d
+abbrev shown : (c d : Caller) → list.Shows c.holder d.holder → d.about ≡ c.about → Gets c d
 shown c d x e = record { own = []; gives = shows_none c.holder d.holder x; all = All-nil (λ (x : Entry). x.about ≡ c.about); about = e }
 
-pub rests : (c d : Caller) → seen d ≡ seen c → Gets c d
+abbrev pub rests : (c d : Caller) → seen d ≡ seen c → Gets c d
 rests c d e =
     let grows = ap (λ (s : list.Caller × ℕ). s.0.front) e ∙ sym (append-nil c.holder.front) in
     let number = ap (λ (s : list.Caller × ℕ). s.0.number) e in
     shown c d (record { between = []; others = refl; grows = grows; number = number }) (ap (λ (s : list.Caller × ℕ). s.1) e)
 
-pub both : (c d e : Caller) → Gets c d → Gets d e → Gets c e
+abbrev pub both : (c d e : Caller) → Gets c d → Gets d e → Gets c e
 both c d e g h = record {
   own = g.own ++ h.own;
   gives = gives_both c.holder d.holder e.holder g.own h.own g.gives h.gives;
@@ -47,7 +47,7 @@ both c d e g h = record {
   about = h.about ∙ g.about;
 }
 
-pub enters : (ids : Ids) (c d : Caller) (e : Event) (o : WireOutcome) → Enters ids c e o d → Gets c d
+abbrev pub enters : (ids : Ids) (c d : Caller) (e : Event) (o : WireOutcome) → Enters ids c e o d → Gets c d
 enters ids c d e o x = record {
   own = entry c.holder.number c.about e o ∷ [];
   gives = adds_one ids c.holder c.about e o d.holder x.adds;
@@ -62,7 +62,7 @@ own_is c d g h = append_cancel_left (events_by c.holder.number c.holder.front) g
 pub own_none : (c d : Caller) (g : Gets c d) → seen d ≡ seen c → g.own ≡ []
 own_none c d g e = own_is c d g (rests c d e)
 
-pub own_pub both : (c d e : Caller) (g : Gets c e) (x : Gets c d) (y : Gets d e) → g.own ≡ x.own ++ y.own
+pub own_both : (c d e : Caller) (g : Gets c e) (x : Gets c d) (y : Gets d e) → g.own ≡ x.own ++ y.own
 own_both c d e g x y = own_is c e g (both c d e x y)
 
 -- ---- a reply, by whoever tells it, of whom a client is seen

@@ -25,7 +25,7 @@ use Rattle.http_connections.proofs.Giving.{firsts, rests, seen, told_whole, turn
 
 -- ---- the same, by another name of the client
 
-pub from_same : (b c d : Caller) → b ≡ c → Gets c d → Gets b d
+abbrev pub from_same : (b c d : Caller) → b ≡ c → Gets c d → Gets b d
 from_same b c d e g = record {
   own = g.own;
   gives = subst (λ (x : Caller). Gives x.holder g.own d.holder) (sym e) g.gives;
@@ -34,7 +34,7 @@ from_same b c d e g = record {
 }
 
 -- whatever its next events were about before and are about behind
-pub named : (call : ℕ) (c s d : Caller) → s ≡ naming c call → Gets s d → Gets (naming c call) (naming d call)
+abbrev pub named : (call : ℕ) (c s d : Caller) → s ≡ naming c call → Gets s d → Gets (naming c call) (naming d call)
 named call c s d e g = record {
   own = g.own;
   gives = subst (λ (x : Caller). Gives x.holder g.own d.holder) e g.gives;

@@ -163,7 +163,7 @@ module _ (ids : Ids) (recorded : Bool) (At : ℕ → Type 0) (call : ℕ) where
         let h = d.answers.0 in
         let first = firsts ids recorded At ⊤ s.client d.done.client a h.submitted h.answers in
         let made = k.made ++ first.own in
-        let told = record { written = d.written; told = d.told; finishes = d.finishes } in
+        let told : EndsWith Hands handing.Tells (handing.Finishes ids) d.outcome a.close d.done out t r = record { written = d.written; told = d.told; finishes = d.finishes } in
         let last = ended ids recorded At d.outcome a.close d.done t out r told in
         let left = ends made d.outcome a.close d.done t out r (first.about ∙ about) told last in
         subst (λ (m : List Entry). ByAny k a out (known_of m t) r)
