@@ -25,6 +25,9 @@ module _ (ids : Ids) (recorded : Bool) (At : ℕ → Type 0) (call : ℕ) where
   pub stays : (c : Caller) (x : Sight) → Goes ids recorded At call c c x x
   stays c x = by_none c c x x refl (λ begun made h. h)
 
+  pub same : (c : Caller) (x y : Sight) → x ≡ y → Goes ids recorded At call c c x y
+  same c x y e = subst (λ (y : Sight). Goes ids recorded At call c c x y) e (stays c x)
+
   pub both : (c d e : Caller) (x y z : Sight) → Goes ids recorded At call c d x y → Goes ids recorded At call d e y z → Goes ids recorded At call c e x z
   both c d e x y z f g = record {
     gets = giving.both (naming c call) (naming d call) (naming e call) f.gets g.gets;

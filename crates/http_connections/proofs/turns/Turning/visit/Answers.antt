@@ -32,7 +32,7 @@ returns-clause-goes g c =
     (append_known (g.Out.Write.contents c.args.wire.w) c.args.life.now.unsent))
     (sight c.replace-stage.result c.know.new.self.reader.known (g.In.Read.remaining c.args.wire.r) c.args.input.now
     (append_known (g.Out.Write.contents c.args.wire.w) c.replace-unsent.result))
-    (ap (λ (c : Caller). c.holder) c.know.ensures.others)
+    (ap (λ (c : Caller). c.holder) c.know.ensures.others ∙ ap (λ (s : Hands). s.client.holder) c.serving.view_is)
     (λ begun made h. subst (λ (x : Stage). Lives c.args.self.now.by.by.events.engine.now.ids g.L.EngineName.recorded (g.C.Clock.Tells c.args.self.now.by.by.clock.now) c.args.self.now.by.by.call begun
     c.know.new.self.reader.known made (g.In.Read.remaining c.args.wire.r) c.args.input.now (append_known (g.Out.Write.contents c.args.wire.w) c.replace-unsent.result) x)
     (sym c.replace-stage.ensures.value)
