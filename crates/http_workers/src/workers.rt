@@ -185,14 +185,7 @@ where
     /// Gives a connection its turns, and further ones as long as there are no more connections than
     /// threads and nothing else is ready. So a thread keeps one connection where there are few, which
     /// costs less than to find it anew. Gives what is ready else, too.
-    fn stay(&mut self, line: &mut Line<L>, is_wet: bool) -> (After, Next)
-        ensures goes { Goes self.old.shared.now.engine.now.ids L.recorded (C.Tells self.old.shared.now.clock.now) line.old.life.call
-            self.old.serving.client self.new.serving.client
-            (at_place line.old.life.stage line.old.life.known line.old.input)
-            (at_place line.new.life.stage line.new.life.known line.new.input) }
-        ensures call { line.new.life.call ≡ line.old.life.call }
-        ensures shared { self.new.shared ≡ self.old.shared }
-    {
+    fn stay(&mut self, line: &mut Line<L>, is_wet: bool) -> (After, Next) {
         let lines = &self.shared.lines;
         let mut is_wet = is_wet;
         for _ in self.rt.forever() {
@@ -226,9 +219,7 @@ where
         };
         let (mut buffer, mut input) = (buffer, input);
         let after = self.turns(&mut buffer, &mut input, line, is_wet);
-        if buffer.room() <= MOST_KEPT {
-            self.buffer = Some(buffer);
-        }
+        keep_buffer(&mut self.buffer, buffer);
         line.input = self.spare.keep(input);
         after
     }
@@ -325,5 +316,12 @@ fn next_buffer(alloc: Global, kept: &mut Option<ReplyBuffer>) -> Option<ReplyBuf
     match kept.take() {
         Some(buffer) => Some(buffer),
         None => ReplyBuffer::new(alloc).ok(),
+    }
+}
+
+/// Keeps where replies are laid out, but for one that a longer reply took.
+fn keep_buffer(kept: &mut Option<ReplyBuffer>, buffer: ReplyBuffer) {
+    if buffer.room() <= MOST_KEPT {
+        *kept = Some(buffer);
     }
 }
