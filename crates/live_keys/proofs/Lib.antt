@@ -1,0 +1,5 @@
+pub mod Orders
+pub mod Neighbours
+pub mod Counted
+pub mod Within
+pub mod Levels

@@ -1,0 +1,34 @@
+//! The live keys of a range at the end of a revision, and whether compares hold of them: so a
+//! transaction with thousands of compares of whole ranges does not walk them thousands of times.
+//!
+//! The one contract is that of [`LiveKeys::holds`]: a compare holds as the model says (`holds` of
+//! `kv_model`), whichever way it is answered. The first ranges are walked. Once that has cost about
+//! as much as a list of all live keys would, the list is made, and kept with what is found about it:
+//! a range is a part of it, found by two halvings; the least and the greatest of a field come from a
+//! tree over the list; and whether an operand is among a part, from its places in the order of the
+//! field. Trees and orders are made when first wanted.
+//!
+//! For example, where a holds 3, b holds 1 and c holds 2, once the list is made:
+//!
+//! ```text
+//! the values from b on are not 3     b to c is a part; the one place of 3 is before it: holds
+//! the values of all are above 0      the least value of all is 1: holds
+//! the values from a to c equal 3     the least is 1: does not hold
+//! the values of d are not 1          no list is needed for one key, and a value that is not there
+//!                                    has no answer: does not hold
+//! ```
+//!
+//! Only tested is that calls which may find no memory succeed where there is ample: through the
+//! transactions of `txn_core`, in the crate `store_tests`, in `src/plans.rt`. Which way a compare is
+//! answered is cost alone, and no clause says it.
+#![tactic(auto)]
+
+mod compare;
+mod extremes;
+mod field;
+mod keys;
+mod listed;
+mod part;
+mod tree;
+
+pub use keys::LiveKeys;
