@@ -3,3 +3,4 @@ pub mod Neighbours
 pub mod Counted
 pub mod Within
 pub mod Levels
+pub mod Places

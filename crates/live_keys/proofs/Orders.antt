@@ -59,7 +59,7 @@ follows R o x y n h = by (R x y) refl h
     by Greater e g = cc
 
 -- counts stand as the numbers that they are
-counts-as : (x y : ℕ) → nat_cmp x y ≡ int_cmp (pos x) (pos y)
+pub counts-as : (x y : ℕ) → nat_cmp x y ≡ int_cmp (pos x) (pos y)
 counts-as x y = by (nat_cmp x y) (ranked x y (nat_cmp x y) refl)
   where
     by : (r : Ordering) → MatchOrdering r (x < y) (x ≡ y) (y < x) → r ≡ int_cmp (pos x) (pos y)

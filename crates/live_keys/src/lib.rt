@@ -28,6 +28,7 @@ mod extremes;
 mod field;
 mod keys;
 mod listed;
+mod order;
 mod part;
 mod tree;
 

@@ -6,11 +6,14 @@ ghost use Rattle.kv_model.specs.Ranges.{live};
 ghost use Rattle.kv_model.specs.Txns as txns;
 ghost use Rattle.range_view.specs.declared.reply.KvRef.{KvRef};
 ghost use Rattle.live_keys.specs.Extremes as extremes;
+ghost use Rattle.live_keys.specs.Fields as fields;
 ghost use Rattle.live_keys.specs.Listing as listing;
+ghost use Rattle.live_keys.specs.Orders as ordered;
 ghost use Rattle.live_keys.specs.Parts as parts;
 
 use crate::compare::{holds_of, relates_to};
 use crate::field::{Field, field_of};
+use crate::order::{Order, all_differ, order_over};
 use crate::part::{Part, part_of};
 use crate::tree::{Tree, all_relate, tree_over};
 use bytes::Bytes;
@@ -23,11 +26,13 @@ use std::alloc::{AllocError, Global};
 /// How many key-values are looked at one after another, before a tree is made.
 const FEW: usize = 32;
 
-/// All live keys at the view's place, in order, and trees over them.
+/// All live keys at the view's place, in the order of the keys, with trees over them and their orders
+/// by fields, of each field at most one.
 #[derive(Drop)]
 pub(crate) struct Listed<'a> {
     pub(crate) kvs: Vec<KvRef<'a>>,
     pub(crate) trees: Vec<Tree<'a>>,
+    pub(crate) orders: Vec<Order<'a>>,
 }
 
 /// The list of all live keys at the view's place, which are walked. The error is want of memory.
@@ -42,6 +47,7 @@ pub(crate) fn list_all<'a>(alloc: Global, view: &View<'a>) -> Result<Listed<'a>,
     Ok(Listed {
         kvs,
         trees: Vec::new(alloc),
+        orders: Vec::new(alloc),
     })
 }
 
@@ -61,7 +67,14 @@ pub(crate) fn holds_in(
 {
     match part_of(&listed.kvs, &compare.range) {
         Some(part) if part.from < part.to => {
-            all_in_part(alloc, &listed.kvs, &mut listed.trees, compare, part)
+            all_in_part(
+                alloc,
+                &listed.kvs,
+                &mut listed.trees,
+                &mut listed.orders,
+                compare,
+                part,
+            )
         }
         Some(_) => Ok(holds_of(compare, &[])),
         None => {
@@ -77,17 +90,23 @@ fn all_in_part<'a>(
     alloc: Global,
     kvs: &[KvRef<'a>],
     trees: &mut Vec<Tree<'a>>,
+    orders: &mut Vec<Order<'a>>,
     compare: &Compare,
     part: Part,
 ) -> Result<bool, AllocError>
     requires inside { parts.IsWithin part kvs.now }
     requires trees { AllByRecursion (extremes.IsTree kvs.now) trees.old.items }
+    requires orders { AllByRecursion (ordered.IsOrder kvs.now) orders.old.items }
     ensures all { IfOk result (λ b.
         b ≡ list_all (extremes.passes compare.now) (parts.of_part part kvs.now)) }
     ensures trees { AllByRecursion (extremes.IsTree kvs.now) trees.new.items }
+    ensures orders { AllByRecursion (ordered.IsOrder kvs.now) orders.new.items }
 {
-    if part.len() <= FEW || compare.relation == Relation::IsNotEqual {
+    if part.len() <= FEW {
         return Ok(each_relates(kvs, compare, part));
+    }
+    if compare.relation == Relation::IsNotEqual {
+        return by_order(alloc, kvs, orders, compare, part);
     }
     by_tree(alloc, kvs, trees, compare, part)
 }
@@ -145,6 +164,54 @@ fn tree_of<'l, 'a>(trees: &'l [Tree<'a>], field: Field) -> Option<&'l Tree<'a>>
     for tree in trees {
         if tree.field == field {
             return Some(tree);
+        }
+    }
+    None
+}
+
+/// Whether none of a part of the list equals the operand, by the order of its field, which is made
+/// where there is none.
+fn by_order<'a>(
+    alloc: Global,
+    kvs: &[KvRef<'a>],
+    orders: &mut Vec<Order<'a>>,
+    compare: &Compare,
+    part: Part,
+) -> Result<bool, AllocError>
+    requires orders { AllByRecursion (ordered.IsOrder kvs.now) orders.old.items }
+    ensures all { compare.now.relation ≡ IsNotEqual → IfOk result (λ b.
+        b ≡ list_all (extremes.passes compare.now) (parts.of_part part kvs.now)) }
+    ensures orders { AllByRecursion (ordered.IsOrder kvs.now) orders.new.items }
+{
+    let field = field_of(&compare.operand);
+    if let Some(order) = order_of(orders, field) {
+        return Ok(differ_by(order, compare, part));
+    }
+    let order = order_over(alloc, field, kvs)?;
+    let is_so = differ_by(&order, compare, part);
+    orders.push(order)?;
+    Ok(is_so)
+}
+
+/// The same by its order.
+fn differ_by(order: &Order<'_>, compare: &Compare, part: Part) -> bool
+    requires { order.now.field ≡ fields.field_of compare.now.operand }
+    ensures { compare.now.relation ≡ IsNotEqual → (over : List KvRef)
+        → ordered.IsOrder over order.now
+        → result ≡ list_all (extremes.passes compare.now) (parts.of_part part over) }
+{
+    all_differ(&order.placed, &compare.operand, part)
+}
+
+/// The order of a field, if it is there.
+fn order_of<'l, 'a>(orders: &'l [Order<'a>], field: Field) -> Option<&'l Order<'a>>
+    ensures field { MatchOption result ⊤ (λ o. o.now.field ≡ field) }
+    ensures listed { (over : List KvRef) → AllByRecursion (ordered.IsOrder over) orders.now
+        → MatchOption result ⊤ (λ o. ordered.IsOrder over o.now) }
+{
+    for order in orders {
+        if order.field == field {
+            return Some(order);
         }
     }
     None

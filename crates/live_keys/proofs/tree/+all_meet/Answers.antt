@@ -1,6 +1,5 @@
 -- A part of a level is told by its ends, and by what is over its pairs.
-use Rattle.std.proofs.Common.{◌≡◌, ◌&&◌, List, ap, arith, length, refl, rules, subst}
-use Rattle.std.proofs.lemmas.Grind.{common_steps}
+use Rattle.std.proofs.Common.{◌≡◌, ◌&&◌, List, ap, arith, length, refl, subst}
 use Rattle.std.specs.List.{list_all}
 use Rattle.live_keys.specs.declared.extremes.Extremes.{Extremes}
 use Rattle.live_keys.specs.Extremes.{meets}
@@ -12,7 +11,7 @@ use Rattle.live_keys.proofs.tree.+all_meet.Goals as goal
 pub all_meet-requires : goal.all_meet-requires
 all_meet-requires t c =
     let fewer = ap length c.in-Some.ensures.cases.0 in (
-      first_of (omega (arith, fewer, c.decreases), first_of (search rules, grind (arith, common_steps, fewer, c.decreases))),
+      omega (arith, fewer, c.decreases),
       (
         rest-levels (field_of c.args.compare.now.operand) c.args.part c.halved.result c.args.levels.now c.in-Some.above.now c.in-Some.level.now
             c.in-Some.ensures.cases.0 c.requires.levels,
