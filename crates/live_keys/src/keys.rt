@@ -12,7 +12,7 @@ use std::alloc::{AllocError, Global};
 use std::marker::Model;
 
 /// How many ranges are walked at most before all live keys are listed.
-const MOST_WALKS: usize = 16;
+const MOST_WALKS: usize = 64;
 
 /// The live keys of a view, of which it is asked whether compares hold.
 #[derive(Drop)]
@@ -55,10 +55,13 @@ impl<'a> LiveKeys<'a> {
     /// `AllocError` comes where a list of the keys of a range, or of all, or what is found about
     /// that, found no memory; no later answer is another for it.
     ///
-    /// One key is looked up. The first ranges are walked, up to 16 of them and up to an eighth as
-    /// many live keys as versions are kept; then all keys are walked once, and from then on a range
-    /// takes time logarithmic in the live keys. The first that asks whether a field equals an
-    /// operand, or is greater or less, of more than 32 keys takes linear time for a tree.
+    /// One key is looked up. The first ranges are walked, up to 64 of them, and as long as those
+    /// walked have fewer live keys than versions are kept. Then all keys are walked once, and from
+    /// there on a range is found by two halvings, and its key-values are looked at one after
+    /// another: up to 32 of them, or until that were eight times as many as live keys are. From
+    /// there on each takes time logarithmic in the live keys, but the first of a field: that takes
+    /// linear time for a tree, and where it asks whether they differ from the operand, n log n for
+    /// an order.
     pub fn holds(&mut self, alloc: Global, compare: &Compare) -> Result<bool, AllocError>
         requires { self.old.place ≡ history.end_of self.old.revision }
         ensures hold { IfOk result (λ b.
@@ -76,7 +79,7 @@ impl<'a> LiveKeys<'a> {
 
     /// Whether one range more may be walked.
     fn is_cheap(&self) -> bool {
-        self.walks < MOST_WALKS && self.walked <= self.view.count() / 8
+        self.walks < MOST_WALKS && self.walked < self.view.count()
     }
 
     /// Whether a compare of one key holds.

@@ -3,7 +3,7 @@
 //!
 //! The one contract is that of [`LiveKeys::holds`]: a compare holds as the model says (`holds` of
 //! `kv_model`), whichever way it is answered. The first ranges are walked. Once that has cost about
-//! as much as a list of all live keys would, the list is made, and kept with what is found about it:
+//! as much as a list of all live keys would, the list is made, and kept with what is known of it:
 //! a range is a part of it, found by two halvings; the least and the greatest of a field come from a
 //! tree over the list; and whether an operand is among a part, from its places in the order of the
 //! field. Trees and orders are made when first wanted.

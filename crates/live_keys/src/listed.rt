@@ -23,8 +23,11 @@ use range_view::View;
 use range_view::reply::KvRef;
 use std::alloc::{AllocError, Global};
 
-/// How many key-values are looked at one after another, before a tree is made.
+/// How many key-values are looked at one after another, whatever is known.
 const FEW: usize = 32;
+
+/// How often as many as live keys are looked at one after another, before a tree or an order is made.
+const MOST_SCANS: usize = 8;
 
 /// All live keys at the view's place, in the order of the keys, with trees over them and their orders
 /// by fields, of each field at most one.
@@ -33,6 +36,8 @@ pub(crate) struct Listed<'a> {
     pub(crate) kvs: Vec<KvRef<'a>>,
     pub(crate) trees: Vec<Tree<'a>>,
     pub(crate) orders: Vec<Order<'a>>,
+    /// How many were looked at one after another.
+    pub(crate) scanned: usize,
 }
 
 /// The list of all live keys at the view's place, which are walked. The error is want of memory.
@@ -48,6 +53,7 @@ pub(crate) fn list_all<'a>(alloc: Global, view: &View<'a>) -> Result<Listed<'a>,
         kvs,
         trees: Vec::new(alloc),
         orders: Vec::new(alloc),
+        scanned: 0,
     })
 }
 
@@ -72,6 +78,7 @@ pub(crate) fn holds_in(
                 &listed.kvs,
                 &mut listed.trees,
                 &mut listed.orders,
+                &mut listed.scanned,
                 compare,
                 part,
             )
@@ -91,6 +98,7 @@ fn all_in_part<'a>(
     kvs: &[KvRef<'a>],
     trees: &mut Vec<Tree<'a>>,
     orders: &mut Vec<Order<'a>>,
+    scanned: &mut usize,
     compare: &Compare,
     part: Part,
 ) -> Result<bool, AllocError>
@@ -102,7 +110,8 @@ fn all_in_part<'a>(
     ensures trees { AllByRecursion (extremes.IsTree kvs.now) trees.new.items }
     ensures orders { AllByRecursion (ordered.IsOrder kvs.now) orders.new.items }
 {
-    if part.len() <= FEW {
+    if part.len() <= FEW || *scanned < kvs.len().saturating_mul(MOST_SCANS) {
+        *scanned = scanned.saturating_add(part.len());
         return Ok(each_relates(kvs, compare, part));
     }
     if compare.relation == Relation::IsNotEqual {
