@@ -11,16 +11,16 @@
 //! For example, where a holds 3, b holds 1 and c holds 2, once the list is made:
 //!
 //! ```text
-//! the values from b on are not 3     b to c is a part; the one place of 3 is before it: holds
-//! the values of all are above 0      the least value of all is 1: holds
-//! the values from a to c equal 3     the least is 1: does not hold
-//! the values of d are not 1          no list is needed for one key, and a value that is not there
-//!                                    has no answer: does not hold
+//! the values from b on are not 3     the part of b and c; the one place of 3 is before it: holds
+//! the values of all are above 0      the least of all is 1: holds
+//! the values from a on equal 3       the least is 1: does not hold
+//! the value of d is not 1            one key is looked up; what is not there has no value, and so
+//!                                    does not hold
 //! ```
 //!
 //! Only tested is that calls which may find no memory succeed where there is ample: through the
-//! transactions of `txn_core`, in the crate `store_tests`, in `src/plans.rt`. Which way a compare is
-//! answered is cost alone, and no clause says it.
+//! transactions of `txn_core`, in `many_compares` of `tests/rows`. Which way a compare is answered is
+//! cost alone, and no clause says it.
 #![tactic(auto)]
 
 mod compare;
