@@ -37,7 +37,6 @@ fn holds_of_all(compare: &Compare, kvs: &[KvRef<'_>]) -> bool
 }
 
 /// Whether a key-value stands to the operand as the compare says.
-#[inline]
 pub(crate) fn relates_to(compare: &Compare, kv: &KvRef<'_>) -> bool
     ensures { result ≡ extremes.passes compare.now kv.now }
 {
@@ -59,7 +58,6 @@ fn holds_of_none(relation: Relation, operand: &Operand) -> bool
 }
 
 /// How a key-value stands to the operand.
-#[inline]
 pub(crate) fn operand_cmp(operand: &Operand, kv: &KvRef<'_>) -> Ordering
     ensures { result ≡ txns.operand_cmp operand.now (kv_view kv.now) }
 {
@@ -73,7 +71,6 @@ pub(crate) fn operand_cmp(operand: &Operand, kv: &KvRef<'_>) -> Ordering
 }
 
 /// How a number that is kept stands to one that is given, which may be below 0.
-#[inline]
 fn number_cmp(kept: u64, given: i64) -> Ordering
     ensures { result ≡ int_cmp (pos kept) given }
 {
@@ -85,7 +82,6 @@ fn number_cmp(kept: u64, given: i64) -> Ordering
 }
 
 /// Whether the relation is the one that two things stand in.
-#[inline]
 fn relates(relation: Relation, order: Ordering) -> bool
     ensures { result ≡ txns.relates relation order }
 {
