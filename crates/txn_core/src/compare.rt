@@ -1,121 +1,38 @@
 //! Whether the compares of a transaction hold (the etcd documentation's Compare).
-ghost use Rattle.std.specs.Prelude.{◌≡◌, ◌≢◌, [], pos, map, IfOk, OnErr};
+ghost use Rattle.std.specs.Prelude.{◌≡◌, ◌≢◌, [], IfOk, OnErr};
 ghost use Rattle.std.specs.List.{list_all};
-ghost use Rattle.std.specs.Ordering.{int_cmp};
 ghost use Rattle.kv_model.specs.History as history;
 ghost use Rattle.kv_model.specs.Txns as txns;
-ghost use Rattle.range_view.specs.Replies.{kv_view};
 
-use kv_model::call::{Compare, Operand, Relation};
+use kv_model::call::Compare;
+use live_keys::LiveKeys;
 use range_view::View;
-use range_view::reply::KvRef;
 use std::alloc::{AllocError, Global};
-use std::cmp::Ordering;
 
-/// Whether all the compares hold of what is kept at the end of the view's revision.
+/// Whether all the compares hold of what is kept at the end of the view's revision, whose live keys
+/// `keys` are.
 ///
-/// `AllocError` comes where a list of what the keys of a range hold found no memory. The ranges are
-/// walked one after another, up to the first compare that does not hold; one key is looked up.
-/// Where there are no compares, no memory is taken.
+/// `AllocError` comes where a list of what the keys of a range hold, or of all live keys, found no
+/// memory. The ranges are looked at one after another, up to the first compare that does not hold,
+/// each as `LiveKeys::holds` says; one key is looked up. Where there are no compares, no memory is
+/// taken.
 pub(crate) fn all_hold(
     alloc: Global,
     view: &View<'_>,
+    keys: &mut LiveKeys<'_>,
     compares: &[Compare],
 ) -> Result<bool, AllocError>
-    requires { view.now.place ≡ history.end_of view.now.revision }
+    requires present { view.now.place ≡ history.end_of view.now.revision }
+    requires keys { keys.old ≡ view.now }
     ensures hold { IfOk result (λ b. b
         ≡ list_all (txns.holds view.now.versions view.now.revision) compares.now) }
     ensures free { OnErr result (compares.now ≢ []) }
+    ensures keys { keys.new ≡ view.now }
 {
     for compare in compares {
-        if !holds(alloc, view, compare)? {
+        if !keys.holds(alloc, compare)? {
             return Ok(false);
         }
     }
     Ok(true)
-}
-
-/// Whether the compare holds.
-fn holds(alloc: Global, view: &View<'_>, compare: &Compare) -> Result<bool, AllocError>
-    requires { view.now.place ≡ history.end_of view.now.revision }
-    ensures { IfOk result (λ b. b ≡ txns.holds view.now.versions view.now.revision compare.now) }
-{
-    let kvs = view.live(alloc, &compare.range)?;
-    Ok(holds_of(compare, &kvs))
-}
-
-/// Whether the compare holds where the keys of its range hold these.
-fn holds_of(compare: &Compare, kvs: &[KvRef<'_>]) -> bool
-    ensures { result ≡ txns.holds_of compare.now (map kv_view kvs.now) }
-{
-    if kvs.is_empty() {
-        holds_of_none(compare.relation, &compare.operand)
-    } else {
-        holds_of_all(compare, kvs)
-    }
-}
-
-/// Whether each of the key-values stands to the operand as the compare says.
-fn holds_of_all(compare: &Compare, kvs: &[KvRef<'_>]) -> bool
-    ensures { result
-        ≡ list_all (λ kv.
-        txns.relates compare.now.relation (txns.operand_cmp compare.now.operand kv))
-        (map kv_view kvs.now) }
-{
-    for kv in kvs {
-        if !relates(compare.relation, operand_cmp(&compare.operand, kv)) {
-            return false;
-        }
-    }
-    true
-}
-
-/// Whether a compare holds where no key of its range is live: any number is 0, and a value has no
-/// answer.
-fn holds_of_none(relation: Relation, operand: &Operand) -> bool
-    ensures { result ≡ txns.holds_of_none relation operand.now }
-{
-    match operand {
-        Operand::OfVersion(number) => relates(relation, number_cmp(0, *number)),
-        Operand::OfCreate(number) => relates(relation, number_cmp(0, *number)),
-        Operand::OfMod(number) => relates(relation, number_cmp(0, *number)),
-        Operand::OfValue(_) => false,
-        Operand::OfLease(number) => relates(relation, number_cmp(0, *number)),
-    }
-}
-
-/// How a key-value stands to the operand.
-fn operand_cmp(operand: &Operand, kv: &KvRef<'_>) -> Ordering
-    ensures { result ≡ txns.operand_cmp operand.now (kv_view kv.now) }
-{
-    match operand {
-        Operand::OfVersion(number) => number_cmp(kv.version, *number),
-        Operand::OfCreate(number) => number_cmp(kv.create, *number),
-        Operand::OfMod(number) => number_cmp(kv.modified, *number),
-        Operand::OfValue(value) => kv.value.cmp(&value.as_slice()),
-        Operand::OfLease(number) => kv.lease.cmp(number),
-    }
-}
-
-/// How a number that is kept stands to one that is given, which may be below 0.
-fn number_cmp(kept: u64, given: i64) -> Ordering
-    ensures { result ≡ int_cmp (pos kept) given }
-{
-    if given < 0 {
-        Ordering::Greater
-    } else {
-        kept.cmp(&(given as u64))
-    }
-}
-
-/// Whether the relation is the one that two things stand in.
-fn relates(relation: Relation, order: Ordering) -> bool
-    ensures { result ≡ txns.relates relation order }
-{
-    match relation {
-        Relation::IsEqual => order == Ordering::Equal,
-        Relation::IsGreater => order == Ordering::Greater,
-        Relation::IsLess => order == Ordering::Less,
-        Relation::IsNotEqual => order != Ordering::Equal,
-    }
 }

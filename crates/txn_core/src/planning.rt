@@ -21,6 +21,7 @@ use kv_model::call::{DeleteRequest, Operation, PutRequest, RangeQuery, Txn};
 use kv_model::refusal::Refusal;
 use kv_model::version::KeyRange;
 use lease_book::LeaseBook;
+use live_keys::LiveKeys;
 use range_view::View;
 use range_view::revision::revision_refusal;
 use std::alloc::{AllocError, Global};
@@ -48,11 +49,13 @@ struct Branch<'t> {
 /// A revision or a count of puts that 64 bits do not hold is given as the greatest number that they
 /// hold. No store comes to either, whose revisions end at 2^63 - 1.
 ///
-/// Each compare walks the keys of its range, up to the first compare of a transaction that does not
-/// hold, and each delete those of its range that lie in no range that was deleted before it; each
-/// key that is put or deleted takes time logarithmic in the keys that are kept or deleted so far. A
-/// put shares the request's key and value; the key of a tombstone and a value that is kept are
-/// copied.
+/// The compares of a transaction are decided up to the first that does not hold. Those of ranges
+/// walk their keys, until that has cost about as much as a list of all live keys: it is made then,
+/// once for the whole document, and from there on a compare is logarithmic in the live keys
+/// (`LiveKeys::holds`). Each delete walks those keys of its range that lie in no range that was
+/// deleted before it; each key that is put or deleted takes time logarithmic in the keys that are
+/// kept or deleted so far. A put shares the request's key and value; the key of a tombstone and a
+/// value that is kept are copied.
 pub fn plan<'t>(
     alloc: Global,
     view: &View<'_>,
@@ -108,7 +111,16 @@ fn plan_at<'t>(
 {
     let mut changes = Changes::new(alloc);
     let mut emptied = Vec::new(alloc);
-    match run_txn(alloc, view, leases, &mut changes, &mut emptied, txn) {
+    let mut keys = LiveKeys::new(view.at_end());
+    match run_txn(
+        alloc,
+        view,
+        leases,
+        &mut keys,
+        &mut changes,
+        &mut emptied,
+        txn,
+    ) {
         Ok(branch) => Ok(Plan {
             succeeded: branch.succeeded,
             steps: branch.steps,
@@ -124,12 +136,15 @@ fn run_txn<'a, 't>(
     alloc: Global,
     view: &View<'a>,
     leases: &LeaseBook,
+    keys: &mut LiveKeys<'a>,
     changes: &mut Changes<'a>,
     emptied: &mut Vec<&'t KeyRange>,
     txn: &'t Txn,
 ) -> Result<Branch<'t>, Refusal>
     requires present { planning.IsPresent view.now }
+    requires keys { keys.old ≡ view.now }
     requires emptied { AreGone view.now changes.old emptied.old.items }
+    ensures keys { keys.new ≡ view.now }
     ensures emptied { OnOk result (AreGone view.now changes.new emptied.new.items) }
     ensures path { IfOk result (λ b. Path.txn b.succeeded (steps_view b.steps.items) Path.end
         ≡ planning.path_in view.now (txn_view txn.now)) }
@@ -144,13 +159,13 @@ fn run_txn<'a, 't>(
     ensures first { IfErr result (λ e. planning.IsAtOnce e
         (planning.at_once_in view.now leases.now.leases (txn_view txn.now))) }
 {
-    let Ok(succeeded) = all_hold(alloc, view, &txn.compare) else {
+    let Ok(succeeded) = all_hold(alloc, view, keys, &txn.compare) else {
         return Err(Refusal::Memory);
     };
     let ran = if succeeded {
-        run_row(alloc, view, leases, changes, emptied, &txn.success)
+        run_row(alloc, view, leases, keys, changes, emptied, &txn.success)
     } else {
-        run_row(alloc, view, leases, changes, emptied, &txn.failure)
+        run_row(alloc, view, leases, keys, changes, emptied, &txn.failure)
     };
     match ran {
         Ok(steps) => Ok(Branch { succeeded, steps }),
@@ -164,12 +179,15 @@ fn run_row<'a, 't>(
     alloc: Global,
     view: &View<'a>,
     leases: &LeaseBook,
+    keys: &mut LiveKeys<'a>,
     changes: &mut Changes<'a>,
     emptied: &mut Vec<&'t KeyRange>,
     row: &'t Vec<Operation>,
 ) -> Result<Vec<Step<'t>>, Refusal>
     requires present { planning.IsPresent view.now }
+    requires keys { keys.old ≡ view.now }
     requires emptied { AreGone view.now changes.old emptied.old.items }
+    ensures keys { keys.new ≡ view.now }
     ensures emptied { OnOk result (AreGone view.now changes.new emptied.new.items) }
     ensures path { IfOk result (λ s. steps_view s.items
         ≡ planning.path_in view.now (ops_view row.now.items)) }
@@ -186,7 +204,7 @@ fn run_row<'a, 't>(
 {
     let mut steps = Vec::new(alloc);
     for operation in row {
-        let step = match run_operation(alloc, view, leases, changes, emptied, operation) {
+        let step = match run_operation(alloc, view, leases, keys, changes, emptied, operation) {
             Ok(step) => step,
             Err(refusal) => return Err(refusal),
         };
@@ -204,12 +222,15 @@ fn run_operation<'a, 't>(
     alloc: Global,
     view: &View<'a>,
     leases: &LeaseBook,
+    keys: &mut LiveKeys<'a>,
     changes: &mut Changes<'a>,
     emptied: &mut Vec<&'t KeyRange>,
     operation: &'t Operation,
 ) -> Result<Step<'t>, Refusal>
     requires present { planning.IsPresent view.now }
+    requires keys { keys.old ≡ view.now }
     requires emptied { AreGone view.now changes.old emptied.old.items }
+    ensures keys { keys.new ≡ view.now }
     ensures emptied { OnOk result (AreGone view.now changes.new emptied.new.items) }
     ensures path { IfOk result (λ s. (rest : Ops)
         → planning.path_in view.now (then (op_view operation.now) rest)
@@ -240,7 +261,7 @@ fn run_operation<'a, 't>(
             Ok(()) => Ok(Step::Delete(request)),
             Err(_) => Err(Refusal::Memory),
         },
-        Operation::Inner(txn) => match run_txn(alloc, view, leases, changes, emptied, txn) {
+        Operation::Inner(txn) => match run_txn(alloc, view, leases, keys, changes, emptied, txn) {
             Ok(Branch { succeeded, steps }) => Ok(Step::Inner { succeeded, steps }),
             Err(refusal) => Err(refusal),
         },

@@ -238,6 +238,7 @@ run_row-loop-operation-preserved t c =
       c.in-Ok.ensures.emptied,
       inr (past v ls os c.args.row.now.items here c.in-Ok.step c.deref-operation-items.ensures.value c.in-Ok.ensures.path c.in-Ok.ensures.fine
           l.invariant.4),
+      c.in-Ok.ensures.keys,
     )
 
 pub run_row-returns-in-Err-clause-first : goal.run_row-returns-in-Err-clause-first

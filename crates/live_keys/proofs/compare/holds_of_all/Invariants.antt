@@ -2,7 +2,7 @@ use Rattle.std.proofs.Common.{◌≡◌, drop, map}
 use Rattle.std.specs.List.{list_all}
 use Rattle.kv_model.specs.Txns.{relates, operand_cmp}
 use Rattle.range_view.specs.Replies.{kv_view}
-use Rattle.txn_core.proofs.compare.holds_of_all.Given as goal
+use Rattle.live_keys.proofs.compare.holds_of_all.Given as goal
 
 abbrev pub invariant-loop-kv : goal.invariant-loop-kv
 invariant-loop-kv l =

@@ -1,0 +1,5 @@
+pub mod Fields
+pub mod Parts
+pub mod Extremes
+pub mod Orders
+pub mod Listing

@@ -1,0 +1,120 @@
+//! The live keys of a range at the end of a revision, and whether compares hold of them.
+ghost use Rattle.std.specs.Prelude.{◌≡◌, IfOk};
+ghost use Rattle.kv_model.specs.History as history;
+ghost use Rattle.kv_model.specs.Ranges.{live};
+ghost use Rattle.kv_model.specs.Txns as txns;
+
+use crate::compare::holds_of;
+use crate::listed::{Listed, holds_in, list_all};
+use kv_model::call::Compare;
+use range_view::View;
+use std::alloc::{AllocError, Global};
+use std::marker::Model;
+
+/// How many ranges are walked at most before all live keys are listed.
+const MOST_WALKS: usize = 64;
+
+/// The live keys of a view, of which it is asked whether compares hold.
+#[derive(Drop)]
+pub struct LiveKeys<'a> {
+    view: View<'a>,
+    /// How many ranges were walked.
+    walks: usize,
+    /// How many live keys these have.
+    walked: usize,
+    listed: Option<Listed<'a>>,
+}
+
+impl<'a> Model for LiveKeys<'a> {
+    ghost use Rattle.range_view.specs.Stored.{Viewed};
+    ghost use Rattle.live_keys.specs.Listing.{MayBeListed};
+
+    ghost Value = { Viewed };
+
+    ghost view = { λ k. k.view };
+
+    ghost invariant = { λ k. MayBeListed k.view k.listed };
+}
+
+impl<'a> LiveKeys<'a> {
+    /// The live keys at a view's place. Takes no memory, and constant time.
+    pub fn new(view: View<'a>) -> Self
+        ensures { result ≡ view.entry }
+    {
+        LiveKeys {
+            view,
+            walks: 0,
+            walked: 0,
+            listed: None,
+        }
+    }
+
+    /// Whether a compare holds of what is kept at the end of the view's revision, of which the view
+    /// is.
+    ///
+    /// `AllocError` comes where a list of the keys of a range, or of all, or what is found about
+    /// that, found no memory; no later answer is another for it.
+    ///
+    /// One key is looked up. The first ranges are walked, up to 64 of them, and as long as those
+    /// walked have fewer live keys than versions are kept. Then all keys are walked once, and from
+    /// there on a range is found by two halvings, and its key-values are looked at one after
+    /// another: up to 32 of them, or until that were eight times as many as live keys are. From
+    /// there on each takes time logarithmic in the live keys, but the first of a field: that takes
+    /// linear time for a tree, and where it asks whether they differ from the operand, n log n for
+    /// an order.
+    pub fn holds(&mut self, alloc: Global, compare: &Compare) -> Result<bool, AllocError>
+        requires { self.old.place ≡ history.end_of self.old.revision }
+        ensures hold { IfOk result (λ b.
+            b ≡ txns.holds self.old.versions self.old.revision compare.now) }
+        ensures same { self.new ≡ self.old }
+    {
+        if compare.range.end.is_empty() {
+            return self.holds_of_one(alloc, compare);
+        }
+        if self.listed.is_none() && self.is_cheap() {
+            return self.walk(alloc, compare);
+        }
+        self.look_up(alloc, compare)
+    }
+
+    /// Whether one range more may be walked.
+    fn is_cheap(&self) -> bool {
+        self.walks < MOST_WALKS && self.walked < self.view.count()
+    }
+
+    /// Whether a compare of one key holds.
+    fn holds_of_one(&self, alloc: Global, compare: &Compare) -> Result<bool, AllocError>
+        ensures { IfOk result (λ b. b ≡ txns.holds_of compare.now
+            (live self.now.versions self.now.place compare.now.range)) }
+    {
+        let kvs = self.view.live(alloc, &compare.range)?;
+        Ok(holds_of(compare, &kvs))
+    }
+
+    /// The same by a walk over the keys of its range.
+    fn walk(&mut self, alloc: Global, compare: &Compare) -> Result<bool, AllocError>
+        ensures hold { IfOk result (λ b. b ≡ txns.holds_of compare.now
+            (live self.old.versions self.old.place compare.now.range)) }
+        ensures same { self.new ≡ self.old }
+    {
+        self.walks = self.walks.saturating_add(1);
+        let kvs = self.view.live(alloc, &compare.range)?;
+        self.walked = self.walked.saturating_add(kvs.len());
+        Ok(holds_of(compare, &kvs))
+    }
+
+    /// The same by the list of all live keys, which is made where there is none.
+    fn look_up(&mut self, alloc: Global, compare: &Compare) -> Result<bool, AllocError>
+        ensures hold { IfOk result (λ b. b ≡ txns.holds_of compare.now
+            (live self.old.versions self.old.place compare.now.range)) }
+        ensures same { self.new ≡ self.old }
+    {
+        let mut listed = match self.listed.take() {
+            Some(listed) => listed,
+            None => list_all(alloc, &self.view)?,
+        };
+        let is_so = holds_in(alloc, &self.view, &mut listed, compare);
+        self.listed = Some(listed);
+        is_so
+    }
+}
