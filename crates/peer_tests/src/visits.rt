@@ -113,60 +113,79 @@ fn visit<L: EngineName, R: Wait + time::Clock>(
     bytes: &[u8],
     most: usize,
 ) -> Option<(Served<L>, After)> {
-    let mut served = served;
-    if served.life.call != turning.by.by.call {
+    let Served {
+        clients,
+        buffer,
+        input,
+        life,
+        w,
+    } = served;
+    let (mut clients, mut buffer, mut input, mut life, mut w) = (clients, buffer, input, life, w);
+    if life.call != turning.by.by.call {
         return None;
     }
-    let serving = served.clients.get_mut(client)?;
-    served.w.most = most;
+    w.most = most;
     let wire = Wire {
         r: Part { bytes },
-        w: served.w,
+        w,
     };
-    let visited = turning.visit(
-        serving,
-        &mut served.buffer,
-        &mut served.input,
-        &mut served.life,
-        wire,
-        true,
-    );
-    served.w = visited.wire.w;
+    let serving = clients.get_mut(client)?;
+    let visited = turning.visit(serving, &mut buffer, &mut input, &mut life, wire, true);
+    let served = Served {
+        clients,
+        buffer,
+        input,
+        life,
+        w: visited.wire.w,
+    };
     Some((served, visited.after))
 }
 
-/// What went out of a connection whose bytes come in two parts, and whose client takes so many bytes a
-/// visit; `None` where something found no memory, or a visit ends it.
+/// The bytes of a part: those before a place, those from it on, and none.
+fn part_of(bytes: &[u8], place: usize, part: usize) -> Option<&[u8]> {
+    match part {
+        0 => bytes.get(..place),
+        1 => bytes.get(place..),
+        _ => bytes.get(..0),
+    }
+}
+
+/// What went out of a connection whose bytes come in two parts, split at a place, and whose client takes
+/// so many bytes a visit; `None` where something found no memory, or a visit ends it.
 fn goes_out<L: EngineName, R: Wait + time::Clock>(
     turning: &Turning<'_, L, Impatient, Still, R>,
     served: Served<L>,
-    parts: (&[u8], &[u8]),
+    bytes: &[u8],
+    place: usize,
     most: usize,
 ) -> Option<Vec<u8>> {
     let mut served = served;
-    let mut left = parts;
+    let (mut part, mut is_new) = (0, true);
     for count in 0..MOST_VISITS {
-        let bytes = left.0;
-        let (then, after) = visit(turning, served, count as usize % 2, bytes, most)?;
+        let given = if is_new { part } else { 2 };
+        let came = part_of(bytes, place, given)?;
+        let (then, after) = visit(turning, served, count as usize % 2, came, most)?;
         served = then;
+        is_new = matches!(after, After::Reads);
         match after {
-            After::Reads if left.1.is_empty() => return Some(served.w.got),
-            After::Reads => left = (left.1, b""),
-            After::Writes | After::Again => left.0 = b"",
+            After::Reads if part == 1 => return Some(served.w.got),
+            After::Reads => part = 1,
+            After::Writes | After::Again => {}
             After::Over | After::Away(_) => return None,
         }
     }
     None
 }
 
-/// Whether all is answered of a connection whose bytes come in these parts.
+/// Whether all is answered of a connection whose bytes come split at a place: by a row of how many bytes
+/// its client takes a visit, and what it is to get.
 fn is_answered<L: EngineName, R: Wait + time::Clock>(
     rt: &R,
     alloc: Global,
     opening: Opening,
-    parts: (&[u8], &[u8]),
-    most: usize,
-    wanted: &[u8],
+    sent: &[u8],
+    place: usize,
+    row: (usize, &[u8]),
 ) -> bool
     requires name { opening.name ≡ L.Ledger.name }
     requires parts { opening.parts ≡ L.Ledger.parts }
@@ -197,9 +216,23 @@ fn is_answered<L: EngineName, R: Wait + time::Clock>(
         crowd: &crowd,
         ended: &ended,
     };
-    match goes_out(&turning, served, parts, most) {
-        Some(got) => got.as_slice() == wanted,
+    match goes_out(&turning, served, sent, place, row.0) {
+        Some(got) => got.as_slice() == row.1,
         None => false,
+    }
+}
+
+/// The same, over an engine of its own.
+fn comes_to<R: Wait + time::Clock>(
+    rt: &R,
+    alloc: Global,
+    sent: &[u8],
+    place: usize,
+    row: (usize, &[u8]),
+) -> bool {
+    match Opening::new(alloc, rt) {
+        Ok(opening) => is_answered::<Brand, R>(rt, alloc, opening, sent, place, row),
+        Err(_) => false,
     }
 }
 
@@ -208,11 +241,7 @@ fn is_answered<L: EngineName, R: Wait + time::Clock>(
 fn first_wrong<R: Wait + time::Clock>(rt: &R, alloc: Global, most: usize) -> Option<usize> {
     let (sent, wanted) = sent_and_answered(alloc);
     for place in 0..=sent.len() {
-        let parts = (sent.get(..place)?, sent.get(place..)?);
-        let Ok(opening) = Opening::new(alloc, rt) else {
-            return Some(place);
-        };
-        if !is_answered::<Brand, R>(rt, alloc, opening, parts, most, &wanted) {
+        if !comes_to(rt, alloc, &sent, place, (most, wanted.as_slice())) {
             return Some(place);
         }
     }
