@@ -1,5 +1,5 @@
 //! The thread that looks after the streams that have begun.
-ghost use Rattle.std.specs.Prelude.{⊤};
+ghost use Rattle.std.specs.Prelude.{◌≡◌, [], IfOk, ⊤};
 
 use crate::around::{Around, Looked};
 use crate::handing::{Handed, Handing, WOKEN};
@@ -51,7 +51,9 @@ struct Round {
 
 impl Round {
     /// None. Fails for want of memory.
-    fn new(alloc: Global) -> Result<Round, AllocError> {
+    fn new(alloc: Global) -> Result<Round, AllocError>
+        ensures { IfOk result (λ round. (round.wet.items ≡ []) × (round.due.items ≡ [])) }
+    {
         Ok(Round {
             wet: Vec::with_capacity(alloc, ROOM)?,
             due: Vec::with_capacity(alloc, ROOM)?,
