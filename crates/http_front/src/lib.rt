@@ -5,7 +5,7 @@
 //! history answers the bytes that were read. [`work`] answers one over an engine that other threads
 //! change too: it writes the texts of exactly the outcomes of the events that were made for its client,
 //! one for each request that was read, or of what that client read beside the engine, and nothing besides
-//! (`specs/Engines.antt`). Both are the one loop of
+//! (`http_connections`). Both are the one loop of
 //! `http_loop`. [`pool`] accepts the connections of a listener, of which any of some threads gives any
 //! its turns that is ready, beside a thread that trims and one that ends leases; when all have ended it
 //! closes the engine and gives its core, which stands for the world that the history of all that was done
@@ -13,7 +13,7 @@
 //!
 //! A [`Gate`] holds requests back for tests, is told where a request is waited for, and knows
 //! whether a client has left; a [`Clock`] tells the moments by which leases end. A connection
-//! that waits is a value (`Line` of `line.rt`), and no client keeps a worker.
+//! that waits is a value (`Life` of `http_connections`), and no client keeps a worker.
 //!
 //! [`pool_directed`] serves without the two threads beside the connections, until somebody ends it
 //! ([`Directing`]).
