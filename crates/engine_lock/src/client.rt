@@ -1,7 +1,8 @@
 //! A client of an engine, what it has seen of the list of all events, and its reader.
-ghost use Rattle.std.specs.Prelude.{◌≡◌, ◌++◌, ◌∷◌, [], cond, true, MatchBool, OnOk, OnErr, IfOk, IfErr};
+ghost use Rattle.std.specs.Prelude.{◌≡◌, ◌++◌, ◌∷◌, [], cond, true, ⊤, MatchBool, MatchOption, OnOk, OnErr, IfOk, IfErr};
 ghost use mathlib.Core.List.{IsPrefix};
 ghost use Rattle.kv_model.specs.declared.refusal.Refusal.TheVariants.{NoPlace};
+ghost use Rattle.kv_model.specs.Keys.{in_range};
 ghost use Rattle.store_laws.specs.Changes.{untrimmed};
 ghost use Rattle.snapshot_feed.specs.Answers.{AnswersOf};
 ghost use Rattle.snapshot_feed.specs.Showing.{IsShown};
@@ -17,9 +18,11 @@ ghost use Rattle.engine_lock.specs.Makings.{event_made, outcome_made};
 use crate::known::Known;
 use crate::making::{Made, Making, Makings};
 use crate::opening::EngineName;
+use bytes::Bytes;
 use event_book::{Front, Holder, Listing};
 use json_gateway::Refusal;
 use kv_model::call::RangeQuery;
+use kv_model::version::KeyRange;
 use range_view::RangeReply;
 use snapshot_feed::{Feed, SnapReader};
 use std::alloc::Global;
@@ -171,6 +174,16 @@ impl<L: EngineName> Client<L> {
         ensures { AnswersOf (untrimmed (led_to self.now.reader.known)) query.now result }
     {
         self.reader.range(alloc, query)
+    }
+
+    /// The key of a range before which so many of its keys stand that are kept, live or not, lent from
+    /// what the reading shows; `None` where it has no more than so many, of one key, and where there is
+    /// no reading. Takes no memory; the time is logarithmic in the number of keys, and linear in the
+    /// number that is given. Waits for nobody.
+    pub fn nth_key(&self, range: &KeyRange, count: usize) -> Option<&Bytes>
+        ensures { MatchOption result ⊤ (λ k. in_range range.now k.now ≡ true) }
+    {
+        self.reader.nth_key(range, count)
     }
 
     /// The front of all that the client has read or was told of for its reads. Takes no memory, and

@@ -1,7 +1,8 @@
 //! From each key to its revisions (etcd: the tree index of keys).
 ghost use Rattle.std.specs.Prelude.{◌≡◌, List, [], ◌++◌, ◌||◌, if◌then◌else◌, map};
-ghost use Rattle.std.specs.Prelude.{option_copied, OnOk, OnErr, IfOk};
+ghost use Rattle.std.specs.Prelude.{option_copied, OnOk, OnErr, IfOk, MatchOption, ⊤, true};
 ghost use Rattle.kv_model.specs.declared.version.Version.{Version};
+ghost use Rattle.kv_model.specs.Keys.{in_range};
 ghost use Rattle.key_index.specs.Agrees.{Agrees, IsBelow, AreOf};
 ghost use Rattle.key_index.specs.KeyRevisions.{IsBehind, after_place, at_place, is_followed};
 ghost use Rattle.key_index.specs.Index.{IsIndex, found, in_interval, is_up_to, revisions};
@@ -195,6 +196,25 @@ impl KeyIndex {
             Span::Interval { from, to } => {
                 interval::all_below(self.alloc, self.keys.from(from), to)
             }
+        }
+    }
+
+    /// The key of a range before which so many of its keys stand, lent; `None` where it has no more
+    /// than so many, and of one key. Takes no memory.
+    ///
+    /// The time is logarithmic in the number of keys, and linear in the number that is given.
+    pub fn nth_key(&self, range: &KeyRange, count: usize) -> Option<&Bytes>
+        ensures { MatchOption result ⊤ (λ k. in_range range.now k.now ≡ true) }
+    {
+        let walk = match range.span() {
+            Span::Key(_) => return None,
+            Span::All => self.keys.all(),
+            Span::From(from) => self.keys.from(from),
+            Span::Interval { from, .. } => self.keys.from(from),
+        };
+        match interval::nth(walk, count) {
+            Some(key) if range.contains(key.as_slice()) => Some(key),
+            _ => None,
         }
     }
 }

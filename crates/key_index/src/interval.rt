@@ -58,3 +58,15 @@ pub(crate) fn first<'a>(
     }
     Ok(keys)
 }
+
+/// The key of a walk before which so many stand, where there is one.
+pub(crate) fn nth<'a>(walk: Walk<'a, Revisions>, count: usize) -> Option<&'a Bytes> {
+    let mut walk = walk;
+    for _ in 0..count {
+        let _ = walk.next()?;
+    }
+    match walk.next() {
+        Some((key, _)) => Some(key),
+        None => None,
+    }
+}

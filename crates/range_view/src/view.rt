@@ -1,7 +1,7 @@
 //! What is kept, read at a place (the etcd documentation's RangeRequest and RangeResponse).
 ghost use Rattle.std.specs.Prelude.{◌≡◌, ◌&&◌, IfOk, IfErr, MatchOption, option_map, filter_map};
-ghost use Rattle.std.specs.Prelude.{map, filter, length, nat_le};
-ghost use Rattle.kv_model.specs.Keys.{one_key, same_key};
+ghost use Rattle.std.specs.Prelude.{map, filter, length, nat_le, true, ⊤};
+ghost use Rattle.kv_model.specs.Keys.{in_range, one_key, same_key};
 ghost use Rattle.kv_model.specs.History.{value_at, end_of};
 ghost use Rattle.kv_model.specs.Ranges.{range_reply, read_place, revision_refusal, live};
 ghost use Rattle.version_table.specs.Rising.{IsRising};
@@ -193,6 +193,17 @@ impl<'a> View<'a> {
     {
         let keys = self.index.keys_in(range)?;
         held_by(alloc, self.table, &keys, self.place)
+    }
+
+    /// The key of a range before which so many of its keys stand that are kept, live or not, lent;
+    /// `None` where it has no more than so many, and of one key. So a range can be read in parts: the
+    /// keys before this one, and those from it on. Takes no memory.
+    ///
+    /// The time is logarithmic in the number of keys, and linear in the number that is given.
+    pub fn nth_key(&self, range: &KeyRange, count: usize) -> Option<&'a Bytes>
+        ensures { MatchOption result ⊤ (λ k. in_range range.now k.now ≡ true) }
+    {
+        self.index.nth_key(range, count)
     }
 
     /// The answer to a Range, read at the end of the revision asked for, or at the view's place

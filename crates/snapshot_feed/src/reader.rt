@@ -1,8 +1,9 @@
 //! A reader beside the writer.
-ghost use Rattle.std.specs.Prelude.{◌≡◌, suc, true, false, OnOk, OnErr, IfErr, IfOk, IfSome, MatchBool};
+ghost use Rattle.std.specs.Prelude.{◌≡◌, suc, true, false, OnOk, OnErr, IfErr, IfOk, IfSome, MatchBool, MatchOption, ⊤};
 ghost use mathlib.Core.List.{IsPrefix};
 ghost use Rattle.left_right.specs.Sides.{view};
 ghost use Rattle.kv_model.specs.declared.refusal.Refusal.TheVariants as refusal;
+ghost use Rattle.kv_model.specs.Keys.{in_range};
 ghost use Rattle.store_laws.specs.Changes.{untrimmed};
 ghost use Rattle.event_book.specs.Events.{led_to};
 ghost use Rattle.event_book.specs.Rules.{IsShorter};
@@ -12,10 +13,12 @@ ghost use Rattle.snapshot_feed.specs.Showing.{IsShown};
 ghost use Rattle.snapshot_feed.specs.Shown.{IsOf};
 
 use crate::seat::{FeedReader, Seat, entered, left};
+use bytes::Bytes;
 use core::mem::replace_with;
 use event_book::Front;
 use kv_model::call::RangeQuery;
 use kv_model::refusal::Refusal;
+use kv_model::version::KeyRange;
 use range_view::{RangeReply, Tables};
 use std::alloc::Global;
 use std::marker::Model;
@@ -186,6 +189,18 @@ impl SnapReader {
         match &self.seat {
             Seat::In(reading) => answer(&reading.get().tables, alloc, query),
             Seat::Out(_) => Err(Refusal::NoPlace),
+        }
+    }
+
+    /// The key of a range before which so many of its keys stand that are kept, as of
+    /// `range_view`'s [`View::nth_key`](range_view::View::nth_key), lent from the tables that the reader
+    /// is within. Takes no memory.
+    pub fn nth_key(&self, range: &KeyRange, count: usize) -> Option<&Bytes>
+        ensures { MatchOption result ⊤ (λ k. in_range range.now k.now ≡ true) }
+    {
+        match &self.seat {
+            Seat::In(reading) => reading.get().tables.view().nth_key(range, count),
+            Seat::Out(_) => None,
         }
     }
 

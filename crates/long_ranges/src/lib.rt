@@ -1,0 +1,4 @@
+//! Ranges of many keys, read in parts beside the lock.
+#![tactic(auto)]
+
+mod laws;
