@@ -14,7 +14,7 @@ use Rattle.event_book.specs.Callers as list
 use Rattle.event_book.specs.Events.{Entry, Event, entry, events_by}
 use Rattle.event_book.proofs.Giving.{adds_one, gives_both, shows_none}
 use Rattle.engine_lock.specs.Entering.{Enters}
-use Rattle.engine_lock.specs.Locked.{Caller}
+use Rattle.engine_lock.specs.Locked.{Caller, left}
 use Rattle.engine_lock.specs.declared.engine.Submitted.{Submitted}
 use Rattle.http_loop.specs.declared.answering.Told.{Told}
 use Rattle.http_loop.specs.declared.answering.Told.TheVariants as told
@@ -22,7 +22,7 @@ use Rattle.http_loop.specs.Answered.{AreMessages, Conn, IsAnswered, IsStream, Is
 use Rattle.http_loop.specs.declared.writing.Turn.{Turn}
 use Rattle.http_loop.specs.Stepped.{EndsWith}
 use Rattle.http_loop.specs.Turned.{IsTurn, NotBegun, Serves, progress}
-use Rattle.http_connections.specs.Engines.{Answers, AnswersFirst, AreMadeBehind, AreQuiet, Awaits, Begins, Does, Finishes, Gets, Looks, Says, Starts, Stays, Submits, SubmitsFirst, Tells}
+use Rattle.http_connections.specs.Engines.{Answers, AnswersFirst, AreMadeBehind, AreQuiet, Awaits, Begins, CatchesUp, Does, Finishes, Gets, Looks, ReadsOn, Says, Starts, Stays, Submits, SubmitsFirst, Tells}
 
 -- ---- of any calls
 
@@ -123,9 +123,19 @@ module _ (ids : Ids) (recorded : Bool) (At : ℕ → Type 0) (Left : Type 0) whe
   does : (c d : Caller) (asking : Asking) (o : Outcome) → Does ids At c asking o d → Gets c d
   does c d asking o h = both c h.told d (enters ids c h.told _ _ h.submits.enters) (awaits h.submitted o h.told d h.awaits)
 
+  caught : (c d : Caller) → (left d ≡ left c) ⊎ ((told : Bool) × CatchesUp ids At told c d) → Gets c d
+  caught c d (inl h) = rests c d (ap seen h)
+  caught c d (inr h) = enters ids c d _ _ h.1.2.enters
+
+  reads_on : (c d : Caller) (front : List Entry) → ReadsOn c front d → Gets c d
+  reads_on c d front h = rests c d (ap seen h.client)
+
+  read_or_not : (c d : Caller) → (d ≡ c) ⊎ ReadsOn c c.reader.known d → Gets c d
+  read_or_not c d (inl h) = rests c d (ap seen h)
+  read_or_not c d (inr h) = reads_on c d c.reader.known h
+
   stays : (c d : Caller) → Stays ids At c d → Gets c d
-  stays c d (inl h) = rests c d (ap seen h)
-  stays c d (inr h) = enters ids c d _ _ h.1.2.enters
+  stays c d h = both c h.from d (caught c h.from h.caught) (read_or_not h.from d h.reads)
 
   starts : (command : Command) (c d : Caller) → Starts ids At command c d → Gets c d
   starts command c d (inl h) = rests c d (ap seen h)
@@ -137,7 +147,7 @@ module _ (ids : Ids) (recorded : Bool) (At : ℕ → Type 0) (Left : Type 0) whe
 
   done : (c d : Caller) (asking : Asking) (command : Command) (o : Outcome) → Submits ids At c asking o d ⊎ Looks ids recorded At c command o d → Gets c d
   done c d asking command o (inl s) = both c s.from d (starts asking.command c s.from s.starts) (does s.from d asking o s.does)
-  done c d asking command o (inr l) = both c l.looks.from d (begins l.query.serializable c l.looks.from l.looks.begins) (rests l.looks.from d (ap seen l.looks.reads.client))
+  done c d asking command o (inr l) = both c l.looks.from d (begins l.query.serializable c l.looks.from l.looks.begins) (reads_on l.looks.from d l.looks.reads.front l.looks.reads.client)
 
   answers : (c d : Caller) (a : Asked) (o : Outcome) → Answers ids recorded At c a o d → Gets c d
   answers c d a o (inl h) = done c d _ h.command o h.does

@@ -1,5 +1,5 @@
 -- What a client reads beside the engine, as a response.
-use Rattle.std.proofs.Common.{◌≡◌, ◌⊎◌, inl, inr, Bool, true, false, ℕ, List, Option, None, Some, Result, Ok, Err, sym, ◌∙◌, ap, subst}
+use Rattle.std.proofs.Common.{◌≡◌, ◌⊎◌, inl, inr, Bool, true, false, ℕ, List, Option, None, Some, Result, Ok, Err, refl, sym, ◌∙◌, ap, subst}
 use Rattle.std.specs.Prelude.{IfSome, IfNone, MatchBool}
 use Rattle.kv_model.specs.declared.ids.Ids.{Ids}
 use Rattle.kv_model.specs.declared.call.Command.{Command}
@@ -21,7 +21,7 @@ use Rattle.json_gateway.specs.declared.outcome.Settled.TheVariants as settled
 use Rattle.json_gateway.specs.Endings.{Refuses}
 use Rattle.engine_lock.specs.Entering as lock
 use Rattle.engine_lock.specs.Locked.{Caller, knowing, left}
-use Rattle.http_connections.specs.Engines.{Begins, CatchesUp, IsAnswer, Looks, LooksUp, SettlesAs, Starts, Stays}
+use Rattle.http_connections.specs.Engines.{Begins, CatchesUp, IsAnswer, Looks, LooksUp, ReadsOn, SettlesAs, Starts, Stays}
 use Rattle.http_connections.specs.Engines.{answer_over, response_over}
 
 -- the reader's answer is the model's, or memory was wanting
@@ -52,14 +52,19 @@ reads_client c d e h b l = l ∙ ap left h ∙ (λ i. record c { reader = record
 pub caught : (ids : Ids) (recorded : Bool) (At : ℕ → Type 0) (c d : Caller) (now : ℕ) (b : Bool) → At now → recorded ≡ false → lock.CatchesUp ids c now b d
     → MatchBool b ((recorded ≡ false) × CatchesUp ids At true c d) (Stays ids At c d)
 caught ids recorded At c d now true at unwritten h = (unwritten, (now, at, h))
-caught ids recorded At c d now false at unwritten h = inr (false, (now, at, h))
+caught ids recorded At c d now false at unwritten h = record { from = d; caught = inr (false, (now, at, h)); reads = inl refl }
 
--- one that was to read then, and did not
-pub stays : (ids : Ids) (recorded : Bool) (At : ℕ → Type 0) (s : Bool) (c d e : Caller) → Begins ids recorded At s c d → e ≡ left d → Stays ids At c e
-stays ids recorded At true c d e b l = inl (ap left l ∙ ap left b)
-stays ids recorded At false c d e b l =
-    let h = b.1 in
-    inr (true, subst (CatchesUp ids At true c) (h.2.enters.same ∙ sym (l ∙ ap left h.2.enters.same)) h)
+-- one that left its reading
+pub left_alone : (ids : Ids) (At : ℕ → Type 0) (c d : Caller) → left d ≡ left c → Stays ids At c d
+left_alone ids At c d h = record { from = d; caught = inl h; reads = inl refl }
+
+-- one that was to read then, and did not, or not to the end
+pub stays : (ids : Ids) (recorded : Bool) (At : ℕ → Type 0) (s : Bool) (c d e : Caller) → Begins ids recorded At s c d → ReadsOn d d.reader.known e → Stays ids At c e
+stays ids recorded At s c d e b r = record { from = d; caught = begun s b; reads = inr r }
+  where
+    begun : (s : Bool) → Begins ids recorded At s c d → (left d ≡ left c) ⊎ ((told : Bool) × CatchesUp ids At told c d)
+    begun true b = inl (ap left b)
+    begun false b = inr (true, b.1)
 
 -- a Range that was read
 pub looks_as : (ids : Ids) (recorded : Bool) (At : ℕ → Type 0) (c d : Caller) (q : RangeQuery) (command : Command) (r : Option Outcome) → command ≡ commands.Range q

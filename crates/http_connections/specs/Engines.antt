@@ -114,14 +114,22 @@ SettlesAs told (settled.Reply r) = response_of r ≡ told
 SettlesAs told settled.Memory = ⊤
 SettlesAs told (settled.Lost n) = ⊥
 
+-- A client read on beside the engine, and left its reading: it knows of a front of the list of all events that begins with
+-- this one.
+pub record ReadsOn (c : Caller) (front : List Entry) (later : Caller) : Type 0 where
+  pub known : List Entry
+  pub begins : IsPrefix front known
+  pub client : later ≡ knowing c c.holder known
+
 -- A client read beside the engine, and left its reading: the answer is the model's in the world that a front of the list of
--- all events leads to, which begins with all that the client has read and was told of, and which it knows of from then on.
+-- all events leads to, which begins with all that the client has read and was told of; and it knows of that front from then
+-- on, and of what it saw later, where it read in parts.
 pub record Reads (ids : Ids) (c : Caller) (q : RangeQuery) (o : Outcome) (later : Caller) : Type 0 where
   pub front : List Entry
   pub begins : IsPrefix c.reader.known front
   pub settles : SettlesAs (response_over ids (answer_over (untrimmed (led_to front)) q)) o.settled
   pub bare : (o.raised ≡ None) × (o.watch ≡ None)
-  pub client : later ≡ knowing c c.holder front
+  pub client : ReadsOn c front later
 
 -- At a moment that was told, handed in as an event of its own, the client was told of all that the engine had done; or of
 -- nothing.
@@ -133,9 +141,11 @@ CatchesUp ids At told c later = (now : ℕ) × At now × lock.CatchesUp ids c no
 abbrev pub Begins : Ids → Bool → (ℕ → Type 0) → Bool → Caller → Caller → Type 0
 Begins ids recorded At serializable c later = MatchBool serializable (later ≡ c) ((recorded ≡ false) × CatchesUp ids At true c later)
 
--- it left its reading, or caught up or was to, and nothing else
-abbrev pub Stays : Ids → (ℕ → Type 0) → Caller → Caller → Type 0
-Stays ids At c later = (left later ≡ left c) ⊎ ((told : Bool) × CatchesUp ids At told c later)
+-- it left its reading, or caught up or was to, and then read on or did not, and nothing else
+pub record Stays (ids : Ids) (At : ℕ → Type 0) (c later : Caller) : Type 0 where
+  pub from : Caller
+  pub caught : (left from ≡ left c) ⊎ ((told : Bool) × CatchesUp ids At told c from)
+  pub reads : (later ≡ from) ⊎ ReadsOn from from.reader.known later
 
 -- a Range was read so
 pub record LooksUp (ids : Ids) (recorded : Bool) (At : ℕ → Type 0) (c : Caller) (query : RangeQuery) (o : Outcome) (later : Caller) : Type 0 where
