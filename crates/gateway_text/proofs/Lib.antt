@@ -4,3 +4,4 @@ pub mod Responses
 pub mod ResponseLengths
 pub mod Rooms
 pub mod Bare
+pub mod RangeParts

@@ -3,3 +3,4 @@ pub mod Views
 pub mod Rooms
 pub mod Bare
 pub mod Lengths
+pub mod RangeParts

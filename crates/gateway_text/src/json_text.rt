@@ -213,7 +213,8 @@ impl JsonText {
         self.end_array()
     }
 
-    fn items<T: WriteJson>(&mut self, items: &[T]) -> Result<(), AllocError>
+    /// Values, one after another, within a list.
+    pub(crate) fn items<T: WriteJson>(&mut self, items: &[T]) -> Result<(), AllocError>
         ensures { OnOk result (self.new ≡ self.old ++ flat_map
             (λ x. data_tokens (T.value x)) items.now) }
     {

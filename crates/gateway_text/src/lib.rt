@@ -4,8 +4,9 @@
 //! The one contract is that of each `.._text` function: the bytes are `success_response` of
 //! `kv_model`, the compact text of the answer's value, for every reply, revision and numbers of the
 //! member. A body that fails was not given, and fails for want of memory alone. `json_gateway` picks
-//! the function for each reply, and the [`Wording`] for each refusal. For example, with member 2 of
-//! cluster 1 at revision 5, a Put that replaced nothing is told as
+//! the function for each reply, and the [`Wording`] for each refusal. [`RangeText`] makes a Range's
+//! body, the same bytes, of key-values that come in parts. For example, with member 2 of cluster 1
+//! at revision 5, a Put that replaced nothing is told as
 //!
 //! ```text
 //! put_text(alloc, 5, None, &ids)
@@ -25,6 +26,7 @@ mod header;
 mod json_text;
 mod key_value;
 mod leases;
+mod range_parts;
 mod refusal_bodies;
 mod refusals;
 mod transactions;
@@ -32,6 +34,7 @@ mod watches;
 
 pub use answers::{delete_text, put_text, range_text};
 pub use leases::{granted_text, leases_text, renewed_text, revoked_text, time_left_text};
+pub use range_parts::{RangeText, room_of};
 pub use refusal_bodies::refusal_body;
 pub use refusals::{Wording, lost_text, memory_text, refusal_text, refusal_wording};
 pub use transactions::txn_text;

@@ -45,7 +45,7 @@ pub mod wire;
 pub use commands::{declined, dismissed, perform, perform_to, post, text};
 pub use gateway_read::bad::Bad;
 pub use gateway_read::read;
-pub use gateway_text::range_text;
+pub use gateway_text::{RangeText, range_text, room_of};
 pub use kv_model::ids::Ids;
 pub use kv_model::refusal::Refusal;
 pub use messages::message;
