@@ -5,13 +5,18 @@ ghost use Rattle.kv_model.specs.declared.refusal.Refusal.{Refusal as RefusalOf};
 ghost use Rattle.kv_model.specs.declared.call.Command.TheVariants as commands;
 ghost use Rattle.kv_model.specs.Ranges as ranges;
 ghost use Rattle.engine_lock.specs.Locked.{left};
-ghost use Rattle.http_connections.specs.Engines.{Begins, CatchesUp, IsAnswer, Looks, LooksUp, Reads, SettlesAs};
-ghost use Rattle.http_connections.specs.Engines.{Starts, Stays, response_over};
+ghost use Rattle.http_connections.specs.Engines.{Begins, CatchesUp, IsAnswer, Looks, LooksUp, Reads, ReadsOn, SettlesAs};
+ghost use Rattle.http_connections.specs.Engines.{Starts, Stays, answer_over, response_over};
+ghost use Rattle.store_laws.specs.Changes.{untrimmed};
+ghost use Rattle.event_book.specs.Events.{led_to};
+ghost use Rattle.json_gateway.specs.declared.outcome.Settled.TheVariants as replies;
+ghost use Rattle.json_gateway.specs.declared.outcome.ReplyBody.TheVariants as bodies;
 
 use engine_lock::{Client, EngineName};
 use http_peer::{Clock, Gate};
 use json_gateway::{Ids, Outcome, Refusal, Reply, ReplyBody, Settled, declined, range_text};
 use kv_model::call::{Command, RangeQuery};
+use long_ranges::{Unparted, is_long, may_be_parted, read_in_parts};
 use range_view::RangeReply;
 use recorded_engine::Recorded;
 use std::alloc::Global;
@@ -26,7 +31,8 @@ use std::sync::Wait;
 /// written down it is submitted, so that its line stands where it was answered.
 ///
 /// The cost is that of [`Engine::catch_up`] for a Range that is not serializable, that of
-/// `View::range`, and linear in the text. A serializable one waits for nobody.
+/// `View::range`, twice where it is read in parts, and linear in the text. A serializable one waits for
+/// nobody; and no writer waits for longer than a part takes, but where a Range has to be read whole.
 pub(crate) fn looked<L: EngineName, G: Gate, C: Clock, R: Wait>(
     events: &Recorded<'_, L, G, R>,
     clock: &C,
@@ -118,7 +124,8 @@ fn is_caught_up<L: EngineName, G: Gate, C: Clock, R: Wait>(
     events.engine.catch_up(events.rt, client, now)
 }
 
-/// Answers a Range from what is published; `None` where the client has no entry to it.
+/// Answers a Range from what is published, in parts where it has many keys; `None` where the client has no
+/// entry to it.
 fn read_beside<L: EngineName>(
     alloc: Global,
     client: &mut Client<L>,
@@ -127,18 +134,78 @@ fn read_beside<L: EngineName>(
 ) -> Option<Outcome>
     ensures reads { IfSome result (λ o. Reads ids.now client.old query.now o client.new) }
     ensures ready { IfSome result (λ o. o.waits ≡ false) }
-    ensures none { IfNone result (client.new ≡ left client.old) }
+    ensures none { IfNone result (ReadsOn client.old client.old.reader.known client.new) }
 {
     if client.enter().is_err() {
+        client.leave();
         return None;
     }
+    if !may_be_parted(query) || !is_long(client, query) {
+        return Some(read_whole(alloc, client, query, ids));
+    }
+    match read_in_parts(alloc, client, query, ids) {
+        Ok(text) => Some(read_as(answered(text))),
+        Err(Unparted::Memory) => Some(read_as(Settled::Memory)),
+        Err(Unparted::Whole) => read_again(alloc, client, query, ids),
+    }
+}
+
+/// Answers a Range whole, where it was not read in parts to its end.
+fn read_again<L: EngineName>(
+    alloc: Global,
+    client: &mut Client<L>,
+    query: &RangeQuery,
+    ids: &Ids,
+) -> Option<Outcome>
+    ensures reads { IfSome result (λ o. Reads ids.now client.old query.now o client.new) }
+    ensures ready { IfSome result (λ o. o.waits ≡ false) }
+    ensures none { IfNone result (ReadsOn client.old client.old.reader.known client.new) }
+{
+    if client.enter().is_err() {
+        client.leave();
+        return None;
+    }
+    Some(read_whole(alloc, client, query, ids))
+}
+
+/// Answers a Range from what the client's reading shows, which is then left.
+fn read_whole<L: EngineName>(
+    alloc: Global,
+    client: &mut Client<L>,
+    query: &RangeQuery,
+    ids: &Ids,
+) -> Outcome
+    requires { client.old.reader.inside ≡ true }
+    ensures settles { SettlesAs (response_over ids.now
+        (answer_over (untrimmed (led_to client.old.reader.known)) query.now)) result.settled }
+    ensures ready { result.waits ≡ false }
+    ensures bare { (result.raised ≡ None) × (result.watch ≡ None) }
+    ensures client { client.new ≡ left client.old }
+{
     let settled = settled(alloc, client.range(alloc, query), ids);
     client.leave();
-    Some(Outcome {
+    read_as(settled)
+}
+
+/// What a Range came to that ended so.
+fn read_as(settled: Settled) -> Outcome
+    ensures { result ≡ record { settled = settled; raised = None; watch = None; waits = false } }
+{
+    Outcome {
         settled,
         raised: None,
         watch: None,
         waits: false,
+    }
+}
+
+/// How a Range ends that has this text.
+fn answered(text: Vec<u8>) -> Settled
+    ensures { result ≡ replies.Reply (record { status = 200; body = bodies.Made text }) }
+{
+    Settled::Reply(Reply {
+        status: 200,
+        body: ReplyBody::Made(text),
     })
 }
 
@@ -159,10 +226,7 @@ fn replied(alloc: Global, reply: &RangeReply<'_>, ids: &Ids) -> Settled
         → SettlesAs (response_over ids.now told) result }
 {
     match range_text(alloc, reply, ids) {
-        Ok(bytes) => Settled::Reply(Reply {
-            status: 200,
-            body: ReplyBody::Made(bytes),
-        }),
+        Ok(bytes) => answered(bytes),
         Err(_) => Settled::Memory,
     }
 }

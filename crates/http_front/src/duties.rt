@@ -39,15 +39,29 @@ where
         Duty::Work => keep_working(rt, alloc, shared, client),
         Duty::Trim => keep_trimming(rt, shared, client),
         Duty::Expire => keep_expiring(rt, shared, client),
-        Duty::Stream(watching) => {
-            let around = Around {
-                engine: shared.engine,
-                gate: shared.gate,
-                handing: &shared.handing,
-                ended: &shared.ended,
-                others: &shared.lines,
-            };
-            keep_streams(rt, alloc, &around, watching, client)
-        }
+        Duty::Stream(watching) => look_after(rt, alloc, shared, watching, client),
     }
+}
+
+/// Looks after the streams that have begun, until the server ends.
+fn look_after<L, G, C, R>(
+    rt: &R,
+    alloc: Global,
+    shared: &Shared<'_, L, G, C>,
+    watching: Watching,
+    client: Client<L>,
+) -> Client<L>
+where
+    L: EngineName,
+    G: Gate,
+    R: Wait + time::Clock,
+{
+    let around = Around {
+        engine: shared.engine,
+        gate: shared.gate,
+        handing: &shared.handing,
+        ended: &shared.ended,
+        others: &shared.lines,
+    };
+    keep_streams(rt, alloc, &around, watching, client)
 }

@@ -16,8 +16,8 @@ use Rattle.kv_model.specs.Told as told
 use Rattle.kv_model.specs.World.{World, revision, versions}
 use Rattle.event_book.specs.Events.{Entry, led_to}
 use Rattle.range_view.specs.Selecting.{keeps_order}
-use Rattle.gateway_text.specs.declared.range_text.RangeText.{RangeText}
-use Rattle.gateway_text.specs.RangeTexts.{IsRangeText}
+use Rattle.gateway_text.specs.declared.range_parts.RangeText.{RangeText}
+use Rattle.gateway_text.specs.RangeParts.{IsRangeText}
 use Rattle.engine_lock.specs.Locked.{Caller}
 use Rattle.long_ranges.specs.declared.gathered.Gathered.{Gathered}
 use Rattle.long_ranges.specs.declared.gathered.Gathered.TheVariants as gathered

@@ -1,6 +1,7 @@
 //! How a Range begins that is read in parts.
 ghost use Rattle.std.specs.Prelude.{◌≡◌, ◌<◌, ◌^◌, pos, [], IfOk, true};
 ghost use mathlib.Core.List.{IsPrefix};
+ghost use Rattle.kv_model.specs.Keys.{one_key};
 ghost use Rattle.engine_lock.specs.Locked.{left};
 ghost use Rattle.long_ranges.specs.Parts as parts;
 
@@ -10,7 +11,7 @@ use engine_lock::{Client, EngineName};
 use json_gateway::Refusal;
 use kv_model::call::{RangeQuery, SortOrder, SortTarget};
 use kv_model::version::KeyRange;
-use std::alloc::Global;
+use std::alloc::{AllocError, Global};
 
 /// A Range that has begun to be read in parts.
 #[derive(Clone, Copy)]
@@ -62,18 +63,24 @@ fn begin_within<L: EngineName>(
     requires many { parts.IsOfMany query.now }
     ensures { IfOk result (parts.HasBegun client.now.reader.known query.now) }
 {
-    let Ok(key) = query.range.key.clone() else {
+    let Ok(one) = first_key(query) else {
         return Err(Unparted::Memory);
-    };
-    let one = KeyRange {
-        key,
-        end: Bytes::new(),
     };
     match client.range(alloc, &part_of(query, one, query.revision, true)) {
         Ok(reply) => begun_at(query, reply.revision),
         Err(Refusal::Memory) => Err(Unparted::Memory),
         Err(_) => Err(Unparted::Whole),
     }
+}
+
+/// The range of the first key of a range alone.
+fn first_key(query: &RangeQuery) -> Result<KeyRange, AllocError>
+    ensures { IfOk result (λ r. r ≡ one_key query.now.range.key) }
+{
+    Ok(KeyRange {
+        key: query.range.key.clone()?,
+        end: Bytes::new(),
+    })
 }
 
 /// A Range that begins where this is the present revision.

@@ -14,7 +14,7 @@ use engine_lock::{Client, EngineName};
 use json_gateway::Ids;
 use kv_model::call::RangeQuery;
 use kv_model::version::KeyRange;
-use std::alloc::Global;
+use std::alloc::{AllocError, Global};
 
 /// A Range of more parts is read whole: more than any memory has.
 const MOST_PARTS: u64 = 1_099_511_627_776;
@@ -67,7 +67,10 @@ fn read_all<L: EngineName>(
     ensures book { client.new.reader.book ≡ client.old.reader.book }
 {
     client.leave();
-    let mut rest = whole(&query.range)?;
+    let Ok(all) = whole(&query.range) else {
+        return Err(Unparted::Memory);
+    };
+    let mut rest = all;
     let mut gathered = gathered;
     for _ in 0..MOST_PARTS {
         let read = read_part(alloc, client, query, begun.revision, rest, gathered)?;
@@ -81,11 +84,11 @@ fn read_all<L: EngineName>(
 }
 
 /// All of a range.
-fn whole(range: &KeyRange) -> Result<KeyRange, Unparted>
+fn whole(range: &KeyRange) -> Result<KeyRange, AllocError>
     ensures { IfOk result (λ r. r ≡ range.now) }
 {
-    match (range.key.clone(), range.end.clone()) {
-        (Ok(key), Ok(end)) => Ok(KeyRange { key, end }),
-        _ => Err(Unparted::Memory),
-    }
+    Ok(KeyRange {
+        key: range.key.clone()?,
+        end: range.end.clone()?,
+    })
 }
