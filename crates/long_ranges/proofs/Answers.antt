@@ -57,12 +57,12 @@ part_shows q range at now kvs h = ap (map (stripped q.keys_only)) (sym (shown-pa
 
 no_limit : {X : Type 0} (z : ℤ) (xs : List X) → int_le z (pos 0) ≡ true → first_few z xs ≡ xs
 no_limit (pos zero) xs h = refl
-no_limit (pos (suc n)) xs h = cc
+no_limit (pos (suc n)) xs h = let l : suc n ≤ 0 = grind (arith, nat_tests) in absurd (omega (arith, l))
 no_limit (negsuc n) xs h = refl
 
 no_most : {X : Type 0} (z : ℤ) (xs : List X) → int_le z (pos 0) ≡ true → first_of (limit_of z) xs ≡ xs
 no_most (pos zero) xs h = refl
-no_most (pos (suc n)) xs h = cc
+no_most (pos (suc n)) xs h = let l : suc n ≤ 0 = grind (arith, nat_tests) in absurd (omega (arith, l))
 no_most (negsuc n) xs h = refl
 
 not_less : (n : ℕ) → nat_lt n n ≡ false
@@ -147,19 +147,18 @@ pub answered_there : (w : World) (q : RangeQuery) (r : RangeReply) → AnswersOf
     → range_reply (versions w) (revision w) (end_of (revision w)) q ≡ reply_view r
 answered_there w q r h = (told (range_refusal w.compacted (revision w) q) (range_reply (versions w) (revision w) (end_of (revision w)) q) (reply_view r) h).1
 
+either_now : (n : ℕ) (x y : ranges.RangeReply) → x.revision ≡ n → y.revision ≡ n → (b : Bool) → (cond {A = ranges.RangeReply} b x y).revision ≡ n
+either_now n x y e f true = e
+either_now n x y e f false = f
+
+now_shown : (q : RangeQuery) (now : ℕ) (kvs : List KeyValue) → (reply_from q now kvs).revision ≡ now
+unfolding reply_from
+now_shown q now kvs = either_now now _ _ refl refl q.count_only
+
 pub shows_now : (w : World) (q : RangeQuery) (r : RangeReply) → AnswersOf (untrimmed w) q (Ok r) → r.revision ≡ revision w
-unfolding range_reply reply_from
-shows_now w q r h = sym (ap (λ (x : ranges.RangeReply). x.revision) (answered_there w q r h)) ∙ now_of q.count_only
-  where
-    now_of : (b : Bool) → (cond b (record { kvs = []; count = length (live (versions w) (read_place q.revision (end_of (revision w))) q.range); more = false; revision = revision w })
-        (record {
-          kvs = map (stripped q.keys_only) (first_few q.limit (sorted q.order q.target (filter (passes_filters q) (live (versions w) (read_place q.revision (end_of (revision w))) q.range))));
-          count = length (live (versions w) (read_place q.revision (end_of (revision w))) q.range);
-          more = nat_lt (length (first_few q.limit (sorted q.order q.target (filter (passes_filters q) (live (versions w) (read_place q.revision (end_of (revision w))) q.range))))) (length (sorted q.order q.target (filter (passes_filters q) (live (versions w) (read_place q.revision (end_of (revision w))) q.range))));
-          revision = revision w;
-        })).revision ≡ revision w
-    now_of true = refl
-    now_of false = refl
+unfolding range_reply
+shows_now w q r h = sym (ap (λ (x : ranges.RangeReply). x.revision) (answered_there w q r h))
+    ∙ now_shown q (revision w) (live (versions w) (read_place q.revision (end_of (revision w))) q.range)
 
 -- the answer to a part is of what is live in it at that revision
 part_place : (r : ℕ) (p : Rev) → 0 < r → read_place (pos r) p ≡ end_of r
@@ -203,7 +202,7 @@ module _ (front known : List Entry) (goes_on : IsPrefix front known) (r : ℕ) (
   pub whole_is : IsSound (led_to known) → (range part : KeyRange) (left : Option KeyRange) → is_empty range.end ≡ false → IsCutInto range part left
       → live_at front r part ++ live_left front r left ≡ live_at front r range
   whole_is s range part None e c = append-nil (live_at front r part) ∙ ap (live_at front r) c
-  whole_is s range part (Some rest) e (k, (cut, (lower, upper))) =
+  whole_is s range part (Some rest) e (k, cut, lower, upper) =
       ap (λ (x : KeyRange). live_at front r x ++ live_at front r rest) lower
       ∙ ap (λ (x : KeyRange). live_at front r (below range k) ++ live_at front r x) upper
       ∙ sym (ap (λ xs. xs ++ live_at front r (from range k)) (live_same (below range k)))
@@ -213,4 +212,4 @@ module _ (front known : List Entry) (goes_on : IsPrefix front known) (r : ℕ) (
 
   pub several_left : (range part : KeyRange) (left : Option KeyRange) → is_empty range.end ≡ false → IsCutInto range part left → IfSome left (λ n. is_empty n.end ≡ false)
   several_left range part None e c = tt
-  several_left range part (Some rest) e (k, (cut, (lower, upper))) = ap (λ (x : KeyRange). is_empty x.end) upper ∙ e
+  several_left range part (Some rest) e (k, cut, lower, upper) = ap (λ (x : KeyRange). is_empty x.end) upper ∙ e
