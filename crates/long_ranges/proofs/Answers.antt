@@ -1,7 +1,7 @@
 -- What the parts of a Range show, and what the whole shows.
 use Rattle.std.proofs.Common.{◌≡◌, ◌≤◌, ◌<◌, ℕ, zero, suc, ℤ, pos, negsuc, List, [], ◌∷◌, ◌++◌, length, map, filter, Bool, true, false, cond}
 use Rattle.std.proofs.Common.{Option, None, Some, Result, Ok, Err, nat_lt, append_assoc, refl, sym, ◌∙◌, ap, subst, arith}
-use Rattle.std.specs.Prelude.{IfSome, int_le}
+use Rattle.std.specs.Prelude.{IfOk, int_le}
 use Rattle.std.specs.Option.{option_or}
 use Rattle.std.proofs.lemmas.Bool.{le-ltb}
 use Rattle.std.proofs.lemmas.Bool.Decides.{nat_tests}
@@ -17,6 +17,8 @@ use Rattle.kv_model.specs.declared.call.SortTarget.{SortTarget}
 use Rattle.kv_model.specs.declared.refusal.Refusal.{Refusal}
 use Rattle.kv_model.specs.declared.refusal.Refusal.TheVariants.{Compacted, Future, NoKey}
 use Rattle.kv_model.specs.History.{KeyValue, Mutation, dress, end_of, value_at}
+use Rattle.kv_model.specs.Answers.{success_response}
+use Rattle.kv_model.specs.Told.{Reply}
 use Rattle.kv_model.specs.Keys.{same_key}
 use Rattle.kv_model.specs.Lists.{is_empty}
 use Rattle.kv_model.specs.Ranges as ranges
@@ -36,9 +38,9 @@ use Rattle.long_ranges.specs.declared.begin.Begun.{Begun}
 use Rattle.long_ranges.specs.declared.gathered.Gathered.{Gathered}
 use Rattle.long_ranges.specs.declared.gathered.Gathered.TheVariants as gathered
 use Rattle.long_ranges.specs.Laws.{IsCut, below, from}
-use Rattle.long_ranges.specs.Parts.{HasBegun, IsAskedFor, IsCutInto, IsOfMany, Shows, is_count, live_at, live_left, part_of, shown}
+use Rattle.long_ranges.specs.Parts.{HasBegun, IsAskedFor, IsCutInto, IsOfMany, IsOfSeveral, IsShownBy, Shows, is_count, live_at, live_left, part_of, shown, text_of}
 use Rattle.long_ranges.proofs.Later.{later_says_the_same}
-use Rattle.long_ranges.proofs.Parts.{parts_make_the_whole}
+use Rattle.long_ranges.proofs.Wholes.{parts_make_the_whole}
 
 -- ---- what a part shows
 
@@ -210,6 +212,51 @@ module _ (front known : List Entry) (goes_on : IsPrefix front known) (r : ℕ) (
       ∙ parts_make_the_whole (versions (led_to known)) (end_of r) range k (none_there s) e cut
       ∙ live_same range
 
-  pub several_left : (range part : KeyRange) (left : Option KeyRange) → is_empty range.end ≡ false → IsCutInto range part left → IfSome left (λ n. is_empty n.end ≡ false)
-  several_left range part None e c = tt
-  several_left range part (Some rest) e (k, cut, lower, upper) = ap (λ (x : KeyRange). is_empty x.end) upper ∙ e
+  pub shown_by : (g : Gathered) (q : RangeQuery) (range : KeyRange) → IsShownBy (led_to known) (part_of q range (pos r) (is_count g)) g q (live_at front r range)
+  shown_by g q range reply h = (counted q range (is_count g) reply h, shows_part g q range reply h)
+
+pub several_left : (range part : KeyRange) (left : Option KeyRange) → is_empty range.end ≡ false → IsCutInto range part left → IsOfSeveral left
+several_left range part None e c = tt
+several_left range part (Some rest) e (k, cut, lower, upper) = ap (λ (x : KeyRange). is_empty x.end) upper ∙ e
+
+-- ---- what was gathered
+
+pub gathered_all : (front : List Entry) (r : ℕ) (range : KeyRange) (left : Option KeyRange) (seen : List KeyValue) → left ≡ None
+    → seen ++ live_left front r left ≡ live_at front r range → seen ≡ live_at front r range
+gathered_all front r range left seen e h = sym (append-nil seen) ∙ sym (ap (λ l. seen ++ live_left front r l) e) ∙ h
+
+pub gathered_more : (front : List Entry) (r : ℕ) (range rest : KeyRange) (left next : Option KeyRange) (seen part : List KeyValue) → left ≡ Some rest
+    → part ++ live_left front r next ≡ live_at front r rest → seen ++ live_left front r left ≡ live_at front r range
+    → (seen ++ part) ++ live_left front r next ≡ live_at front r range
+gathered_more front r range rest left next seen part e w h =
+    append_assoc seen part (live_left front r next) ∙ ap (λ xs. seen ++ xs) w ∙ sym (ap (λ l. seen ++ live_left front r l) e) ∙ h
+
+pub several_rest : (left : Option KeyRange) (rest : KeyRange) → left ≡ Some rest → IsOfSeveral left → is_empty rest.end ≡ false
+several_rest left rest e h = subst IsOfSeveral e h
+
+pub in_time : (front : List Entry) (q : RangeQuery) (b : Begun) → HasBegun front q b → b.revision ≤ revision (led_to front)
+in_time front q b h = omega (arith, h.happened, h.now)
+
+-- ---- the whole text
+
+whole_reply : (w : World) (q : RangeQuery) (b : Begun) → IsOfMany q → IsAskedFor q.revision b.now b
+    → range_reply (versions w) b.now (end_of b.now) q
+    ≡ record { kvs = shown q (live (versions w) (end_of b.revision) q.range); count = length (live (versions w) (end_of b.revision) q.range); more = false; revision = b.now }
+unfolding range_reply
+whole_reply w q b m asked =
+    ap (λ p. reply_from q b.now (live (versions w) p q.range)) (place_asked q.revision b.now b asked)
+    ∙ whole_shows q m (live (versions w) (end_of b.revision) q.range) (live-by_key (versions w) (end_of b.revision) q.range) b.now
+
+pub whole_text : (ids : Ids) (front : List Entry) (q : RangeQuery) (b : Begun) → HasBegun front q b
+    → text_of ids b.now (length (live_at front b.revision q.range)) q (live_at front b.revision q.range)
+    ≡ (success_response ids (record {
+      reply = Reply.range (range_reply (versions (led_to front)) (revision (led_to front)) (end_of (revision (led_to front))) q);
+      revision = revision (led_to front);
+    })).body
+whole_text ids front q b h =
+    sym (ap (λ (x : ranges.RangeReply). (success_response ids (record { reply = Reply.range x; revision = b.now })).body) (whole_reply (led_to front) q b h.many h.asked))
+    ∙ ap (λ n. (success_response ids (record { reply = Reply.range (range_reply (versions (led_to front)) n (end_of n) q); revision = n })).body) h.now
+
+pub if_ok_map : {T E : Type 0} (P Q : T → Type 0) → ((x : T) → P x → Q x) → (r : Result T E) → IfOk r P → IfOk r Q
+if_ok_map P Q f (Ok x) h = f x h
+if_ok_map P Q f (Err e) h = h

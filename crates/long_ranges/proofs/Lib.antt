@@ -1,4 +1,4 @@
 pub mod Keys
-pub mod Parts
+pub mod Wholes
 pub mod Later
 pub mod Answers

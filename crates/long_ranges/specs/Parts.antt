@@ -1,5 +1,5 @@
 -- A Range that is read in parts: what is gathered of them, and what comes of that.
-use Rattle.std.specs.Prelude.{◌≡◌, ℕ, zero, suc, ◌<◌, ◌≤◌, ◌^◌, ℤ, pos, negsuc, List, [], ◌++◌, length, map, filter, Bool, true, false, Option, None, Some, IfSome, ⊤}
+use Rattle.std.specs.Prelude.{◌≡◌, ℕ, zero, suc, ◌<◌, ◌≤◌, ◌^◌, ℤ, pos, negsuc, List, [], ◌++◌, length, map, filter, Bool, true, false, Option, None, Some, Ok, IfSome, ⊤}
 use Rattle.std.specs.Prelude.{int_le}
 use mathlib.Core.List.{IsPrefix}
 use Rattle.kv_model.specs.declared.ids.Ids.{Ids}
@@ -15,7 +15,11 @@ use Rattle.kv_model.specs.Ranges.{live, passes_filters, range_refusal, range_rep
 use Rattle.kv_model.specs.Told as told
 use Rattle.kv_model.specs.World.{World, revision, versions}
 use Rattle.event_book.specs.Events.{Entry, led_to}
+use Rattle.range_view.specs.declared.reply.RangeReply.{RangeReply}
+use Rattle.range_view.specs.Replies.{kv_view}
 use Rattle.range_view.specs.Selecting.{keeps_order}
+use Rattle.snapshot_feed.specs.Answers.{AnswersOf}
+use Rattle.store_laws.specs.Changes.{untrimmed}
 use Rattle.gateway_text.specs.declared.range_parts.RangeText.{RangeText}
 use Rattle.gateway_text.specs.RangeParts.{IsRangeText}
 use Rattle.engine_lock.specs.Locked.{Caller}
@@ -64,12 +68,26 @@ abbrev pub Shows : Gathered → Type 0 → Type 0
 Shows (gathered.Count n) P = ⊤
 Shows (gathered.Text t) P = P
 
+-- what is left is of several keys
+abbrev pub IsOfSeveral : Option KeyRange → Type 0
+IsOfSeveral left = IfSome left (λ n. is_empty n.end ≡ false)
+
+-- Whatever answers this Range in a world shows these live keys, or, where a count alone is gathered, how many they are.
+abbrev pub IsShownBy : World → RangeQuery → Gathered → RangeQuery → List KeyValue → Type 0
+IsShownBy w asked g q part = (r : RangeReply) → AnswersOf (untrimmed w) asked (Ok r)
+    → (r.count ≡ length part) × Shows g (map kv_view r.kvs.items ≡ shown q part)
+
 -- A part of what was live in a range was gathered behind what was seen, and what is left of the range is as it was.
 pub record Reads (front : List Entry) (r : ℕ) (rest : KeyRange) (Is : List KeyValue → Type 0) (seen : List KeyValue) (left : Option KeyRange) : Type 0 where
   pub part : List KeyValue
   pub whole : part ++ live_left front r left ≡ live_at front r rest
-  pub several : IfSome left (λ n. is_empty n.end ≡ false)
   pub gathered : Is (seen ++ part)
+
+-- What was live in a range was gathered, up to what is left of it.
+pub record SoFar (front : List Entry) (r : ℕ) (range : KeyRange) (Is : List KeyValue → Type 0) (left : Option KeyRange) : Type 0 where
+  pub seen : List KeyValue
+  pub gathered : Is seen
+  pub whole : seen ++ live_left front r left ≡ live_at front r range
 
 -- ---- how it begins, and what is asked of each part
 

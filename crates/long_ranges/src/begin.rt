@@ -1,7 +1,12 @@
 //! How a Range begins that is read in parts.
-ghost use Rattle.std.specs.Prelude.{◌≡◌, ◌<◌, ◌^◌, pos, [], IfOk, true};
+ghost use Rattle.std.specs.Prelude.{◌≡◌, ◌<◌, ◌^◌, None, IfOk, true};
 ghost use mathlib.Core.List.{IsPrefix};
+ghost use Rattle.kv_model.specs.declared.call.RangeQuery.{RangeQuery as RangeQueryOf};
 ghost use Rattle.kv_model.specs.Keys.{one_key};
+ghost use Rattle.kv_model.specs.Ranges.{range_refusal};
+ghost use Rattle.kv_model.specs.World.{World, revision};
+ghost use Rattle.store_laws.specs.Changes.{untrimmed};
+ghost use Rattle.snapshot_feed.specs.Answers.{AnswersOf};
 ghost use Rattle.engine_lock.specs.Locked.{left};
 ghost use Rattle.long_ranges.specs.Parts as parts;
 
@@ -11,6 +16,7 @@ use engine_lock::{Client, EngineName};
 use json_gateway::Refusal;
 use kv_model::call::{RangeQuery, SortOrder, SortTarget};
 use kv_model::version::KeyRange;
+use range_view::RangeReply;
 use std::alloc::{AllocError, Global};
 
 /// A Range that has begun to be read in parts.
@@ -66,11 +72,29 @@ fn begin_within<L: EngineName>(
     let Ok(one) = first_key(query) else {
         return Err(Unparted::Memory);
     };
-    match client.range(alloc, &part_of(query, one, query.revision, true)) {
-        Ok(reply) => begun_at(query, reply.revision),
+    let one = part_of(query, one, query.revision, true);
+    let now = present(client.range(alloc, &one))?;
+    begun_at(query, now)
+}
+
+/// The revision that an answer shows.
+fn present(answer: Result<RangeReply<'_>, Refusal>) -> Result<u64, Unparted>
+    ensures { (w : World) → (q : RangeQueryOf) → AnswersOf (untrimmed w) q answer.entry
+        → IfOk result (λ now. (now ≡ revision w)
+        × (range_refusal w.compacted (revision w) q ≡ None)) }
+{
+    match answer {
+        Ok(reply) => Ok(shown(&reply)),
         Err(Refusal::Memory) => Err(Unparted::Memory),
         Err(_) => Err(Unparted::Whole),
     }
+}
+
+/// The revision that a reply shows.
+fn shown(reply: &RangeReply<'_>) -> u64
+    ensures { result ≡ reply.now.revision }
+{
+    reply.revision
 }
 
 /// The range of the first key of a range alone.

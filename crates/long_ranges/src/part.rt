@@ -1,11 +1,14 @@
 //! One part of a Range.
-ghost use Rattle.std.specs.Prelude.{◌≡◌, ℕ, ◌<◌, ◌≤◌, ◌^◌, List, true, false, IfOk, IfSome};
+ghost use Rattle.std.specs.Prelude.{◌≡◌, ℕ, ◌<◌, ◌≤◌, ◌^◌, ◌++◌, pos, List, true, false, Some, IfOk};
 ghost use mathlib.Core.List.{IsPrefix};
 ghost use Rattle.kv_model.specs.declared.ids.Ids.{Ids};
-ghost use Rattle.kv_model.specs.Keys.{in_range, same_key, zero_byte};
+ghost use Rattle.kv_model.specs.declared.call.RangeQuery.{RangeQuery as RangeQueryOf};
+ghost use Rattle.kv_model.specs.Keys.{same_key, zero_byte};
 ghost use Rattle.kv_model.specs.History.{KeyValue};
 ghost use Rattle.kv_model.specs.Lists.{is_empty};
-ghost use Rattle.kv_model.specs.World.{revision};
+ghost use Rattle.kv_model.specs.World.{World, revision as revision_of};
+ghost use Rattle.store_laws.specs.Changes.{untrimmed};
+ghost use Rattle.snapshot_feed.specs.Answers.{AnswersOf};
 ghost use Rattle.event_book.specs.Events.{Entry, led_to};
 ghost use Rattle.snapshot_feed.specs.Showing.{IsShown};
 ghost use Rattle.engine_lock.specs.Locked.{left};
@@ -19,6 +22,7 @@ use engine_lock::{Client, EngineName};
 use json_gateway::Refusal;
 use kv_model::call::RangeQuery;
 use kv_model::version::KeyRange;
+use range_view::RangeReply;
 use std::alloc::{AllocError, Global};
 
 /// A Range of more keys than these is read in parts of so many.
@@ -54,6 +58,7 @@ pub(crate) fn read_part<L: EngineName>(
         → parts.IsGathered ids now count query.now seen gathered
         → IfOk result (λ r. parts.Reads front revision rest
         (λ later. parts.IsGathered ids now count query.now later r.gathered) seen r.rest) }
+    ensures several { IfOk result (λ r. parts.IsOfSeveral r.rest) }
     ensures begins { IsPrefix client.old.reader.known client.new.reader.known }
     ensures client { client.new ≡ left (record client.old { reader = client.new.reader }) }
     ensures book { client.new.reader.book ≡ client.old.reader.book }
@@ -80,7 +85,8 @@ fn read_within<L: EngineName>(
     requires some { 0 < revision }
     requires fits { revision < 2 ^ 63 }
     requires several { is_empty rest.end ≡ false }
-    ensures { (front : List Entry) → IsPrefix front client.now.reader.known
+    ensures several { IfOk result (λ r. parts.IsOfSeveral r.rest) }
+    ensures reads { (front : List Entry) → IsPrefix front client.now.reader.known
         → revision ≤ revision_of (led_to front) → (ids : Ids) → (now count : ℕ) → (seen : List KeyValue)
         → parts.IsGathered ids now count query.now seen gathered
         → IfOk result (λ r. parts.Reads front revision rest
@@ -90,12 +96,32 @@ fn read_within<L: EngineName>(
         Ok(cut) => cut,
         Err(AllocError) => return Err(Unparted::Memory),
     };
-    let part = part_of(query, part, revision as i64, gathered.counts());
-    match client.range(alloc, &part) {
-        Ok(reply) => match gather(gathered, &reply) {
-            Ok(gathered) => Ok(Read { gathered, rest }),
-            Err(unparted) => Err(unparted),
-        },
+    let part = part_of(query, part, signed(revision), gathered.counts());
+    let gathered = with_answer(gathered, client.range(alloc, &part))?;
+    Ok(Read { gathered, rest })
+}
+
+/// A revision, as a request has it.
+fn signed(revision: u64) -> i64
+    requires { revision < 2 ^ 63 }
+    ensures { result ≡ pos revision }
+{
+    revision as i64
+}
+
+/// Gathers what the answer to a part shows.
+fn with_answer(
+    gathered: Gathered,
+    answer: Result<RangeReply<'_>, Refusal>,
+) -> Result<Gathered, Unparted>
+    ensures { (w : World) → (asked : RangeQueryOf) → (q : RangeQueryOf) → (part : List KeyValue)
+        → AnswersOf (untrimmed w) asked answer.entry → parts.IsShownBy w asked gathered q part
+        → (ids : Ids) → (now count : ℕ) → (seen : List KeyValue)
+        → parts.IsGathered ids now count q seen gathered
+        → IfOk result (parts.IsGathered ids now count q (seen ++ part)) }
+{
+    match answer {
+        Ok(reply) => gather(gathered, &reply),
         Err(Refusal::Memory) => Err(Unparted::Memory),
         Err(_) => Err(Unparted::Whole),
     }

@@ -1,7 +1,8 @@
 //! A Range, part by part.
-ghost use Rattle.std.specs.Prelude.{◌≡◌, ℕ, List, [], IfOk};
+ghost use Rattle.std.specs.Prelude.{◌≡◌, ℕ, ◌<◌, ◌^◌, List, [], false, IfOk};
 ghost use mathlib.Core.List.{IsPrefix};
 ghost use Rattle.kv_model.specs.declared.ids.Ids.{Ids as IdsOf};
+ghost use Rattle.kv_model.specs.Lists.{is_empty};
 ghost use Rattle.event_book.specs.Events.{Entry};
 ghost use Rattle.engine_lock.specs.Locked.{left};
 ghost use Rattle.long_ranges.specs.Parts as parts;
@@ -57,6 +58,9 @@ fn read_all<L: EngineName>(
     begun: Begun,
     gathered: Gathered,
 ) -> Result<Gathered, Unparted>
+    requires some { 0 < begun.revision }
+    requires fits { begun.revision < 2 ^ 63 }
+    requires several { is_empty query.now.range.end ≡ false }
     ensures reads { (front : List Entry) → IsPrefix front client.old.reader.known
         → parts.HasBegun front query.now begun → (ids : IdsOf) → (now count : ℕ)
         → parts.IsGathered ids now count query.now [] gathered
@@ -70,15 +74,15 @@ fn read_all<L: EngineName>(
     let Ok(all) = whole(&query.range) else {
         return Err(Unparted::Memory);
     };
-    let mut rest = all;
+    let mut left = Some(all);
     let mut gathered = gathered;
     for _ in 0..MOST_PARTS {
+        let Some(rest) = left else {
+            return Ok(gathered);
+        };
         let read = read_part(alloc, client, query, begun.revision, rest, gathered)?;
         gathered = read.gathered;
-        match read.rest {
-            Some(left) => rest = left,
-            None => return Ok(gathered),
-        }
+        left = read.rest;
     }
     Err(Unparted::Whole)
 }

@@ -1,4 +1,4 @@
-use Rattle.long_ranges.proofs.Parts.{parts_make_the_whole}
+use Rattle.long_ranges.proofs.Wholes.{parts_make_the_whole}
 use Rattle.long_ranges.proofs.laws.parts_make_the_whole.Goals as goal
 
 pub returns : goal.returns
