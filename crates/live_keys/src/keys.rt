@@ -8,7 +8,7 @@ ghost use Rattle.kv_model.specs.Txns as txns;
 ghost use Rattle.range_view.specs.Replies.{kv_view, reply_view};
 
 use crate::compare::holds_of;
-use crate::listed::{Listed, holds_in, list_all, reply_in};
+use crate::listed::{Listed, exchanged, holds_in, list_all, reply_in};
 use crate::shown::is_present;
 use kv_model::call::{Compare, RangeQuery};
 use kv_model::version::KeyRange;
@@ -163,8 +163,12 @@ impl<'a> LiveKeys<'a> {
             ≡ history.value_at self.old.versions self.old.place k }
         ensures { self.new ≡ next.entry }
     {
+        let listed = match self.listed.take() {
+            Some(listed) => exchanged(listed, range, kvs),
+            None => None,
+        };
         self.view = next;
-        self.listed = None;
+        self.listed = listed;
     }
 
     /// Goes on to another place, or to other tables, of which nothing is known. Takes constant time.
