@@ -30,6 +30,8 @@ mod keys;
 mod listed;
 mod order;
 mod part;
+mod ranking;
+mod replies;
 mod shown;
 mod sorting;
 mod tree;
