@@ -8,3 +8,4 @@ pub mod Gathering
 pub mod Levels
 pub mod Places
 pub mod Rankings
+pub mod FirstFew

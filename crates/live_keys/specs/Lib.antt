@@ -3,6 +3,7 @@ pub mod Parts
 pub mod Extremes
 pub mod Orders
 pub mod Shown
+pub mod Best
 pub mod Exchanging
 pub mod Ranked
 pub mod Listing

@@ -7,6 +7,7 @@ ghost use Rattle.range_view.specs.Selecting.{AreByKey};
 ghost use Rattle.live_keys.specs.Shown.{beyond, gathered, hits_of, is_enough, is_present, reply_of};
 ghost use Rattle.live_keys.specs.Shown.{shows};
 
+use crate::best::{first_sorted, is_few};
 use crate::sorting::{keeps_order, sort};
 use kv_model::call::RangeQuery;
 use range_view::reply::{KvRef, RangeReply};
@@ -95,6 +96,9 @@ fn arranged<'a>(
 {
     if keeps_order(query.order, query.target) {
         return first_shown(alloc, kvs, query);
+    }
+    if is_few(query) {
+        return first_sorted(alloc, kvs, query);
     }
     all_sorted(alloc, kvs, query)
 }
