@@ -2,8 +2,6 @@ pub mod Fields
 pub mod Parts
 pub mod Extremes
 pub mod Orders
-pub mod Shown
-pub mod Best
 pub mod Exchanging
 pub mod Ranked
 pub mod Listing

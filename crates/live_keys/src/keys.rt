@@ -11,11 +11,11 @@ use crate::compare::holds_of;
 use crate::lending::live_in;
 use crate::listed::{Listed, exchanged, holds_in, list_all};
 use crate::replies::reply_in;
-use crate::shown::is_present;
 use kv_model::call::{Compare, RangeQuery};
 use kv_model::version::KeyRange;
 use range_view::View;
 use range_view::reply::{KvRef, RangeReply};
+use shown_ranges::shown::is_present;
 use std::alloc::{AllocError, Global};
 use std::marker::Model;
 

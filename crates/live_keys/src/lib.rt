@@ -30,7 +30,6 @@
 //! cost alone, and no clause says it.
 #![tactic(auto)]
 
-mod best;
 mod compare;
 mod extremes;
 mod field;
@@ -41,8 +40,6 @@ mod order;
 mod part;
 mod ranking;
 mod replies;
-mod shown;
-mod sorting;
 mod tree;
 
 pub use keys::LiveKeys;

@@ -9,15 +9,15 @@ ghost use Rattle.live_keys.specs.Listing as listing;
 ghost use Rattle.live_keys.specs.Parts as parts;
 ghost use Rattle.live_keys.specs.Ranked as ranked;
 
-use crate::best::is_few;
 use crate::listed::{FEW, Listed};
 use crate::part::{Part, part_of};
 use crate::ranking::{Ranking, first_ranked, ranking_of, ranking_over};
-use crate::shown::{finish, reply_by};
-use crate::sorting::keeps_order;
 use kv_model::call::RangeQuery;
 use range_view::View;
 use range_view::reply::{KvRef, RangeReply};
+use shown_ranges::best::is_few;
+use shown_ranges::shown::{finish, reply_by};
+use shown_ranges::sorting::keeps_order;
 use std::alloc::{AllocError, Global};
 
 /// How many times a part is looked through for a few in the time that it takes to sort it.
