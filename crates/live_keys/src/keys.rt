@@ -93,9 +93,9 @@ impl<'a> LiveKeys<'a> {
     ///
     /// One key is looked up, and a Range of an earlier revision costs what `View::range` does. The
     /// first ranges are walked, as by `holds`. Then all keys are walked once, and from there on a
-    /// range is found by two halvings. A count costs no more. In the order of the keys as many
-    /// key-values are looked at as it takes to find those that the limit asks for and one more. In
-    /// another order the keys of the range are looked through for up to 64 that a limit asks for,
+    /// range is found by two halvings. A count costs no more. In the order of the keys, from the first
+    /// on or from the last, as many key-values are looked at as it takes to find those that the limit
+    /// asks for and one more. In another order the keys of the range are looked through for up to 64 that a limit asks for,
     /// and sorted where it asks for more; until that has taken as long as to sort all. From there on
     /// the list is kept in that order, too, and looked through up to those asked for, where the
     /// range is large enough for that to be sooner.

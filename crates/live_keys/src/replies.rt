@@ -17,7 +17,7 @@ use range_view::View;
 use range_view::reply::{KvRef, RangeReply};
 use shown_ranges::best::is_few;
 use shown_ranges::shown::{finish, reply_by};
-use shown_ranges::sorting::keeps_order;
+use shown_ranges::sorting::{is_turned, keeps_order};
 use std::alloc::{AllocError, Global};
 
 /// How many times a part is looked through for a few in the time that it takes to sort it.
@@ -55,12 +55,17 @@ pub(crate) fn reply_in<'a>(
 fn is_ranked(all: usize, sorted: &mut usize, part: Part, query: &RangeQuery) -> bool
     ensures { query.now.count_only ≡ true → result ≡ false }
 {
-    if query.count_only || keeps_order(query.order, query.target) || !is_large(all, part, query) {
+    if query.count_only || is_by_key(query) || !is_large(all, part, query) {
         return false;
     }
     let is_time = *sorted >= all;
     *sorted = sorted.saturating_add(effort(part, query));
     is_time
+}
+
+/// Whether the order asked for is that of the keys, from the first on or from the last.
+fn is_by_key(query: &RangeQuery) -> bool {
+    keeps_order(query.order, query.target) || is_turned(query.order, query.target)
 }
 
 /// What it takes to find those of a part that a Range asks for without that, in key-values sorted.

@@ -152,6 +152,16 @@ module _ {X Y : Type 0} (p : X → Bool) (f : X → Y) where
   gathered-full l ys [] e = refl
   gathered-full l ys (x ∷ xs) e = ap (λ t. cond t ys (cond (p x) (gathered l p f (ys ++ f x ∷ []) xs) (gathered l p f ys xs))) e
 
+  -- one that passes goes behind those so far
+  pub gathered-next : (l : ℤ) (ys : List Y) (x : X) (xs : List X) → is_enough l (length ys) ≡ false
+      → gathered l p f (cond (p x) (ys ++ f x ∷ []) ys) xs ≡ gathered l p f ys (x ∷ xs)
+  gathered-next l ys x xs e =
+      by (p x) ∙ sym (ap (λ t. cond t ys (cond (p x) (gathered l p f (ys ++ f x ∷ []) xs) (gathered l p f ys xs))) e)
+    where
+      by : (b : Bool) → gathered l p f (cond b (ys ++ f x ∷ []) ys) xs ≡ cond b (gathered l p f (ys ++ f x ∷ []) xs) (gathered l p f ys xs)
+      by true = refl
+      by false = refl
+
   gathered-free : (l : ℤ) → ((n : ℕ) → is_enough l n ≡ false) → (ys : List Y) (xs : List X) → gathered l p f ys xs ≡ ys ++ map f (filter p xs)
   gathered-free l h ys [] = sym (append-nil ys)
   gathered-free l h ys (x ∷ xs) = ap (λ t. cond t ys (cond (p x) (gathered l p f (ys ++ f x ∷ []) xs) (gathered l p f ys xs))) (h (length ys))

@@ -1,6 +1,10 @@
 -- What a Range shows of key-values, as many as its limit asks for.
 use Rattle.std.specs.Prelude.{ℕ, zero, suc, ℤ, pos, negsuc, List, [], ◌∷◌, ◌++◌, length, map, filter, take, Bool, true, false, nat_lt, if◌then◌else◌}
 use Rattle.kv_model.specs.declared.call.RangeQuery.{RangeQuery}
+use Rattle.kv_model.specs.declared.call.SortOrder.{SortOrder}
+use Rattle.kv_model.specs.declared.call.SortOrder.TheVariants.{Unsorted, Ascend, Descend}
+use Rattle.kv_model.specs.declared.call.SortTarget.{SortTarget}
+use Rattle.kv_model.specs.declared.call.SortTarget.TheVariants.{ByKey, ByVersion, ByCreate, ByMod, ByValue}
 use Rattle.kv_model.specs.History.{KeyValue}
 use Rattle.kv_model.specs.Ranges as ranges
 use Rattle.kv_model.specs.Ranges.{first_few, passes_filters, sorted, stripped}
@@ -36,6 +40,24 @@ gathered l p f ys (x ∷ xs) =
     if is_enough l (length ys) then ys
     else if p x then gathered l p f (ys ++ f x ∷ []) xs
     else gathered l p f ys xs
+
+-- from the last to the first
+abbrev pub turned : {X : Type 0} → List X → List X
+turned [] = []
+turned (x ∷ xs) = turned xs ++ x ∷ []
+
+abbrev pub is_descending : SortOrder → Bool
+is_descending Unsorted = false
+is_descending Ascend = false
+is_descending Descend = true
+
+-- the order of the keys is asked for, from the last on
+abbrev pub is_turned : SortOrder → SortTarget → Bool
+is_turned o ByKey = is_descending o
+is_turned o ByVersion = false
+is_turned o ByCreate = false
+is_turned o ByMod = false
+is_turned o ByValue = false
 
 -- those that pass, in the order asked for
 abbrev pub hits_of : RangeQuery → List KeyValue → List KeyValue

@@ -2,9 +2,9 @@
 //! as many as its limit asks for.
 //!
 //! The one contract is that of [`shown::reply_by`]: of the live keys of a range, in the order of the
-//! keys, it is the model's reply (`reply_from` of `kv_model`). In the order of the keys no more is
-//! looked at than it takes to find those that are shown and one more, which tells whether there are
-//! more. In another order a few are kept in that order while all are looked through, and for more
+//! keys, it is the model's reply (`reply_from` of `kv_model`). In the order of the keys, from the
+//! first on or from the last, no more is looked at than it takes to find those that are shown and
+//! one more, which tells whether there are more. In another order a few are kept in that order while all are looked through, and for more
 //! than a few all are sorted. Who has the key-values sorted already takes of them what is asked for,
 //! and makes the reply by [`shown::finish`].
 //!

@@ -1,14 +1,15 @@
 //! What a Range shows of key-values (the etcd documentation's RangeRequest and RangeResponse).
-ghost use Rattle.std.specs.Prelude.{◌≡◌, List, [], IfOk, filter, map, true, false};
+ghost use Rattle.std.specs.Prelude.{◌≡◌, ◌++◌, List, [], ◌∷◌, IfOk, OnOk, filter, map, true, false};
+ghost use Rattle.std.specs.Prelude.{if◌then◌else◌};
 ghost use Rattle.kv_model.specs.History.{KeyValue};
 ghost use Rattle.kv_model.specs.Ranges.{first_few, reply_from, stripped, within};
 ghost use Rattle.range_view.specs.Replies.{kv_view, reply_view};
 ghost use Rattle.range_view.specs.Selecting.{AreByKey};
 ghost use Rattle.shown_ranges.specs.Shown.{beyond, gathered, hits_of, is_enough, is_present, reply_of};
-ghost use Rattle.shown_ranges.specs.Shown.{shows};
+ghost use Rattle.shown_ranges.specs.Shown.{shows, turned};
 
 use crate::best::{first_sorted, is_few};
-use crate::sorting::{keeps_order, sort};
+use crate::sorting::{is_turned, keeps_order, sort};
 use kv_model::call::RangeQuery;
 use range_view::reply::{KvRef, RangeReply};
 use std::alloc::{AllocError, Global};
@@ -66,6 +67,40 @@ fn first_shown<'a>(
     Ok(shown)
 }
 
+/// The same from the last on.
+fn last_shown<'a>(
+    alloc: Global,
+    kvs: &[KvRef<'a>],
+    query: &RangeQuery,
+) -> Result<Vec<KvRef<'a>>, AllocError>
+    ensures { IfOk result (λ v. v.items
+        ≡ gathered query.now.limit (shows query.now) (λ kv. kv) [] (turned kvs.now)) }
+{
+    let mut shown = Vec::new(alloc);
+    for i in 0..kvs.len() {
+        if is_enough(query, shown.len()) {
+            return Ok(shown);
+        }
+        gather(&mut shown, query, &kvs[kvs.len() - 1 - i])?;
+    }
+    Ok(shown)
+}
+
+/// Takes one, if it passes. The error is want of memory.
+fn gather<'a>(
+    shown: &mut Vec<KvRef<'a>>,
+    query: &RangeQuery,
+    kv: &KvRef<'a>,
+) -> Result<(), AllocError>
+    ensures { OnOk result (shown.new.items ≡ (if shows query.now kv.now
+        then shown.old.items ++ kv.now ∷ [] else shown.old.items)) }
+{
+    if passes(query, kv) {
+        shown.push(*kv)?;
+    }
+    Ok(())
+}
+
 /// All of key-values that pass the filters. The error is want of memory.
 fn all_shown<'a>(
     alloc: Global,
@@ -96,6 +131,9 @@ fn arranged<'a>(
 {
     if keeps_order(query.order, query.target) {
         return first_shown(alloc, kvs, query);
+    }
+    if is_turned(query.order, query.target) {
+        return last_shown(alloc, kvs, query);
     }
     if is_few(query) {
         return first_sorted(alloc, kvs, query);

@@ -3,6 +3,7 @@ ghost use Rattle.std.specs.Prelude.{◌≡◌, OnOk, map};
 ghost use Rattle.kv_model.specs.Ranges.{order_cmp, target_cmp, sorted};
 ghost use Rattle.range_view.specs.Replies.{kv_view};
 ghost use Rattle.range_view.specs.Selecting.{keeps_order};
+ghost use Rattle.shown_ranges.specs.Shown.{is_turned};
 
 use kv_model::call::{SortOrder, SortTarget};
 use range_view::reply::KvRef;
@@ -51,6 +52,16 @@ pub fn keeps_order(order: SortOrder, target: SortTarget) -> bool
 {
     match target {
         SortTarget::ByKey => order != SortOrder::Descend,
+        _ => false,
+    }
+}
+
+/// Whether the order of the keys is the one asked for, from the last on.
+pub fn is_turned(order: SortOrder, target: SortTarget) -> bool
+    ensures { result ≡ is_turned order target }
+{
+    match target {
+        SortTarget::ByKey => order == SortOrder::Descend,
         _ => false,
     }
 }
