@@ -2,9 +2,7 @@
 use Rattle.std.proofs.Common.{◌≡◌, ℕ, zero, suc, ◌<◌, ◌≤◌, List, [], ◌∷◌, take, drop, map, filter}
 use Rattle.std.proofs.Common.{Bool, true, false, not, ◌&&◌, cond, nat_le, refl, sym, ◌∙◌, ap, arith}
 use Rattle.std.proofs.lemmas.Bool.Decides.{nat_tests}
-use Rattle.std.specs.Prelude.{⊤}
 use Rattle.std.specs.List.{AllByRecursion}
-use Rattle.std.specs.List.Sorted.{IsPartitionedBy}
 use Rattle.std.specs.declared.cmp.Ordering.{Ordering}
 use Rattle.std.specs.declared.cmp.Ordering.TheVariants.{Less, Equal, Greater}
 use Rattle.std.specs.Ordering.{ordering_reverse, is_lt, is_le}
@@ -15,7 +13,7 @@ use Rattle.kv_model.specs.Keys.{key_cmp, key_lt, key_le, in_range}
 use Rattle.store_laws.specs.Rising.{count_while}
 use Rattle.store_laws.proofs.BatchLaws.{filter-none}
 use Rattle.store_laws.proofs.PlaceLaws.{each-map}
-use Rattle.store_laws.proofs.Rising.{each-at, kept-all}
+use Rattle.store_laws.proofs.Rising.{kept-all}
 use Rattle.range_view.specs.Selecting.{AreByKey}
 use Rattle.shown_ranges.proofs.Falling.{Falls}
 use Rattle.live_keys.specs.Parts.{between, of_part, interval}

@@ -1,24 +1,17 @@
 -- What passes a test of a sorted list is what passes, sorted.
-use Rattle.std.proofs.Common.{◌≡◌, ◌∙◌, ℕ, zero, suc, ◌+◌, ◌-◌, ◌≤◌, ◌<◌, List, [], ◌∷◌, ◌++◌, length, take, drop, map, filter}
-use Rattle.std.proofs.Common.{Bool, true, false, not, ◌&&◌, cond, nat_le, nat_lt, refl, sym, ap, arith}
+use Rattle.std.proofs.Common.{◌≡◌, ◌∙◌, ℕ, zero, suc, ◌+◌, ◌-◌, ◌≤◌, List, [], ◌∷◌, length, take, map, filter}
+use Rattle.std.proofs.Common.{Bool, true, false, ◌&&◌, cond, nat_le, nat_lt, refl, sym, ap, arith}
 use Rattle.std.proofs.lemmas.Bool.Decides.{nat_tests}
 use Rattle.std.proofs.lemmas.Cmp.{on_total}
-use Rattle.std.proofs.lemmas.List.Sorted.{ranks_by}
-use Rattle.std.specs.Prelude.{⊤}
-use Rattle.std.specs.List.{AllByRecursion}
-use Rattle.std.specs.Cmp.{IsTotalOrder, IsStrictWeakOrder}
-use Rattle.std.specs.declared.cmp.Ordering.{Ordering}
-use Rattle.std.specs.declared.cmp.Ordering.TheVariants.{Less, Equal, Greater}
-use Rattle.std.specs.Ordering.{is_lt, is_gt, ordering_reverse}
+use Rattle.std.specs.Cmp.{IsTotalOrder}
 use Rattle.kv_model.specs.declared.call.RangeQuery.{RangeQuery}
 use Rattle.kv_model.specs.declared.call.SortOrder.{SortOrder}
 use Rattle.kv_model.specs.declared.call.SortTarget.{SortTarget}
-use Rattle.kv_model.specs.History.{KeyValue}
-use Rattle.kv_model.specs.Ranges.{insert_by, order_cmp, passes_filters, sorted, sorted_by, target_cmp}
+use Rattle.kv_model.specs.Ranges.{order_cmp, passes_filters, sorted, sorted_by, target_cmp}
 use Rattle.range_view.specs.declared.reply.KvRef.{KvRef}
 use Rattle.range_view.specs.Replies.{kv_view}
 use Rattle.range_view.proofs.Orders.{asked_total}
-use Rattle.range_view.proofs.Sorting.{map-sorted_by, NoneBelow, Rises}
+use Rattle.range_view.proofs.Sorting.{map-sorted_by}
 use Rattle.live_keys.specs.declared.order.Placed.{Placed}
 use Rattle.live_keys.specs.declared.part.Part.{Part}
 use Rattle.live_keys.specs.Orders.{placed_from}

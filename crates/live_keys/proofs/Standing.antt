@@ -15,7 +15,6 @@ use Rattle.store_laws.specs.Rising.{count_while}
 use Rattle.store_laws.proofs.HistoryLaws.{same_key-eq}
 use Rattle.store_laws.proofs.KeyLaws.{cmp-refl, same-refl}
 use Rattle.range_view.specs.Selecting.{AreByKey}
-use Rattle.live_keys.specs.declared.part.Part.{Part}
 use Rattle.live_keys.specs.Exchanging.{IsBefore, IsBehind, Stands}
 use Rattle.live_keys.specs.Parts.{interval, of_part}
 use Rattle.shown_ranges.proofs.Falling.{Falls}

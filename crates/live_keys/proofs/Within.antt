@@ -1,6 +1,6 @@
 -- The live keys of a range are those of all that lie in it, and what a compare says of them.
 use Rattle.std.proofs.Common.{◌≡◌, ◌∙◌, ℕ, zero, suc, ℤ, pos, negsuc, ◌<◌, ◌≤◌, List, [], ◌∷◌, length, map, filter, filter_map, Bool, true, false, cond}
-use Rattle.std.proofs.Common.{Option, None, Some, Result, Ok, Err, IfOk, refl, sym, ap, subst, arith}
+use Rattle.std.proofs.Common.{Option, None, Some, Result, IfOk, refl, sym, ap, subst, arith}
 use Rattle.std.specs.List.{cons_option, list_all}
 use Rattle.std.proofs.lemmas.List.Folds.{list_all-map}
 use Rattle.kv_model.specs.declared.version.Rev.{Rev}

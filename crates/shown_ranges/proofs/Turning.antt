@@ -12,7 +12,7 @@ use Rattle.kv_model.specs.declared.call.SortTarget.{SortTarget}
 use Rattle.kv_model.specs.declared.call.SortTarget.TheVariants.{ByKey, ByVersion, ByCreate, ByMod, ByValue}
 use Rattle.kv_model.specs.History.{KeyValue}
 use Rattle.kv_model.specs.Keys.{key_cmp}
-use Rattle.kv_model.specs.Ranges.{insert_by, order_cmp, passes_filters, sorted, sorted_by, target_cmp}
+use Rattle.kv_model.specs.Ranges.{insert_by, passes_filters, sorted, sorted_by}
 use Rattle.range_view.specs.declared.reply.KvRef.{KvRef}
 use Rattle.range_view.specs.Replies.{kv_view}
 use Rattle.range_view.specs.Selecting.{AreByKey}

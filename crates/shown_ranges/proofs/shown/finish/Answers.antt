@@ -1,6 +1,5 @@
 -- What is left of the list, and whether that cuts some.
 use Rattle.std.proofs.Common.{◌≡◌, ◌∙◌, ap, length, map, rules, sym}
-use Rattle.kv_model.specs.History.{KeyValue}
 use Rattle.kv_model.specs.Ranges.{first_few, stripped}
 use Rattle.range_view.specs.Replies.{kv_view}
 use Rattle.range_view.proofs.Selecting.{map-first_few}
