@@ -2,9 +2,7 @@
 use Rattle.std.proofs.Common.{◌≡◌, ℕ, zero, suc, ◌<◌, ◌≤◌, List, [], ◌∷◌, take, drop, map, filter}
 use Rattle.std.proofs.Common.{Bool, true, false, not, ◌&&◌, cond, nat_le, refl, sym, ◌∙◌, ap, arith}
 use Rattle.std.proofs.lemmas.Bool.Decides.{nat_tests}
-use Rattle.std.specs.Prelude.{⊤}
 use Rattle.std.specs.List.{AllByRecursion}
-use Rattle.std.specs.List.Sorted.{IsPartitionedBy}
 use Rattle.std.specs.declared.cmp.Ordering.{Ordering}
 use Rattle.std.specs.declared.cmp.Ordering.TheVariants.{Less, Equal, Greater}
 use Rattle.std.specs.Ordering.{ordering_reverse, is_lt, is_le}
@@ -15,29 +13,15 @@ use Rattle.kv_model.specs.Keys.{key_cmp, key_lt, key_le, in_range}
 use Rattle.store_laws.specs.Rising.{count_while}
 use Rattle.store_laws.proofs.BatchLaws.{filter-none}
 use Rattle.store_laws.proofs.PlaceLaws.{each-map}
-use Rattle.store_laws.proofs.Rising.{each-at, kept-all}
+use Rattle.store_laws.proofs.Rising.{kept-all}
 use Rattle.range_view.specs.Selecting.{AreByKey}
+use Rattle.shown_ranges.proofs.Falling.{Falls}
 use Rattle.live_keys.specs.Parts.{between, of_part, interval}
 use Rattle.live_keys.proofs.Neighbours.{between-empty}
 
 -- ---- tests that fail from some element on
 
 module _ {X : Type 0} where
-  abbrev pub Falls : (X → Bool) → List X → Type 0
-  Falls t [] = ⊤
-  Falls t (x ∷ xs) = (t x ≡ false → AllByRecursion (λ y. t y ≡ false) xs) × Falls t xs
-
-  pub falls-partitioned : (t : X → Bool) (xs : List X) → Falls t xs → IsPartitionedBy t xs
-  falls-partitioned t [] f i j d l m h = absurd (omega arith)
-  falls-partitioned t (x ∷ xs) f zero zero d l m h = h
-  falls-partitioned t (x ∷ xs) f zero (suc j) d l m h = by (t x) refl
-    where
-      by : (b : Bool) → t x ≡ b → t x ≡ true
-      by true e = e
-      by false e = let g : false ≡ true = sym (each-at (λ y. t y ≡ false) xs j d (f.0 e) (omega arith)) ∙ h in cc
-  falls-partitioned t (x ∷ xs) f (suc i) zero d l m h = absurd (omega arith)
-  falls-partitioned t (x ∷ xs) f (suc i) (suc j) d l m h = falls-partitioned t xs f.1 i j d (omega arith) (omega arith) h
-
   take-count : (t : X → Bool) (xs : List X) → Falls t xs → take (count_while t xs) xs ≡ filter t xs
   take-count t [] f = refl
   take-count t (x ∷ xs) f = by (t x) refl (take-count t xs f.1)
@@ -58,7 +42,7 @@ module _ {X : Type 0} where
       by false e rest =
           ap (λ ys. x ∷ ys) (sym (kept-all (λ y. not (t y)) xs (each-map (λ y. t y ≡ false) (λ y. not (t y) ≡ true) (λ y g. ap not g) xs (f.0 e))))
 
-  same-filter : (t u : X → Bool) → (xs : List X) → AllByRecursion (λ x. t x ≡ u x) xs → filter t xs ≡ filter u xs
+  pub same-filter : (t u : X → Bool) → (xs : List X) → AllByRecursion (λ x. t x ≡ u x) xs → filter t xs ≡ filter u xs
   same-filter t u [] h = refl
   same-filter t u (x ∷ xs) h = λ i. cond (h.0 i) (x ∷ same-filter t u xs h.1 i) (same-filter t u xs h.1 i)
 
@@ -152,7 +136,7 @@ not-below k a = by (key_cmp k a) (key_cmp a k) (nat_list_cmp_total.antisymm a k)
     by Equal p e = sym (ap is_le e)
     by Greater p e = sym (ap is_le e)
 
-every : (P : KeyValue → Type 0) → ((kv : KeyValue) → P kv) → (kvs : List KeyValue) → AllByRecursion P kvs
+pub every : (P : KeyValue → Type 0) → ((kv : KeyValue) → P kv) → (kvs : List KeyValue) → AllByRecursion P kvs
 every P h [] = tt
 every P h (kv ∷ kvs) = (h kv, every P h kvs)
 

@@ -2,5 +2,8 @@ pub mod Orders
 pub mod Neighbours
 pub mod Counted
 pub mod Within
+pub mod Standing
+pub mod Exchanges
 pub mod Levels
 pub mod Places
+pub mod Rankings

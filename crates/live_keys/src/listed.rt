@@ -1,10 +1,15 @@
 //! A list of all live keys, and what was found about it.
-ghost use Rattle.std.specs.Prelude.{◌≡◌, ◌≢◌, IfOk, List, MatchOption, ⊤};
+ghost use Rattle.std.specs.Prelude.{◌≡◌, ◌≢◌, IfOk, List, MatchOption, OnOk, false, map, ℕ, ⊤};
 ghost use Rattle.std.specs.List.{AllByRecursion, list_all};
 ghost use Rattle.kv_model.specs.declared.call.Relation.TheVariants.{IsNotEqual};
+ghost use Rattle.kv_model.specs.History.{value_at};
+ghost use Rattle.kv_model.specs.Keys.{in_range};
 ghost use Rattle.kv_model.specs.Ranges.{live};
 ghost use Rattle.kv_model.specs.Txns as txns;
 ghost use Rattle.range_view.specs.declared.reply.KvRef.{KvRef};
+ghost use Rattle.range_view.specs.Replies.{kv_view};
+ghost use Rattle.range_view.specs.Stored.{Viewed};
+ghost use Rattle.live_keys.specs.Exchanging as exchanging;
 ghost use Rattle.live_keys.specs.Extremes as extremes;
 ghost use Rattle.live_keys.specs.Fields as fields;
 ghost use Rattle.live_keys.specs.Listing as listing;
@@ -15,6 +20,7 @@ use crate::compare::{holds_of, relates_to};
 use crate::field::{Field, field_of};
 use crate::order::{Order, all_differ, order_over};
 use crate::part::{Part, part_of};
+use crate::ranking::Ranking;
 use crate::tree::{Tree, all_relate, tree_over};
 use bytes::Bytes;
 use kv_model::call::{Compare, Relation};
@@ -24,13 +30,13 @@ use range_view::reply::KvRef;
 use std::alloc::{AllocError, Global};
 
 /// How many key-values are looked at one after another, whatever is known.
-const FEW: usize = 32;
+pub(crate) const FEW: usize = 32;
 
 /// How often as many as live keys are looked at one after another, before a tree or an order is made.
 const MOST_SCANS: usize = 8;
 
 /// All live keys at the view's place, in the order of the keys, with trees over them and their orders
-/// by fields, of each field at most one.
+/// by fields, of each field at most one, and in orders that Ranges asked for.
 #[derive(Drop)]
 pub(crate) struct Listed<'a> {
     pub(crate) kvs: Vec<KvRef<'a>>,
@@ -38,6 +44,9 @@ pub(crate) struct Listed<'a> {
     pub(crate) orders: Vec<Order<'a>>,
     /// How many were looked at one after another.
     pub(crate) scanned: usize,
+    pub(crate) rankings: Vec<Ranking<'a>>,
+    /// How many were sorted.
+    pub(crate) sorted: usize,
 }
 
 /// The list of all live keys at the view's place, which are walked. The error is want of memory.
@@ -54,12 +63,13 @@ pub(crate) fn list_all<'a>(alloc: Global, view: &View<'a>) -> Result<Listed<'a>,
         trees: Vec::new(alloc),
         orders: Vec::new(alloc),
         scanned: 0,
+        rankings: Vec::new(alloc),
+        sorted: 0,
     })
 }
 
 /// Whether a compare of a range of several keys holds, by the list: logarithmic in its length where
-/// the tree or the order that it asks for is there, else what that takes; one key is looked up. The
-/// error is want of memory.
+/// the tree or the order that it asks for is there, else what that takes. The error is want of memory.
 pub(crate) fn holds_in(
     alloc: Global,
     view: &View<'_>,
@@ -71,24 +81,19 @@ pub(crate) fn holds_in(
         (live view.now.versions view.now.place compare.now.range)) }
     ensures listed { listing.IsListed view.now listed.new }
 {
-    match part_of(&listed.kvs, &compare.range) {
-        Some(part) if part.from < part.to => {
-            all_in_part(
-                alloc,
-                &listed.kvs,
-                &mut listed.trees,
-                &mut listed.orders,
-                &mut listed.scanned,
-                compare,
-                part,
-            )
-        }
-        Some(_) => Ok(holds_of(compare, &[])),
-        None => {
-            let kvs = view.live(alloc, &compare.range)?;
-            Ok(holds_of(compare, &kvs))
-        }
+    let part = part_of(&listed.kvs, &compare.range);
+    if part.from >= part.to {
+        return Ok(holds_of(compare, &[]));
     }
+    all_in_part(
+        alloc,
+        &listed.kvs,
+        &mut listed.trees,
+        &mut listed.orders,
+        &mut listed.scanned,
+        compare,
+        part,
+    )
 }
 
 /// Whether each key-value of a part of the list stands to the operand as the compare says. The
@@ -224,4 +229,40 @@ fn order_of<'l, 'a>(orders: &'l [Order<'a>], field: Field) -> Option<&'l Order<'
         }
     }
     None
+}
+
+/// The list, where the keys of the range hold these and every other key what it held: what was found
+/// about it is dropped. `None` where there is no memory.
+pub(crate) fn exchanged<'a>(
+    listed: Listed<'a>,
+    range: &KeyRange,
+    kvs: Vec<KvRef<'a>>,
+) -> Option<Listed<'a>>
+    ensures { (v w : Viewed) → listing.IsListed v listed.entry
+        → map kv_view kvs.entry.items ≡ live w.versions w.place range.now
+        → ((k : List ℕ) → in_range range.now k ≡ false
+        → value_at w.versions w.place k ≡ value_at v.versions v.place k)
+        → listing.MayBeListed w result }
+{
+    let mut listed = listed;
+    listed.trees.clear();
+    listed.orders.clear();
+    listed.scanned = 0;
+    listed.rankings.clear();
+    listed.sorted = 0;
+    let part = part_of(&listed.kvs, range);
+    match put_in(&mut listed.kvs, part, kvs) {
+        Ok(()) => Some(listed),
+        Err(_) => None,
+    }
+}
+
+/// Puts key-values in the place of a part of a list. The error is want of memory.
+fn put_in<'a>(kvs: &mut Vec<KvRef<'a>>, part: Part, new: Vec<KvRef<'a>>) -> Result<(), AllocError>
+    requires { parts.IsWithin part kvs.old.items }
+    ensures { OnOk result
+        (kvs.new.items ≡ exchanging.exchanged part new.entry.items kvs.old.items) }
+{
+    kvs.splice(part.from..part.to, new)?;
+    Ok(())
 }

@@ -1,0 +1,5 @@
+pub mod Falling
+pub mod Gathering
+pub mod Inserting
+pub mod Turning
+pub mod FirstFew
