@@ -36,6 +36,7 @@ mod deleted;
 mod emptied;
 mod fault;
 mod keys;
+mod known;
 mod planning;
 mod put;
 mod reply;

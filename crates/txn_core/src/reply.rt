@@ -6,9 +6,11 @@ ghost use Rattle.kv_model.specs.Ranges as ranges;
 ghost use Rattle.kv_model.specs.Txns as txns;
 ghost use Rattle.range_view.specs.Replies.{kv_view, reply_view, op_reply_view, replies_view};
 ghost use Rattle.txn_core.specs.Emptied.{AreEmptied};
+ghost use Rattle.txn_core.specs.Known.{AreKnown};
 ghost use Rattle.txn_core.specs.Steps.{step_view, steps_view};
 
-use crate::emptied::{Emptied, live_left, none_emptied, note, settle};
+use crate::emptied::{Emptied, live_left, note, settle};
+use crate::known::{Known, nothing_known, pass, pass_put};
 use crate::step::Step;
 use kv_model::call::{DeleteRequest, PutRequest, RangeQuery};
 use kv_model::version::Rev;
@@ -41,8 +43,8 @@ pub fn replies<'a>(
         ≡ txns.replies_of tables.now.versions before 0
         (steps_view steps.now)) }
 {
-    let mut emptied = none_emptied(alloc);
-    let (replies, _) = row_replies(alloc, tables, before, 0, steps, &mut emptied)?;
+    let mut known = nothing_known(alloc, tables, before);
+    let (replies, _) = row_replies(alloc, tables, before, 0, steps, &mut known)?;
     Ok(replies)
 }
 
@@ -55,15 +57,14 @@ fn row_replies<'a, 't>(
     before: u64,
     sub: u64,
     steps: &'t [Step<'_>],
-    emptied: &mut Emptied<'a, 't>,
+    known: &mut Known<'a, 't>,
 ) -> Result<(Vec<OpReply<'a>>, u64), AllocError>
     requires room { before + 1 < 2 ^ 64 }
     requires reads { ReadsKept tables.now.compacted before (steps_view steps.now) }
     requires changes { sub + txns.changes_of tables.now.versions (before + 1) sub
         (steps_view steps.now) < 2 ^ 64 }
-    requires emptied { AreEmptied tables.now.versions (before + 1) sub emptied.old }
-    ensures emptied { IfOk result (λ r.
-        AreEmptied tables.now.versions (before + 1) r.1 emptied.new) }
+    requires known { AreKnown tables.now before sub known.old }
+    ensures known { IfOk result (λ r. AreKnown tables.now before r.1 known.new) }
     ensures replies { IfOk result (λ r. replies_view r.0.items
         ≡ txns.replies_of tables.now.versions before sub
         (steps_view steps.now)) }
@@ -73,7 +74,7 @@ fn row_replies<'a, 't>(
     let mut replies = Vec::new(alloc);
     let mut next = sub;
     for step in steps {
-        let (reply, after) = step_reply(alloc, tables, before, next, step, emptied)?;
+        let (reply, after) = step_reply(alloc, tables, before, next, step, known)?;
         replies.push(reply)?;
         next = after;
     }
@@ -88,15 +89,14 @@ fn step_reply<'a, 't>(
     before: u64,
     sub: u64,
     step: &'t Step<'_>,
-    emptied: &mut Emptied<'a, 't>,
+    known: &mut Known<'a, 't>,
 ) -> Result<(OpReply<'a>, u64), AllocError>
     requires room { before + 1 < 2 ^ 64 }
     requires reads { ReadsKept tables.now.compacted before (step_view step.now txns.Path.end) }
     requires changes { sub + txns.changes_of tables.now.versions (before + 1) sub
         (step_view step.now txns.Path.end) < 2 ^ 64 }
-    requires emptied { AreEmptied tables.now.versions (before + 1) sub emptied.old }
-    ensures emptied { IfOk result (λ r.
-        AreEmptied tables.now.versions (before + 1) r.1 emptied.new) }
+    requires known { AreKnown tables.now before sub known.old }
+    ensures known { IfOk result (λ r. AreKnown tables.now before r.1 known.new) }
     ensures replies { IfOk result (λ r. (rest : txns.Path)
         → op_reply_view r.0
         (txns.replies_of tables.now.versions before r.1 rest)
@@ -108,40 +108,25 @@ fn step_reply<'a, 't>(
 {
     match step {
         Step::Range(query) => Ok((
-            OpReply::Range(range_reply(alloc, tables, before, sub, query)?),
+            OpReply::Range(known.keys.range(alloc, query)?),
             sub,
         )),
-        Step::Put(put) => Ok((OpReply::Put(previous(tables, before, sub, put)), sub + 1)),
+        Step::Put(put) => {
+            let previous = previous(tables, before, sub, put);
+            pass_put(alloc, tables, before, sub, put, known)?;
+            Ok((OpReply::Put(previous), sub + 1))
+        }
         Step::Delete(delete) => {
-            let (deleted, previous) = deleted(alloc, tables, before, sub, delete, emptied)?;
-            Ok((OpReply::Delete { deleted, previous }, sub + deleted))
+            let (deleted, previous) = deleted(alloc, tables, before, sub, delete, &mut known.emptied)?;
+            let next = sub + deleted;
+            pass(alloc, tables, before, sub, next, &delete.range, known)?;
+            Ok((OpReply::Delete { deleted, previous }, next))
         }
         Step::Inner { succeeded, steps } => {
-            let (replies, next) = row_replies(alloc, tables, before, sub, steps, emptied)?;
+            let (replies, next) = row_replies(alloc, tables, before, sub, steps, known)?;
             let succeeded = *succeeded;
             Ok((OpReply::Inner { succeeded, replies }, next))
         }
-    }
-}
-
-/// The answer to a Range that stands behind so many changes, and is not refused.
-fn range_reply<'a>(
-    alloc: Global,
-    tables: &'a Tables,
-    before: u64,
-    sub: u64,
-    query: &RangeQuery,
-) -> Result<RangeReply<'a>, AllocError>
-    requires room { before + 1 < 2 ^ 64 }
-    requires kept { ranges.revision_refusal tables.now.compacted before query.now.revision ≡ None }
-    ensures { IfOk result (λ r. reply_view r
-        ≡ ranges.range_reply tables.now.versions before
-        (txns.place_before (before + 1) sub) query.now) }
-{
-    let view = tables.view_before(before, place_before(before, sub));
-    match view.range(alloc, query) {
-        Ok(reply) => Ok(reply),
-        Err(_) => Err(AllocError),
     }
 }
 

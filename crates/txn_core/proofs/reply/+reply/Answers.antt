@@ -26,7 +26,7 @@ row_replies-step_reply-requires t c =
         c.requires.room,
         (
           (row-reads c.args.tables.now.compacted c.args.before ss here l.invariant.reads).0,
-          (row-room c.args.tables.now.versions (c.args.before + 1) l.next ss here _ room, l.invariant.emptied),
+          (row-room c.args.tables.now.versions (c.args.before + 1) l.next ss here _ room, l.invariant.known),
         ),
       ),
     )
@@ -47,7 +47,7 @@ row_replies-loop-step-preserved t c =
           ∙ row-pushed l.replies.items reply.reply (told v n reply.after rest)
           ∙ ap (in_row (map op_reply_view l.replies.items)) (reply.ensures.replies rest ∙ ap (told v n l.next) (sym (row-at ss here)))
           ∙ l.invariant.replies;
-      emptied = reply.ensures.emptied;
+      known = reply.ensures.known;
     }
 
 pub row_replies-returns-clause-replies : goal.row_replies-returns-clause-replies
