@@ -1,13 +1,18 @@
 //! The live keys of a range at the end of a revision, and whether compares hold of them.
-ghost use Rattle.std.specs.Prelude.{◌≡◌, IfOk};
+ghost use Rattle.std.specs.Prelude.{◌≡◌, IfOk, List, ℕ, None, false, map};
 ghost use Rattle.kv_model.specs.History as history;
+ghost use Rattle.kv_model.specs.Keys as keys;
+ghost use Rattle.kv_model.specs.Ranges as ranges;
 ghost use Rattle.kv_model.specs.Ranges.{live};
 ghost use Rattle.kv_model.specs.Txns as txns;
+ghost use Rattle.range_view.specs.Replies.{kv_view, reply_view};
 
 use crate::compare::holds_of;
 use crate::listed::{Listed, holds_in, list_all};
-use kv_model::call::Compare;
+use kv_model::call::{Compare, RangeQuery};
+use kv_model::version::KeyRange;
 use range_view::View;
+use range_view::reply::{KvRef, RangeReply};
 use std::alloc::{AllocError, Global};
 use std::marker::Model;
 
@@ -75,6 +80,53 @@ impl<'a> LiveKeys<'a> {
             return self.walk(alloc, compare);
         }
         self.look_up(alloc, compare)
+    }
+
+    /// The answer to a Range at the view's place, or at the end of the revision that it asks for. The
+    /// caller has seen that this is neither compacted nor in the future.
+    ///
+    /// `AllocError` comes where a list of what is found, or a sort, found no memory; no later answer
+    /// is another for it.
+    pub fn range(&mut self, alloc: Global, query: &RangeQuery) -> Result<RangeReply<'a>, AllocError>
+        requires { ranges.revision_refusal self.old.compacted self.old.revision query.now.revision
+            ≡ None }
+        ensures reply { IfOk result (λ r. reply_view r ≡ ranges.range_reply self.old.versions
+            self.old.revision self.old.place query.now) }
+        ensures same { self.new ≡ self.old }
+    {
+        match self.view.range(alloc, query) {
+            Ok(reply) => Ok(reply),
+            Err(_) => Err(AllocError),
+        }
+    }
+
+    /// Goes on to another place, or to other tables, where the keys of the range hold these
+    /// key-values, and every other key what it held.
+    ///
+    /// Where there is no memory to note that, what is known of the keys is dropped: no answer is
+    /// another for it.
+    pub fn replace(&mut self, next: View<'a>, range: &KeyRange, kvs: Vec<KvRef<'a>>)
+        requires here { map kv_view kvs.items ≡ live next.versions next.place range.now }
+        requires beside { (k : List ℕ) → keys.in_range range.now k ≡ false
+            → history.value_at next.versions next.place k
+            ≡ history.value_at self.old.versions self.old.place k }
+        ensures { self.new ≡ next.entry }
+    {
+        self.view = next;
+        self.listed = None;
+    }
+
+    /// Goes on to another place, or to other tables, of which nothing is known. Takes constant time.
+    pub fn skip(&mut self, next: View<'a>)
+        ensures { self.new ≡ next.entry }
+    {
+        self.view = next;
+        self.listed = None;
+    }
+
+    /// Whether all live keys are listed, so that `replace` has a list to go on with.
+    pub fn is_listed(&self) -> bool {
+        self.listed.is_some()
     }
 
     /// Whether one range more may be walked.
