@@ -1,5 +1,5 @@
 -- Behind changes of keys of a range alone every other key holds what it held.
-use Rattle.std.proofs.Common.{◌≡◌, ℕ, zero, suc, ◌+◌, ◌<◌, ◌≤◌, List, [], ◌∷◌, filter, Bool, true, false, not, ◌&&◌, ◌||◌, cond, nat_le, nat_lt}
+use Rattle.std.proofs.Common.{◌≡◌, ℕ, zero, suc, ◌<◌, ◌≤◌, List, [], ◌∷◌, filter, Bool, true, false, not, ◌&&◌, cond, nat_le, nat_lt}
 use Rattle.std.proofs.Common.{option_and_then, refl, sym, ◌∙◌, ap, arith}
 use Rattle.std.specs.List.{AllByRecursion, list_any}
 use Rattle.std.specs.declared.cmp.Ordering.{Ordering}
@@ -86,7 +86,7 @@ each-kept main p (v ∷ vs) h = by (nat_le main v.rev.main) refl h (each-kept ma
 all-same : (main s n : ℕ) (r : KeyRange) (k : List ℕ) → s ≤ n → in_range r k ≡ false → (vs : List Version)
     → AllByRecursion (λ v. nat_le main v.rev.main ≡ true → strays r (suc s) (suc n) v ≡ false) vs
     → AllByRecursion (λ u. (same_key u.key k && rev_le u.rev (record { main = main; sub = n }))
-      ≡ (same_key u.key k && rev_le u.rev (record { main = main; sub = s }))) vs
+    ≡ (same_key u.key k && rev_le u.rev (record { main = main; sub = s }))) vs
 all-same main s n r k l i [] h = tt
 all-same main s n r k l i (v ∷ vs) h = (seen-same main s n r k v l h.0 i, all-same main s n r k l i vs h.1)
 

@@ -22,11 +22,7 @@ pub(crate) struct Known<'a, 't> {
 }
 
 /// What is known before the first change of the revision after one. Takes no memory.
-pub(crate) fn nothing_known<'a, 't>(
-    alloc: Global,
-    tables: &'a Tables,
-    before: u64,
-) -> Known<'a, 't>
+pub(crate) fn nothing_known<'a, 't>(alloc: Global, tables: &'a Tables, before: u64) -> Known<'a, 't>
     requires { before + 1 < 2 ^ 64 }
     ensures { AreKnown tables.now before 0 result }
 {

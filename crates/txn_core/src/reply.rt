@@ -4,7 +4,7 @@ ghost use Rattle.kv_model.specs.History.{value_at};
 ghost use Rattle.store_laws.specs.Plans.{ReadsKept};
 ghost use Rattle.kv_model.specs.Ranges as ranges;
 ghost use Rattle.kv_model.specs.Txns as txns;
-ghost use Rattle.range_view.specs.Replies.{kv_view, reply_view, op_reply_view, replies_view};
+ghost use Rattle.range_view.specs.Replies.{kv_view, op_reply_view, replies_view};
 ghost use Rattle.txn_core.specs.Emptied.{AreEmptied};
 ghost use Rattle.txn_core.specs.Known.{AreKnown};
 ghost use Rattle.txn_core.specs.Steps.{step_view, steps_view};
@@ -12,10 +12,10 @@ ghost use Rattle.txn_core.specs.Steps.{step_view, steps_view};
 use crate::emptied::{Emptied, live_left, note, settle};
 use crate::known::{Known, nothing_known, pass, pass_put};
 use crate::step::Step;
-use kv_model::call::{DeleteRequest, PutRequest, RangeQuery};
+use kv_model::call::{DeleteRequest, PutRequest};
 use kv_model::version::Rev;
 use range_view::Tables;
-use range_view::reply::{KvRef, OpReply, RangeReply};
+use range_view::reply::{KvRef, OpReply};
 use range_view::revision::end_of;
 use std::alloc::{AllocError, Global};
 
@@ -107,17 +107,21 @@ fn step_reply<'a, 't>(
         (step_view step.now txns.Path.end)) }
 {
     match step {
-        Step::Range(query) => Ok((
-            OpReply::Range(known.keys.range(alloc, query)?),
-            sub,
-        )),
+        Step::Range(query) => Ok((OpReply::Range(known.keys.range(alloc, query)?), sub)),
         Step::Put(put) => {
             let previous = previous(tables, before, sub, put);
             pass_put(alloc, tables, before, sub, put, known)?;
             Ok((OpReply::Put(previous), sub + 1))
         }
         Step::Delete(delete) => {
-            let (deleted, previous) = deleted(alloc, tables, before, sub, delete, &mut known.emptied)?;
+            let (deleted, previous) = deleted(
+                alloc,
+                tables,
+                before,
+                sub,
+                delete,
+                &mut known.emptied,
+            )?;
             let next = sub + deleted;
             pass(alloc, tables, before, sub, next, &delete.range, known)?;
             Ok((OpReply::Delete { deleted, previous }, next))
