@@ -10,7 +10,7 @@ ghost use Rattle.txn_core.specs.Known.{AreKnown};
 ghost use Rattle.txn_core.specs.Steps.{step_view, steps_view};
 
 use crate::emptied::{Emptied, live_left, note, settle};
-use crate::known::{Known, nothing_known, pass, pass_put};
+use crate::known::{Known, nothing_known, pass, pass_put, range_reply};
 use crate::step::Step;
 use kv_model::call::{DeleteRequest, PutRequest};
 use kv_model::version::Rev;
@@ -107,7 +107,7 @@ fn step_reply<'a, 't>(
         (step_view step.now txns.Path.end)) }
 {
     match step {
-        Step::Range(query) => Ok((OpReply::Range(known.keys.range(alloc, query)?), sub)),
+        Step::Range(query) => Ok((OpReply::Range(range_reply(alloc, query, known)?), sub)),
         Step::Put(put) => {
             let previous = previous(tables, before, sub, put);
             pass_put(alloc, tables, before, sub, put, known)?;

@@ -11,4 +11,5 @@ returns c =
     record {
       emptied = c.none_emptied.ensures s.versions (c.args.before + 1) 0;
       keys = c.new.ensures ∙ c.view_before.ensures ∙ ap at c.place_before.ensures;
+      changes = tt;
     }

@@ -68,17 +68,17 @@ row_replies-returns-clause-next t c =
 
 -- ---- a Range
 
-pub step_reply-returns-in_ok-range-in-Range-clause-replies : goal.step_reply-returns-in_ok-range-in-Range-clause-replies
-step_reply-returns-in_ok-range-in-Range-clause-replies t c = λ rest.
+pub step_reply-returns-in_ok-range_reply-in-Range-clause-replies : goal.step_reply-returns-in_ok-range_reply-in-Range-clause-replies
+step_reply-returns-in_ok-range_reply-in-Range-clause-replies t c = λ rest.
     let v = c.args.tables.now in
-    let reply = c.in_ok-range-in-Range in
+    let reply = c.in_ok-range_reply-in-Range in
     let q = c.in-Range.query.now in
     range-told v c.args.before c.args.sub q reply.field-0
     (reply.ensures.reply ∙ ap (λ (w : Viewed). range_reply w.versions w.revision w.place q) c.requires.known.keys) rest
     ∙ ap (told v c.args.before c.args.sub) (sym (path-range c.args.step.now c.in-Range.query c.in-Range.is rest))
 
-pub step_reply-returns-in_ok-range-in-Range-clause-next : goal.step_reply-returns-in_ok-range-in-Range-clause-next
-step_reply-returns-in_ok-range-in-Range-clause-next t c =
+pub step_reply-returns-in_ok-range_reply-in-Range-clause-next : goal.step_reply-returns-in_ok-range_reply-in-Range-clause-next
+step_reply-returns-in_ok-range_reply-in-Range-clause-next t c =
     let vs = c.args.tables.now.versions in
     let main = c.args.before + 1 in
     range-changes vs main c.args.sub c.in-Range.query.now
