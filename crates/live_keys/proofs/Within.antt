@@ -1,5 +1,5 @@
 -- The live keys of a range are those of all that lie in it, and what a compare says of them.
-use Rattle.std.proofs.Common.{◌≡◌, ◌∙◌, ℕ, ◌<◌, ◌≤◌, List, [], ◌∷◌, length, map, filter, filter_map, Bool, true, false, cond}
+use Rattle.std.proofs.Common.{◌≡◌, ◌∙◌, ℕ, zero, suc, ℤ, pos, negsuc, ◌<◌, ◌≤◌, List, [], ◌∷◌, length, map, filter, filter_map, Bool, true, false, cond}
 use Rattle.std.proofs.Common.{Option, None, Some, Result, Ok, Err, IfOk, refl, sym, ap, subst, arith}
 use Rattle.std.specs.List.{cons_option, list_all}
 use Rattle.std.proofs.lemmas.List.Folds.{list_all-map}
@@ -9,11 +9,13 @@ use Rattle.kv_model.specs.declared.version.KeyRange.{KeyRange}
 use Rattle.kv_model.specs.declared.call.Compare.{Compare}
 use Rattle.kv_model.specs.History.{KeyValue, value_at}
 use Rattle.kv_model.specs.Keys.{all_keys, in_range}
-use Rattle.kv_model.specs.Ranges.{keys, live, value_within}
+use Rattle.kv_model.specs.declared.call.RangeQuery.{RangeQuery}
+use Rattle.kv_model.specs.Ranges.{keys, live, range_reply, read_place, reply_from, value_within}
 use Rattle.kv_model.specs.Txns.{holds_of, relates, operand_cmp}
 use Rattle.store_laws.proofs.DeleteLaws.{value_at-key}
 use Rattle.range_view.specs.declared.reply.KvRef.{KvRef}
-use Rattle.range_view.specs.Replies.{kv_view}
+use Rattle.range_view.specs.declared.reply.RangeReply.{RangeReply}
+use Rattle.range_view.specs.Replies.{kv_view, reply_view}
 use Rattle.range_view.specs.Selecting.{AreByKey}
 use Rattle.range_view.specs.Stored.{Viewed}
 use Rattle.range_view.proofs.Live.{live-by_key}
@@ -22,6 +24,7 @@ use Rattle.live_keys.specs.declared.part.Part.{Part}
 use Rattle.live_keys.specs.Extremes.{passes}
 use Rattle.live_keys.specs.Listing.{IsListed}
 use Rattle.live_keys.specs.Parts.{of_part}
+use Rattle.live_keys.specs.Shown.{is_present}
 use Rattle.live_keys.proofs.Neighbours.{between-empty, between-map, between-some, map-length}
 
 of-keys : (vs : List Version) (p : Rev) (r : KeyRange) (ks : List (List ℕ))
@@ -68,7 +71,7 @@ part-held c p kvs l m =
     seen : (xs : List KvRef) (n : ℕ) → n ≤ length xs → n ≤ length (map kv_view xs)
     seen xs n h = let same : length (map kv_view xs) ≡ length xs = map-length kv_view xs in omega (arith, h, same)
 
-if_ok-map : {T E : Type 0} (P Q : T → Type 0) → ((x : T) → P x → Q x) → (r : Result T E) → IfOk r P → IfOk r Q
+pub if_ok-map : {T E : Type 0} (P Q : T → Type 0) → ((x : T) → P x → Q x) → (r : Result T E) → IfOk r P → IfOk r Q
 if_ok-map P Q f (Ok x) h = f x h
 if_ok-map P Q f (Err e) h = h
 
@@ -96,3 +99,39 @@ pub told-none : (c : Compare) (v : Viewed) (l : Listed) (p : Part) (kvs : List K
     → p.to ≤ p.from → holds_of c [] ≡ holds_of c (live v.versions v.place c.range)
 told-none c v l p kvs e h exact less =
     ap (holds_of c) (sym (between-empty p.from p.to (map kv_view kvs) less) ∙ live-cut v l c.range p kvs e h exact)
+
+-- ---- what a Range shows of a part
+
+pub told-reply : {E : Type 0} (q : RangeQuery) (v : Viewed) (l : Listed) (p : Part) (kvs given : List KvRef) (now : ℕ) → now ≡ v.revision → kvs ≡ l.kvs.items
+    → given ≡ l.kvs.items → IsListed v l
+    → (AreByKey (map kv_view kvs) → of_part p (map kv_view kvs) ≡ filter (λ kv. in_range q.range kv.key) (map kv_view kvs))
+    → (r : Result RangeReply E)
+    → (AreByKey (of_part p (map kv_view given)) → IfOk r (λ r. reply_view r ≡ reply_from q now (of_part p (map kv_view given))))
+    → IfOk r (λ r. reply_view r ≡ reply_from q v.revision (live v.versions v.place q.range))
+told-reply q v l p kvs given now n e f h exact r told =
+    let same : of_part p (map kv_view given) ≡ live v.versions v.place q.range
+    = ap (λ ks. of_part p (map kv_view ks)) (f ∙ sym e) ∙ live-cut v l q.range p kvs e h exact in
+    if_ok-map (λ r. reply_view r ≡ reply_from q now (of_part p (map kv_view given)))
+    (λ r. reply_view r ≡ reply_from q v.revision (live v.versions v.place q.range))
+    (λ r g. g ∙ (λ i. reply_from q (n i) (same i))) r
+    (told (subst AreByKey (sym same) (live-by_key v.versions v.place q.range)))
+
+pub told-walked : {E : Type 0} (q : RangeQuery) (v : Viewed) (kvs : List KeyValue) (now : ℕ) → now ≡ v.revision
+    → kvs ≡ live v.versions v.place q.range → (r : Result RangeReply E)
+    → (AreByKey kvs → IfOk r (λ r. reply_view r ≡ reply_from q now kvs))
+    → IfOk r (λ r. reply_view r ≡ reply_from q v.revision (live v.versions v.place q.range))
+told-walked q v kvs now n same r told =
+    if_ok-map (λ r. reply_view r ≡ reply_from q now kvs) (λ r. reply_view r ≡ reply_from q v.revision (live v.versions v.place q.range))
+    (λ r g. g ∙ (λ i. reply_from q (n i) (same i))) r
+    (told (subst AreByKey (sym same) (live-by_key v.versions v.place q.range)))
+
+-- where the present revision is asked for, it is read at the given place
+pub read-here : (vs : List Version) (now : ℕ) (p : Rev) (q : RangeQuery) → is_present q.revision ≡ true
+    → reply_from q now (live vs p q.range) ≡ range_reply vs now p q
+unfolding range_reply
+read-here vs now p q e = ap (λ s. reply_from q now (live vs s q.range)) (sym (here q.revision e))
+  where
+    here : (z : ℤ) → is_present z ≡ true → read_place z p ≡ p
+    here (pos zero) e = refl
+    here (pos (suc r)) e = cc
+    here (negsuc n) e = refl

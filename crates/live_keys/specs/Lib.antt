@@ -2,4 +2,5 @@ pub mod Fields
 pub mod Parts
 pub mod Extremes
 pub mod Orders
+pub mod Shown
 pub mod Listing

@@ -8,7 +8,8 @@ ghost use Rattle.kv_model.specs.Txns as txns;
 ghost use Rattle.range_view.specs.Replies.{kv_view, reply_view};
 
 use crate::compare::holds_of;
-use crate::listed::{Listed, holds_in, list_all};
+use crate::listed::{Listed, holds_in, list_all, reply_in};
+use crate::shown::is_present;
 use kv_model::call::{Compare, RangeQuery};
 use kv_model::version::KeyRange;
 use range_view::View;
@@ -94,10 +95,60 @@ impl<'a> LiveKeys<'a> {
             self.old.revision self.old.place query.now) }
         ensures same { self.new ≡ self.old }
     {
+        if !is_present(query) || query.range.end.is_empty() {
+            return self.range_of_view(alloc, query);
+        }
+        if self.listed.is_none() && self.is_cheap() {
+            return self.range_walked(alloc, query);
+        }
+        self.range_listed(alloc, query)
+    }
+
+    /// The answer to a Range by the view.
+    fn range_of_view(&self, alloc: Global, query: &RangeQuery) -> Result<RangeReply<'a>, AllocError>
+        ensures { IfOk result (λ r. reply_view r ≡ ranges.range_reply self.now.versions
+            self.now.revision self.now.place query.now) }
+    {
         match self.view.range(alloc, query) {
             Ok(reply) => Ok(reply),
             Err(_) => Err(AllocError),
         }
+    }
+
+    /// The same, whose walk is counted.
+    fn range_walked(
+        &mut self,
+        alloc: Global,
+        query: &RangeQuery,
+    ) -> Result<RangeReply<'a>, AllocError>
+        ensures reply { IfOk result (λ r. reply_view r ≡ ranges.range_reply self.old.versions
+            self.old.revision self.old.place query.now) }
+        ensures same { self.new ≡ self.old }
+    {
+        let reply = self.range_of_view(alloc, query)?;
+        self.walks = self.walks.saturating_add(1);
+        self.walked = self.walked.saturating_add(reply.count as usize);
+        Ok(reply)
+    }
+
+    /// The answer to a Range at the view's place by the list of all live keys, which is made where
+    /// there is none.
+    fn range_listed(
+        &mut self,
+        alloc: Global,
+        query: &RangeQuery,
+    ) -> Result<RangeReply<'a>, AllocError>
+        ensures reply { IfOk result (λ r. reply_view r ≡ ranges.reply_from query.now
+            self.old.revision (live self.old.versions self.old.place query.now.range)) }
+        ensures same { self.new ≡ self.old }
+    {
+        let listed = match self.listed.take() {
+            Some(listed) => listed,
+            None => list_all(alloc, &self.view)?,
+        };
+        let reply = reply_in(alloc, &self.view, &listed, query);
+        self.listed = Some(listed);
+        reply
     }
 
     /// Goes on to another place, or to other tables, where the keys of the range hold these

@@ -30,6 +30,8 @@ mod keys;
 mod listed;
 mod order;
 mod part;
+mod shown;
+mod sorting;
 mod tree;
 
 pub use keys::LiveKeys;

@@ -1,10 +1,12 @@
 //! A list of all live keys, and what was found about it.
-ghost use Rattle.std.specs.Prelude.{◌≡◌, ◌≢◌, IfOk, List, MatchOption, ⊤};
+ghost use Rattle.std.specs.Prelude.{◌≡◌, ◌≢◌, IfOk, List, MatchOption, map, ⊤};
 ghost use Rattle.std.specs.List.{AllByRecursion, list_all};
 ghost use Rattle.kv_model.specs.declared.call.Relation.TheVariants.{IsNotEqual};
-ghost use Rattle.kv_model.specs.Ranges.{live};
+ghost use Rattle.kv_model.specs.Ranges.{live, reply_from};
 ghost use Rattle.kv_model.specs.Txns as txns;
 ghost use Rattle.range_view.specs.declared.reply.KvRef.{KvRef};
+ghost use Rattle.range_view.specs.Replies.{kv_view, reply_view};
+ghost use Rattle.range_view.specs.Selecting.{AreByKey};
 ghost use Rattle.live_keys.specs.Extremes as extremes;
 ghost use Rattle.live_keys.specs.Fields as fields;
 ghost use Rattle.live_keys.specs.Listing as listing;
@@ -15,12 +17,13 @@ use crate::compare::{holds_of, relates_to};
 use crate::field::{Field, field_of};
 use crate::order::{Order, all_differ, order_over};
 use crate::part::{Part, part_of};
+use crate::shown::reply_by;
 use crate::tree::{Tree, all_relate, tree_over};
 use bytes::Bytes;
-use kv_model::call::{Compare, Relation};
+use kv_model::call::{Compare, RangeQuery, Relation};
 use kv_model::version::KeyRange;
 use range_view::View;
-use range_view::reply::KvRef;
+use range_view::reply::{KvRef, RangeReply};
 use std::alloc::{AllocError, Global};
 
 /// How many key-values are looked at one after another, whatever is known.
@@ -224,4 +227,40 @@ fn order_of<'l, 'a>(orders: &'l [Order<'a>], field: Field) -> Option<&'l Order<'
         }
     }
     None
+}
+
+/// The answer to a Range at the view's place, by the list. The error is want of memory.
+pub(crate) fn reply_in<'a>(
+    alloc: Global,
+    view: &View<'a>,
+    listed: &Listed<'a>,
+    query: &RangeQuery,
+) -> Result<RangeReply<'a>, AllocError>
+    requires { listing.IsListed view.now listed.now }
+    ensures { IfOk result (λ r. reply_view r ≡ reply_from query.now view.now.revision
+        (live view.now.versions view.now.place query.now.range)) }
+{
+    let revision = view.revision();
+    match part_of(&listed.kvs, &query.range) {
+        Some(part) => reply_of_part(alloc, &listed.kvs, part, query, revision),
+        None => {
+            let kvs = view.live(alloc, &query.range)?;
+            reply_by(alloc, &kvs, query, revision)
+        }
+    }
+}
+
+/// The answer to a Range of which a part of the list are the live keys. The error is want of memory.
+fn reply_of_part<'a>(
+    alloc: Global,
+    kvs: &[KvRef<'a>],
+    part: Part,
+    query: &RangeQuery,
+    revision: u64,
+) -> Result<RangeReply<'a>, AllocError>
+    requires { parts.IsWithin part kvs.now }
+    ensures { AreByKey (parts.of_part part (map kv_view kvs.now)) → IfOk result (λ r. reply_view r
+        ≡ reply_from query.now revision (parts.of_part part (map kv_view kvs.now))) }
+{
+    reply_by(alloc, &kvs[part.from..part.to], query, revision)
 }

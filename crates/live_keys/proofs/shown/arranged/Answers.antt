@@ -1,0 +1,21 @@
+-- What passes stands in the order asked for, or is sorted.
+use Rattle.std.proofs.Common.{◌≡◌, ◌∙◌, ap, map, sym, true}
+use Rattle.range_view.specs.Replies.{kv_view}
+use Rattle.range_view.specs.Selecting.{keeps_order}
+use Rattle.live_keys.specs.Shown.{beyond, hits_of}
+use Rattle.live_keys.proofs.Gathering.{first-arranged}
+use Rattle.live_keys.proofs.Within.{if_ok-map}
+use Rattle.live_keys.proofs.shown.arranged.Goals as goal
+
+pub returns-then-keeps_order : goal.returns-then-keeps_order
+returns-then-keeps_order c = λ up.
+    let q = c.args.query.now in
+    let kept : keeps_order q.order q.target ≡ true = sym c.keeps_order.ensures ∙ c.if-keeps_order.true in
+    if_ok-map _ (λ v. beyond q.limit (map kv_view v.items) ≡ beyond q.limit (hits_of q (map kv_view c.args.kvs.now)))
+    (λ v e. first-arranged q c.args.kvs.now v.items kept e up) c.first_shown.result c.first_shown.ensures
+
+pub returns : goal.returns
+returns c = λ up.
+    let q = c.args.query.now in
+    if_ok-map _ (λ v. beyond q.limit (map kv_view v.items) ≡ beyond q.limit (hits_of q (map kv_view c.args.kvs.now)))
+    (λ v e. ap (beyond q.limit) e) c.all_sorted.result c.all_sorted.ensures
