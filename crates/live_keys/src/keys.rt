@@ -8,6 +8,7 @@ ghost use Rattle.kv_model.specs.Txns as txns;
 ghost use Rattle.range_view.specs.Replies.{kv_view, reply_view};
 
 use crate::compare::holds_of;
+use crate::lending::live_in;
 use crate::listed::{Listed, holds_in, list_all, reply_in};
 use crate::shown::is_present;
 use kv_model::call::{Compare, RangeQuery};
@@ -219,5 +220,51 @@ impl<'a> LiveKeys<'a> {
         let is_so = holds_in(alloc, &self.view, &mut listed, compare);
         self.listed = Some(listed);
         is_so
+    }
+
+    /// The key-values of the live keys of a range at the view's place, in the order of the keys.
+    ///
+    /// `AllocError` comes where a list of them, or of all live keys, found no memory; no later answer
+    /// is another for it. One key is looked up, and a range is found as by `range`; what is found is
+    /// copied, keys and values lent.
+    pub fn live(&mut self, alloc: Global, range: &KeyRange) -> Result<Vec<KvRef<'a>>, AllocError>
+        ensures kvs { IfOk result (λ kvs. map kv_view kvs.items
+            ≡ live self.old.versions self.old.place range.now) }
+        ensures same { self.new ≡ self.old }
+    {
+        if range.end.is_empty() {
+            return self.view.live(alloc, range);
+        }
+        if self.listed.is_none() && self.is_cheap() {
+            return self.live_walked(alloc, range);
+        }
+        self.live_listed(alloc, range)
+    }
+
+    /// The same by a walk over the keys of the range.
+    fn live_walked(&mut self, alloc: Global, range: &KeyRange) -> Result<Vec<KvRef<'a>>, AllocError>
+        ensures kvs { IfOk result (λ kvs. map kv_view kvs.items
+            ≡ live self.old.versions self.old.place range.now) }
+        ensures same { self.new ≡ self.old }
+    {
+        let kvs = self.view.live(alloc, range)?;
+        self.walks = self.walks.saturating_add(1);
+        self.walked = self.walked.saturating_add(kvs.len());
+        Ok(kvs)
+    }
+
+    /// The same by the list of all live keys, which is made where there is none.
+    fn live_listed(&mut self, alloc: Global, range: &KeyRange) -> Result<Vec<KvRef<'a>>, AllocError>
+        ensures kvs { IfOk result (λ kvs. map kv_view kvs.items
+            ≡ live self.old.versions self.old.place range.now) }
+        ensures same { self.new ≡ self.old }
+    {
+        let listed = match self.listed.take() {
+            Some(listed) => listed,
+            None => list_all(alloc, &self.view)?,
+        };
+        let kvs = live_in(alloc, &self.view, &listed, range);
+        self.listed = Some(listed);
+        kvs
     }
 }

@@ -27,6 +27,7 @@ mod compare;
 mod extremes;
 mod field;
 mod keys;
+mod lending;
 mod listed;
 mod order;
 mod part;

@@ -114,14 +114,7 @@ fn step_reply<'a, 't>(
             Ok((OpReply::Put(previous), sub + 1))
         }
         Step::Delete(delete) => {
-            let (deleted, previous) = deleted(
-                alloc,
-                tables,
-                before,
-                sub,
-                delete,
-                &mut known.emptied,
-            )?;
+            let (deleted, previous) = deleted(alloc, tables, before, sub, delete, known)?;
             let next = sub + deleted;
             pass(alloc, tables, before, sub, next, &delete.range, known)?;
             Ok((OpReply::Delete { deleted, previous }, next))
@@ -157,11 +150,11 @@ fn deleted<'a, 't>(
     before: u64,
     sub: u64,
     delete: &'t DeleteRequest,
-    emptied: &mut Emptied<'a, 't>,
+    known: &mut Known<'a, 't>,
 ) -> Result<(u64, Vec<KvRef<'a>>), AllocError>
     requires room { before + 1 < 2 ^ 64 }
-    requires emptied { AreEmptied tables.now.versions (before + 1) sub emptied.old }
-    ensures emptied { OnOk result (AreEmptied tables.now.versions (before + 1) sub emptied.new) }
+    requires known { AreKnown tables.now before sub known.old }
+    ensures known { OnOk result (AreKnown tables.now before sub known.new) }
     ensures count { IfOk result (λ r. r.0
         ≡ length (ranges.live tables.now.versions
         (txns.place_before (before + 1) sub) delete.now.range)) }
@@ -169,15 +162,36 @@ fn deleted<'a, 't>(
         ≡ txns.if_asked delete.now.prev_kv
         (ranges.live tables.now.versions (txns.place_before (before + 1) sub) delete.now.range)) }
 {
-    settle_before(alloc, tables, before, sub, delete, emptied)?;
-    let view = tables.view_before(before, place_before(before, sub));
-    let kvs = live_left(alloc, &view, emptied, &delete.range)?;
-    note(emptied, &delete.range);
+    let kvs = found(alloc, tables, before, sub, delete, known)?;
+    note(&mut known.emptied, &delete.range);
     let count = kvs.len() as u64;
     if !delete.prev_kv {
         return Ok((count, Vec::new(alloc)));
     }
     Ok((count, kvs))
+}
+
+/// What the live keys hold that a delete finds which stands behind so many changes.
+fn found<'a, 't>(
+    alloc: Global,
+    tables: &'a Tables,
+    before: u64,
+    sub: u64,
+    delete: &'t DeleteRequest,
+    known: &mut Known<'a, 't>,
+) -> Result<Vec<KvRef<'a>>, AllocError>
+    requires room { before + 1 < 2 ^ 64 }
+    requires known { AreKnown tables.now before sub known.old }
+    ensures known { OnOk result (AreKnown tables.now before sub known.new) }
+    ensures kvs { IfOk result (λ kvs. map kv_view kvs.items
+        ≡ ranges.live tables.now.versions (txns.place_before (before + 1) sub) delete.now.range) }
+{
+    if sub == 0 || known.keys.is_listed() {
+        return known.keys.live(alloc, &delete.range);
+    }
+    settle_before(alloc, tables, before, sub, delete, &mut known.emptied)?;
+    let view = tables.view_before(before, place_before(before, sub));
+    live_left(alloc, &view, &known.emptied, &delete.range)
 }
 
 /// Sees whether the range that was deleted last stays empty, where this delete has several keys.
