@@ -58,7 +58,7 @@ module _ {X : Type 0} where
       by false e rest =
           ap (λ ys. x ∷ ys) (sym (kept-all (λ y. not (t y)) xs (each-map (λ y. t y ≡ false) (λ y. not (t y) ≡ true) (λ y g. ap not g) xs (f.0 e))))
 
-  same-filter : (t u : X → Bool) → (xs : List X) → AllByRecursion (λ x. t x ≡ u x) xs → filter t xs ≡ filter u xs
+  pub same-filter : (t u : X → Bool) → (xs : List X) → AllByRecursion (λ x. t x ≡ u x) xs → filter t xs ≡ filter u xs
   same-filter t u [] h = refl
   same-filter t u (x ∷ xs) h = λ i. cond (h.0 i) (x ∷ same-filter t u xs h.1 i) (same-filter t u xs h.1 i)
 
@@ -152,7 +152,7 @@ not-below k a = by (key_cmp k a) (key_cmp a k) (nat_list_cmp_total.antisymm a k)
     by Equal p e = sym (ap is_le e)
     by Greater p e = sym (ap is_le e)
 
-every : (P : KeyValue → Type 0) → ((kv : KeyValue) → P kv) → (kvs : List KeyValue) → AllByRecursion P kvs
+pub every : (P : KeyValue → Type 0) → ((kv : KeyValue) → P kv) → (kvs : List KeyValue) → AllByRecursion P kvs
 every P h [] = tt
 every P h (kv ∷ kvs) = (h kv, every P h kvs)
 

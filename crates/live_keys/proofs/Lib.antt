@@ -2,6 +2,8 @@ pub mod Orders
 pub mod Neighbours
 pub mod Counted
 pub mod Within
+pub mod Standing
+pub mod Exchanges
 pub mod Gathering
 pub mod Levels
 pub mod Places

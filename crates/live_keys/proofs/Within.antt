@@ -27,32 +27,36 @@ use Rattle.live_keys.specs.Parts.{of_part}
 use Rattle.live_keys.specs.Shown.{is_present}
 use Rattle.live_keys.proofs.Neighbours.{between-empty, between-map, between-some, map-length}
 
-of-keys : (vs : List Version) (p : Rev) (r : KeyRange) (ks : List (List ℕ))
-    → filter_map (value_within vs p r) ks ≡ filter (λ kv. in_range r kv.key) (filter_map (value_within vs p all_keys) ks)
-of-keys vs p r [] = refl
-of-keys vs p r (k ∷ ks) = by (value_at vs p k) refl (of-keys vs p r ks)
+-- those of the keys that pass a test are those that are live and pass it
+pub of-test : (q : List ℕ → Bool) (vs : List Version) (p : Rev) (ks : List (List ℕ))
+    → filter_map (λ k. cond (q k) (value_at vs p k) None) ks ≡ filter (λ kv. q kv.key) (filter_map (value_within vs p all_keys) ks)
+of-test q vs p [] = refl
+of-test q vs p (k ∷ ks) = by (value_at vs p k) refl (of-test q vs p ks)
   where
     rest : List KeyValue
     rest = filter_map (value_within vs p all_keys) ks
 
-    by : (o : Option KeyValue) → value_at vs p k ≡ o → filter_map (value_within vs p r) ks ≡ filter (λ kv. in_range r kv.key) rest
-        → cons_option (cond (in_range r k) o None) (filter_map (value_within vs p r) ks) ≡ filter (λ kv. in_range r kv.key) (cons_option o rest)
-    by None e same = none (in_range r k) ∙ same
+    some : List KeyValue
+    some = filter_map (λ k. cond (q k) (value_at vs p k) None) ks
+
+    by : (o : Option KeyValue) → value_at vs p k ≡ o → some ≡ filter (λ kv. q kv.key) rest
+        → cons_option (cond (q k) o None) some ≡ filter (λ kv. q kv.key) (cons_option o rest)
+    by None e same = none (q k) ∙ same
       where
-        none : (b : Bool) → cons_option (cond b None None) (filter_map (value_within vs p r) ks) ≡ filter_map (value_within vs p r) ks
+        none : (b : Bool) → cons_option (cond b None None) some ≡ some
         none true = refl
         none false = refl
-    by (Some kv) e same = one (in_range r k) ∙ ap (λ b. cond b (kv ∷ filter (λ w. in_range r w.key) rest) (filter (λ w. in_range r w.key) rest))
-        (ap (in_range r) (sym (value_at-key vs p k kv e)))
+    by (Some kv) e same = one (q k) ∙ ap (λ b. cond b (kv ∷ filter (λ w. q w.key) rest) (filter (λ w. q w.key) rest))
+        (ap q (sym (value_at-key vs p k kv e)))
       where
-        one : (b : Bool) → cons_option (cond b (Some kv) None) (filter_map (value_within vs p r) ks)
-            ≡ cond b (kv ∷ filter (λ w. in_range r w.key) rest) (filter (λ w. in_range r w.key) rest)
+        one : (b : Bool) → cons_option (cond b (Some kv) None) some
+            ≡ cond b (kv ∷ filter (λ w. q w.key) rest) (filter (λ w. q w.key) rest)
         one true = ap (λ ws. kv ∷ ws) same
         one false = same
 
 pub live-part : (vs : List Version) (p : Rev) (r : KeyRange) → live vs p r ≡ filter (λ kv. in_range r kv.key) (live vs p all_keys)
 unfolding live
-live-part vs p r = of-keys vs p r (keys vs)
+live-part vs p r = of-test (in_range r) vs p (keys vs)
 
 -- ---- what a compare says of a part
 
@@ -113,15 +117,6 @@ told-reply q v l p kvs given now n e f h exact r told =
     = ap (λ ks. of_part p (map kv_view ks)) (f ∙ sym e) ∙ live-cut v l q.range p kvs e h exact in
     if_ok-map (λ r. reply_view r ≡ reply_from q now (of_part p (map kv_view given)))
     (λ r. reply_view r ≡ reply_from q v.revision (live v.versions v.place q.range))
-    (λ r g. g ∙ (λ i. reply_from q (n i) (same i))) r
-    (told (subst AreByKey (sym same) (live-by_key v.versions v.place q.range)))
-
-pub told-walked : {E : Type 0} (q : RangeQuery) (v : Viewed) (kvs : List KeyValue) (now : ℕ) → now ≡ v.revision
-    → kvs ≡ live v.versions v.place q.range → (r : Result RangeReply E)
-    → (AreByKey kvs → IfOk r (λ r. reply_view r ≡ reply_from q now kvs))
-    → IfOk r (λ r. reply_view r ≡ reply_from q v.revision (live v.versions v.place q.range))
-told-walked q v kvs now n same r told =
-    if_ok-map (λ r. reply_view r ≡ reply_from q now kvs) (λ r. reply_view r ≡ reply_from q v.revision (live v.versions v.place q.range))
     (λ r g. g ∙ (λ i. reply_from q (n i) (same i))) r
     (told (subst AreByKey (sym same) (live-by_key v.versions v.place q.range)))
 

@@ -3,4 +3,5 @@ pub mod Parts
 pub mod Extremes
 pub mod Orders
 pub mod Shown
+pub mod Exchanging
 pub mod Listing

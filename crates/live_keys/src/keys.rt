@@ -9,7 +9,7 @@ ghost use Rattle.range_view.specs.Replies.{kv_view, reply_view};
 
 use crate::compare::holds_of;
 use crate::lending::live_in;
-use crate::listed::{Listed, holds_in, list_all, reply_in};
+use crate::listed::{Listed, exchanged, holds_in, list_all, reply_in};
 use crate::shown::is_present;
 use kv_model::call::{Compare, RangeQuery};
 use kv_model::version::KeyRange;
@@ -164,8 +164,12 @@ impl<'a> LiveKeys<'a> {
             ≡ history.value_at self.old.versions self.old.place k }
         ensures { self.new ≡ next.entry }
     {
+        let listed = match self.listed.take() {
+            Some(listed) => exchanged(listed, range, kvs),
+            None => None,
+        };
         self.view = next;
-        self.listed = None;
+        self.listed = listed;
     }
 
     /// Goes on to another place, or to other tables, of which nothing is known. Takes constant time.
@@ -263,7 +267,7 @@ impl<'a> LiveKeys<'a> {
             Some(listed) => listed,
             None => list_all(alloc, &self.view)?,
         };
-        let kvs = live_in(alloc, &self.view, &listed, range);
+        let kvs = live_in(alloc, &listed, range);
         self.listed = Some(listed);
         kvs
     }

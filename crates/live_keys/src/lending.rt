@@ -2,32 +2,27 @@
 ghost use Rattle.std.specs.Prelude.{◌≡◌, IfOk, map};
 ghost use Rattle.kv_model.specs.Ranges.{live};
 ghost use Rattle.range_view.specs.Replies.{kv_view};
+ghost use Rattle.range_view.specs.Stored.{Viewed};
 ghost use Rattle.live_keys.specs.Listing as listing;
 ghost use Rattle.live_keys.specs.Parts as parts;
 
 use crate::listed::Listed;
 use crate::part::{Part, part_of};
 use kv_model::version::KeyRange;
-use range_view::View;
 use range_view::reply::KvRef;
 use std::alloc::{AllocError, Global};
 
-/// The key-values of the live keys of a range at the view's place, by the list. The error is want of
-/// memory.
+/// The key-values of the live keys of a range, by the list. The error is want of memory.
 pub(crate) fn live_in<'a>(
     alloc: Global,
-    view: &View<'a>,
     listed: &Listed<'a>,
     range: &KeyRange,
 ) -> Result<Vec<KvRef<'a>>, AllocError>
-    requires { listing.IsListed view.now listed.now }
-    ensures { IfOk result (λ kvs. map kv_view kvs.items
-        ≡ live view.now.versions view.now.place range.now) }
+    ensures { (v : Viewed) → listing.IsListed v listed.now → IfOk result (λ kvs.
+        map kv_view kvs.items ≡ live v.versions v.place range.now) }
 {
-    match part_of(&listed.kvs, range) {
-        Some(part) => part_copied(alloc, &listed.kvs, part),
-        None => view.live(alloc, range),
-    }
+    let part = part_of(&listed.kvs, range);
+    part_copied(alloc, &listed.kvs, part)
 }
 
 /// A part of a list. The error is want of memory.

@@ -1,12 +1,16 @@
 //! A list of all live keys, and what was found about it.
-ghost use Rattle.std.specs.Prelude.{◌≡◌, ◌≢◌, IfOk, List, MatchOption, map, ⊤};
+ghost use Rattle.std.specs.Prelude.{◌≡◌, ◌≢◌, IfOk, List, MatchOption, OnOk, false, map, ℕ, ⊤};
 ghost use Rattle.std.specs.List.{AllByRecursion, list_all};
 ghost use Rattle.kv_model.specs.declared.call.Relation.TheVariants.{IsNotEqual};
+ghost use Rattle.kv_model.specs.History.{value_at};
+ghost use Rattle.kv_model.specs.Keys.{in_range};
 ghost use Rattle.kv_model.specs.Ranges.{live, reply_from};
 ghost use Rattle.kv_model.specs.Txns as txns;
 ghost use Rattle.range_view.specs.declared.reply.KvRef.{KvRef};
 ghost use Rattle.range_view.specs.Replies.{kv_view, reply_view};
 ghost use Rattle.range_view.specs.Selecting.{AreByKey};
+ghost use Rattle.range_view.specs.Stored.{Viewed};
+ghost use Rattle.live_keys.specs.Exchanging as exchanging;
 ghost use Rattle.live_keys.specs.Extremes as extremes;
 ghost use Rattle.live_keys.specs.Fields as fields;
 ghost use Rattle.live_keys.specs.Listing as listing;
@@ -61,8 +65,7 @@ pub(crate) fn list_all<'a>(alloc: Global, view: &View<'a>) -> Result<Listed<'a>,
 }
 
 /// Whether a compare of a range of several keys holds, by the list: logarithmic in its length where
-/// the tree or the order that it asks for is there, else what that takes; one key is looked up. The
-/// error is want of memory.
+/// the tree or the order that it asks for is there, else what that takes. The error is want of memory.
 pub(crate) fn holds_in(
     alloc: Global,
     view: &View<'_>,
@@ -74,24 +77,19 @@ pub(crate) fn holds_in(
         (live view.now.versions view.now.place compare.now.range)) }
     ensures listed { listing.IsListed view.now listed.new }
 {
-    match part_of(&listed.kvs, &compare.range) {
-        Some(part) if part.from < part.to => {
-            all_in_part(
-                alloc,
-                &listed.kvs,
-                &mut listed.trees,
-                &mut listed.orders,
-                &mut listed.scanned,
-                compare,
-                part,
-            )
-        }
-        Some(_) => Ok(holds_of(compare, &[])),
-        None => {
-            let kvs = view.live(alloc, &compare.range)?;
-            Ok(holds_of(compare, &kvs))
-        }
+    let part = part_of(&listed.kvs, &compare.range);
+    if part.from >= part.to {
+        return Ok(holds_of(compare, &[]));
     }
+    all_in_part(
+        alloc,
+        &listed.kvs,
+        &mut listed.trees,
+        &mut listed.orders,
+        &mut listed.scanned,
+        compare,
+        part,
+    )
 }
 
 /// Whether each key-value of a part of the list stands to the operand as the compare says. The
@@ -241,13 +239,8 @@ pub(crate) fn reply_in<'a>(
         (live view.now.versions view.now.place query.now.range)) }
 {
     let revision = view.revision();
-    match part_of(&listed.kvs, &query.range) {
-        Some(part) => reply_of_part(alloc, &listed.kvs, part, query, revision),
-        None => {
-            let kvs = view.live(alloc, &query.range)?;
-            reply_by(alloc, &kvs, query, revision)
-        }
-    }
+    let part = part_of(&listed.kvs, &query.range);
+    reply_of_part(alloc, &listed.kvs, part, query, revision)
 }
 
 /// The answer to a Range of which a part of the list are the live keys. The error is want of memory.
@@ -263,4 +256,38 @@ fn reply_of_part<'a>(
         ≡ reply_from query.now revision (parts.of_part part (map kv_view kvs.now))) }
 {
     reply_by(alloc, &kvs[part.from..part.to], query, revision)
+}
+
+/// The list, where the keys of the range hold these and every other key what it held: what was found
+/// about it is dropped. `None` where there is no memory.
+pub(crate) fn exchanged<'a>(
+    listed: Listed<'a>,
+    range: &KeyRange,
+    kvs: Vec<KvRef<'a>>,
+) -> Option<Listed<'a>>
+    ensures { (v w : Viewed) → listing.IsListed v listed.entry
+        → map kv_view kvs.entry.items ≡ live w.versions w.place range.now
+        → ((k : List ℕ) → in_range range.now k ≡ false
+        → value_at w.versions w.place k ≡ value_at v.versions v.place k)
+        → listing.MayBeListed w result }
+{
+    let mut listed = listed;
+    listed.trees.clear();
+    listed.orders.clear();
+    listed.scanned = 0;
+    let part = part_of(&listed.kvs, range);
+    match put_in(&mut listed.kvs, part, kvs) {
+        Ok(()) => Some(listed),
+        Err(_) => None,
+    }
+}
+
+/// Puts key-values in the place of a part of a list. The error is want of memory.
+fn put_in<'a>(kvs: &mut Vec<KvRef<'a>>, part: Part, new: Vec<KvRef<'a>>) -> Result<(), AllocError>
+    requires { parts.IsWithin part kvs.old.items }
+    ensures { OnOk result
+        (kvs.new.items ≡ exchanging.exchanged part new.entry.items kvs.old.items) }
+{
+    kvs.splice(part.from..part.to, new)?;
+    Ok(())
 }

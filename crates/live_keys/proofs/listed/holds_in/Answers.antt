@@ -1,16 +1,16 @@
--- A part of the list is what is live in its range.
+-- A part of the list is what is live in the range.
 use Rattle.std.proofs.Common.{◌∙◌, arith}
 use Rattle.live_keys.proofs.Within.{told-none, told-part}
 use Rattle.live_keys.proofs.listed.holds_in.Goals as goal
 
-pub returns-in-Some-clause-hold : goal.returns-in-Some-clause-hold
-returns-in-Some-clause-hold c =
-    told-part c.args.compare.now c.args.view.now c.args.listed.now c.in-Some.part c.deref.result.now c.deref-in-Some.result.now
-    c.deref.ensures.value c.deref-in-Some.ensures.value c.requires c.in-Some.ensures.exact c.if-part.true c.in-Some.ensures.inside.inside
-    c.all_in_part.result c.all_in_part.ensures.all
+pub returns-clause-hold : goal.returns-clause-hold
+returns-clause-hold c =
+    told-part c.args.compare.now c.args.view.now c.args.listed.now c.part_of-part.result c.deref.result.now c.deref-2.result.now
+    c.deref.ensures.value c.deref-2.ensures.value c.requires c.part_of-part.ensures.exact (omega (arith, c.if-part.false))
+    c.part_of-part.ensures.inside.inside c.all_in_part.result c.all_in_part.ensures.all
 
-pub returns-in-Some-2-clause-hold : goal.returns-in-Some-2-clause-hold
-returns-in-Some-2-clause-hold c =
+pub returns-then-part-clause-hold : goal.returns-then-part-clause-hold
+returns-then-part-clause-hold c =
     c.holds_of.ensures
-    ∙ told-none c.args.compare.now c.args.view.now c.args.listed.now c.in-Some.part c.deref.result.now c.deref.ensures.value c.requires
-    c.in-Some.ensures.exact (omega (arith, c.if-part.false))
+    ∙ told-none c.args.compare.now c.args.view.now c.args.listed.now c.part_of-part.result c.deref.result.now c.deref.ensures.value c.requires
+    c.part_of-part.ensures.exact c.if-part.true
