@@ -7,3 +7,4 @@ pub mod Exchanges
 pub mod Gathering
 pub mod Levels
 pub mod Places
+pub mod Rankings

@@ -4,4 +4,5 @@ pub mod Extremes
 pub mod Orders
 pub mod Shown
 pub mod Exchanging
+pub mod Ranked
 pub mod Listing

@@ -9,7 +9,8 @@ ghost use Rattle.range_view.specs.Replies.{kv_view, reply_view};
 
 use crate::compare::holds_of;
 use crate::lending::live_in;
-use crate::listed::{Listed, exchanged, holds_in, list_all, reply_in};
+use crate::listed::{Listed, exchanged, holds_in, list_all};
+use crate::replies::reply_in;
 use crate::shown::is_present;
 use kv_model::call::{Compare, RangeQuery};
 use kv_model::version::KeyRange;
@@ -143,11 +144,11 @@ impl<'a> LiveKeys<'a> {
             self.old.revision (live self.old.versions self.old.place query.now.range)) }
         ensures same { self.new ≡ self.old }
     {
-        let listed = match self.listed.take() {
+        let mut listed = match self.listed.take() {
             Some(listed) => listed,
             None => list_all(alloc, &self.view)?,
         };
-        let reply = reply_in(alloc, &self.view, &listed, query);
+        let reply = reply_in(alloc, &self.view, &mut listed, query);
         self.listed = Some(listed);
         reply
     }

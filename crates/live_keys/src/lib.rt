@@ -31,6 +31,8 @@ mod lending;
 mod listed;
 mod order;
 mod part;
+mod ranking;
+mod replies;
 mod shown;
 mod sorting;
 mod tree;

@@ -4,11 +4,10 @@ ghost use Rattle.std.specs.List.{AllByRecursion, list_all};
 ghost use Rattle.kv_model.specs.declared.call.Relation.TheVariants.{IsNotEqual};
 ghost use Rattle.kv_model.specs.History.{value_at};
 ghost use Rattle.kv_model.specs.Keys.{in_range};
-ghost use Rattle.kv_model.specs.Ranges.{live, reply_from};
+ghost use Rattle.kv_model.specs.Ranges.{live};
 ghost use Rattle.kv_model.specs.Txns as txns;
 ghost use Rattle.range_view.specs.declared.reply.KvRef.{KvRef};
-ghost use Rattle.range_view.specs.Replies.{kv_view, reply_view};
-ghost use Rattle.range_view.specs.Selecting.{AreByKey};
+ghost use Rattle.range_view.specs.Replies.{kv_view};
 ghost use Rattle.range_view.specs.Stored.{Viewed};
 ghost use Rattle.live_keys.specs.Exchanging as exchanging;
 ghost use Rattle.live_keys.specs.Extremes as extremes;
@@ -21,23 +20,23 @@ use crate::compare::{holds_of, relates_to};
 use crate::field::{Field, field_of};
 use crate::order::{Order, all_differ, order_over};
 use crate::part::{Part, part_of};
-use crate::shown::reply_by;
+use crate::ranking::Ranking;
 use crate::tree::{Tree, all_relate, tree_over};
 use bytes::Bytes;
-use kv_model::call::{Compare, RangeQuery, Relation};
+use kv_model::call::{Compare, Relation};
 use kv_model::version::KeyRange;
 use range_view::View;
-use range_view::reply::{KvRef, RangeReply};
+use range_view::reply::KvRef;
 use std::alloc::{AllocError, Global};
 
 /// How many key-values are looked at one after another, whatever is known.
-const FEW: usize = 32;
+pub(crate) const FEW: usize = 32;
 
 /// How often as many as live keys are looked at one after another, before a tree or an order is made.
 const MOST_SCANS: usize = 8;
 
 /// All live keys at the view's place, in the order of the keys, with trees over them and their orders
-/// by fields, of each field at most one.
+/// by fields, of each field at most one, and in orders that Ranges asked for.
 #[derive(Drop)]
 pub(crate) struct Listed<'a> {
     pub(crate) kvs: Vec<KvRef<'a>>,
@@ -45,6 +44,9 @@ pub(crate) struct Listed<'a> {
     pub(crate) orders: Vec<Order<'a>>,
     /// How many were looked at one after another.
     pub(crate) scanned: usize,
+    pub(crate) rankings: Vec<Ranking<'a>>,
+    /// How many were sorted.
+    pub(crate) sorted: usize,
 }
 
 /// The list of all live keys at the view's place, which are walked. The error is want of memory.
@@ -61,6 +63,8 @@ pub(crate) fn list_all<'a>(alloc: Global, view: &View<'a>) -> Result<Listed<'a>,
         trees: Vec::new(alloc),
         orders: Vec::new(alloc),
         scanned: 0,
+        rankings: Vec::new(alloc),
+        sorted: 0,
     })
 }
 
@@ -227,37 +231,6 @@ fn order_of<'l, 'a>(orders: &'l [Order<'a>], field: Field) -> Option<&'l Order<'
     None
 }
 
-/// The answer to a Range at the view's place, by the list. The error is want of memory.
-pub(crate) fn reply_in<'a>(
-    alloc: Global,
-    view: &View<'a>,
-    listed: &Listed<'a>,
-    query: &RangeQuery,
-) -> Result<RangeReply<'a>, AllocError>
-    requires { listing.IsListed view.now listed.now }
-    ensures { IfOk result (λ r. reply_view r ≡ reply_from query.now view.now.revision
-        (live view.now.versions view.now.place query.now.range)) }
-{
-    let revision = view.revision();
-    let part = part_of(&listed.kvs, &query.range);
-    reply_of_part(alloc, &listed.kvs, part, query, revision)
-}
-
-/// The answer to a Range of which a part of the list are the live keys. The error is want of memory.
-fn reply_of_part<'a>(
-    alloc: Global,
-    kvs: &[KvRef<'a>],
-    part: Part,
-    query: &RangeQuery,
-    revision: u64,
-) -> Result<RangeReply<'a>, AllocError>
-    requires { parts.IsWithin part kvs.now }
-    ensures { AreByKey (parts.of_part part (map kv_view kvs.now)) → IfOk result (λ r. reply_view r
-        ≡ reply_from query.now revision (parts.of_part part (map kv_view kvs.now))) }
-{
-    reply_by(alloc, &kvs[part.from..part.to], query, revision)
-}
-
 /// The list, where the keys of the range hold these and every other key what it held: what was found
 /// about it is dropped. `None` where there is no memory.
 pub(crate) fn exchanged<'a>(
@@ -275,6 +248,8 @@ pub(crate) fn exchanged<'a>(
     listed.trees.clear();
     listed.orders.clear();
     listed.scanned = 0;
+    listed.rankings.clear();
+    listed.sorted = 0;
     let part = part_of(&listed.kvs, range);
     match put_in(&mut listed.kvs, part, kvs) {
         Ok(()) => Some(listed),

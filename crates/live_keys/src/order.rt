@@ -47,7 +47,7 @@ pub(crate) fn order_over<'a>(
 }
 
 /// The key-values of a list with their places.
-fn placed_of<'a>(alloc: Global, kvs: &[KvRef<'a>]) -> Result<Vec<Placed<'a>>, AllocError>
+pub(crate) fn placed_of<'a>(alloc: Global, kvs: &[KvRef<'a>]) -> Result<Vec<Placed<'a>>, AllocError>
     ensures { IfOk result (λ v. v.items ≡ orders.placed_from 0 kvs.now) }
 {
     let mut placed = Vec::with_capacity(alloc, kvs.len())?;

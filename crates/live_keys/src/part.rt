@@ -1,5 +1,5 @@
 //! Parts of a list of key-values in the order of their keys.
-ghost use Rattle.std.specs.Prelude.{◌≡◌, ◌≤◌, filter, length, map};
+ghost use Rattle.std.specs.Prelude.{◌≡◌, ◌-◌, ◌≤◌, filter, length, map};
 ghost use Rattle.store_laws.specs.Rising.{count_while};
 ghost use Rattle.kv_model.specs.Keys.{in_range, key_le, key_lt};
 ghost use Rattle.range_view.specs.Replies.{kv_view};
@@ -20,7 +20,9 @@ pub(crate) struct Part {
 
 impl Part {
     /// How many places it has.
-    pub(crate) fn len(self) -> usize {
+    pub(crate) fn len(self) -> usize
+        ensures { result ≡ self.to - self.from }
+    {
         self.to.saturating_sub(self.from)
     }
 }

@@ -7,7 +7,7 @@ use Rattle.range_view.specs.Selecting.{AreByKey}
 use Rattle.live_keys.specs.Parts.{of_part}
 use Rattle.live_keys.proofs.Neighbours.{between-map, between-slice}
 use Rattle.live_keys.proofs.Within.{if_ok-map}
-use Rattle.live_keys.proofs.listed.reply_of_part.Goals as goal
+use Rattle.live_keys.proofs.replies.reply_of_part.Goals as goal
 
 pub returns : goal.returns
 returns c = λ up.
