@@ -25,10 +25,14 @@ use std::alloc::{AllocError, Global};
 ///
 /// `AllocError` comes where a list of answers, or of what one of them shows, found no memory.
 ///
-/// A Range costs what `View::range` does, a put what `View::get` does where the key's value before
-/// is asked for and nothing where it is not, and a delete what `View::live` does, but for the keys
-/// of ranges that were deleted before it and are put by no operation: those are walked twice in all.
-/// Keys and values are lent, and none is copied.
+/// A Range costs what `LiveKeys::range` does: the first walk their keys, and from there on a list of
+/// all live keys is made, and again behind the first change, and behind 64 operations in a row that
+/// change keys. A put costs what `View::get` does where the key's value before is asked for and
+/// nothing where it is not; a delete what `View::live` does, but for the keys of ranges that were
+/// deleted before it and are put by no operation, which are walked twice in all, and before the first
+/// change what `LiveKeys::live` does. Where the live keys are listed a delete walks its range once
+/// more, or is a put looked up, and the place of its keys in the list is found by halving; those
+/// behind it move. Keys and values are lent, and none is copied.
 pub fn replies<'a>(
     alloc: Global,
     tables: &'a Tables,
