@@ -17,27 +17,13 @@ use Rattle.store_laws.proofs.BatchLaws.{filter-none}
 use Rattle.store_laws.proofs.PlaceLaws.{each-map}
 use Rattle.store_laws.proofs.Rising.{each-at, kept-all}
 use Rattle.range_view.specs.Selecting.{AreByKey}
+use Rattle.shown_ranges.proofs.Falling.{Falls}
 use Rattle.live_keys.specs.Parts.{between, of_part, interval}
 use Rattle.live_keys.proofs.Neighbours.{between-empty}
 
 -- ---- tests that fail from some element on
 
 module _ {X : Type 0} where
-  abbrev pub Falls : (X → Bool) → List X → Type 0
-  Falls t [] = ⊤
-  Falls t (x ∷ xs) = (t x ≡ false → AllByRecursion (λ y. t y ≡ false) xs) × Falls t xs
-
-  pub falls-partitioned : (t : X → Bool) (xs : List X) → Falls t xs → IsPartitionedBy t xs
-  falls-partitioned t [] f i j d l m h = absurd (omega arith)
-  falls-partitioned t (x ∷ xs) f zero zero d l m h = h
-  falls-partitioned t (x ∷ xs) f zero (suc j) d l m h = by (t x) refl
-    where
-      by : (b : Bool) → t x ≡ b → t x ≡ true
-      by true e = e
-      by false e = let g : false ≡ true = sym (each-at (λ y. t y ≡ false) xs j d (f.0 e) (omega arith)) ∙ h in cc
-  falls-partitioned t (x ∷ xs) f (suc i) zero d l m h = absurd (omega arith)
-  falls-partitioned t (x ∷ xs) f (suc i) (suc j) d l m h = falls-partitioned t xs f.1 i j d (omega arith) (omega arith) h
-
   take-count : (t : X → Bool) (xs : List X) → Falls t xs → take (count_while t xs) xs ≡ filter t xs
   take-count t [] f = refl
   take-count t (x ∷ xs) f = by (t x) refl (take-count t xs f.1)

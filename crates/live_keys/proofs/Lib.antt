@@ -4,7 +4,6 @@ pub mod Counted
 pub mod Within
 pub mod Standing
 pub mod Exchanges
-pub mod Gathering
 pub mod Levels
 pub mod Places
 pub mod Rankings

@@ -2,6 +2,7 @@
 use Rattle.std.proofs.Common.{◌≡◌, ◌≢◌, ℕ, zero, suc, ◌+◌, ◌*◌, ◌-◌, ◌/◌, ◌%◌, ◌<◌, ◌≤◌, List, [], ◌∷◌, length, get_or, take, drop, map}
 use Rattle.std.proofs.Common.{Bool, true, false, ◌&&◌, refl, sym, ◌∙◌, ap, subst, arith}
 use Rattle.std.specs.List.{list_all}
+pub use Rattle.shown_ranges.proofs.Gathering.{map-length}
 use Rattle.live_keys.specs.Parts.{between, pairs_by}
 
 -- ---- the ends of a part
@@ -167,7 +168,3 @@ between-slice {X} (suc from) (suc to) [] l = by (suc to - suc from)
     by (suc n) = refl
 between-slice (suc from) (suc to) (x ∷ xs) l =
     let less : suc to - suc from ≡ to - from = omega arith in ap (λ n. take n (drop from xs)) less ∙ between-slice from to xs (omega arith)
-
-pub map-length : {X Y : Type 0} (f : X → Y) (xs : List X) → length (map f xs) ≡ length xs
-map-length f [] = refl
-map-length f (x ∷ xs) = let rest : length (map f xs) ≡ length xs = map-length f xs in omega (arith, rest)

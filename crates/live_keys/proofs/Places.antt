@@ -26,7 +26,7 @@ use Rattle.live_keys.specs.declared.order.Placed.{Placed}
 use Rattle.live_keys.specs.Fields.{field_of, field_cmp}
 use Rattle.live_keys.specs.Orders.{placed_from, placed_cmp, AreOrdered, comes_before, stands_before, is_before, is_there, is_found}
 use Rattle.live_keys.specs.Parts.{between}
-use Rattle.live_keys.proofs.Counted.{Falls}
+use Rattle.shown_ranges.proofs.Falling.{Falls}
 use Rattle.live_keys.proofs.Orders.{at_most, compare-follows, counts-as, field_total}
 
 pub placed_total : (f : Field) → IsTotalOrder (placed_cmp f)

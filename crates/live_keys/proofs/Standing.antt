@@ -18,7 +18,8 @@ use Rattle.range_view.specs.Selecting.{AreByKey}
 use Rattle.live_keys.specs.declared.part.Part.{Part}
 use Rattle.live_keys.specs.Exchanging.{IsBefore, IsBehind, Stands}
 use Rattle.live_keys.specs.Parts.{interval, of_part}
-use Rattle.live_keys.proofs.Counted.{Falls, between-count, every, keys-fall, same-filter}
+use Rattle.shown_ranges.proofs.Falling.{Falls}
+use Rattle.live_keys.proofs.Counted.{between-count, every, keys-fall, same-filter}
 
 -- ---- counts
 

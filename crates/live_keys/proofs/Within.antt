@@ -21,10 +21,11 @@ use Rattle.range_view.specs.Stored.{Viewed}
 use Rattle.range_view.proofs.Live.{live-by_key}
 use Rattle.live_keys.specs.declared.listed.Listed.{Listed}
 use Rattle.live_keys.specs.declared.part.Part.{Part}
+pub use Rattle.shown_ranges.proofs.Gathering.{if_ok-map}
 use Rattle.live_keys.specs.Extremes.{passes}
 use Rattle.live_keys.specs.Listing.{IsListed}
 use Rattle.live_keys.specs.Parts.{of_part}
-use Rattle.live_keys.specs.Shown.{is_present}
+use Rattle.shown_ranges.specs.Shown.{is_present}
 use Rattle.live_keys.proofs.Neighbours.{between-empty, between-map, between-some, map-length}
 
 -- those of the keys that pass a test are those that are live and pass it
@@ -74,10 +75,6 @@ part-held c p kvs l m =
   where
     seen : (xs : List KvRef) (n : ℕ) → n ≤ length xs → n ≤ length (map kv_view xs)
     seen xs n h = let same : length (map kv_view xs) ≡ length xs = map-length kv_view xs in omega (arith, h, same)
-
-pub if_ok-map : {T E : Type 0} (P Q : T → Type 0) → ((x : T) → P x → Q x) → (r : Result T E) → IfOk r P → IfOk r Q
-if_ok-map P Q f (Ok x) h = f x h
-if_ok-map P Q f (Err e) h = h
 
 -- what the part of a range is of the list of all live keys
 pub live-cut : (v : Viewed) (l : Listed) (r : KeyRange) (p : Part) (kvs : List KvRef) → kvs ≡ l.kvs.items → IsListed v l

@@ -2,7 +2,6 @@ pub mod Fields
 pub mod Parts
 pub mod Extremes
 pub mod Orders
-pub mod Shown
 pub mod Exchanging
 pub mod Ranked
 pub mod Listing

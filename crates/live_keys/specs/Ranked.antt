@@ -11,7 +11,7 @@ use Rattle.live_keys.specs.declared.order.Placed.{Placed}
 use Rattle.live_keys.specs.declared.part.Part.{Part}
 use Rattle.live_keys.specs.declared.ranking.Ranking.{Ranking}
 use Rattle.live_keys.specs.Orders.{placed_from}
-use Rattle.live_keys.specs.Shown.{shows}
+use Rattle.shown_ranges.specs.Shown.{shows}
 
 -- how two stand in the order asked for, wherever they stand in the list
 abbrev pub ranked_cmp : SortOrder → SortTarget → Placed → Placed → Ordering

@@ -11,18 +11,18 @@ use crate::compare::holds_of;
 use crate::lending::live_in;
 use crate::listed::{Listed, exchanged, holds_in, list_all};
 use crate::replies::reply_in;
-use crate::shown::is_present;
 use kv_model::call::{Compare, RangeQuery};
 use kv_model::version::KeyRange;
 use range_view::View;
 use range_view::reply::{KvRef, RangeReply};
+use shown_ranges::shown::is_present;
 use std::alloc::{AllocError, Global};
 use std::marker::Model;
 
 /// How many ranges are walked at most before all live keys are listed.
 const MOST_WALKS: usize = 64;
 
-/// The live keys of a view, of which it is asked whether compares hold.
+/// The live keys of a view, of which it is asked whether compares hold, and what Ranges show.
 #[derive(Drop)]
 pub struct LiveKeys<'a> {
     view: View<'a>,
@@ -88,8 +88,17 @@ impl<'a> LiveKeys<'a> {
     /// The answer to a Range at the view's place, or at the end of the revision that it asks for. The
     /// caller has seen that this is neither compacted nor in the future.
     ///
-    /// `AllocError` comes where a list of what is found, or a sort, found no memory; no later answer
-    /// is another for it.
+    /// `AllocError` comes where a list of what is found, or of all live keys, or a sort of either,
+    /// found no memory; no later answer is another for it.
+    ///
+    /// One key is looked up, and a Range of an earlier revision costs what `View::range` does. The
+    /// first ranges are walked, as by `holds`. Then all keys are walked once, and from there on a
+    /// range is found by two halvings. A count costs no more. In the order of the keys as many
+    /// key-values are looked at as it takes to find those that the limit asks for and one more. In
+    /// another order the keys of the range are looked through for up to 64 that a limit asks for,
+    /// and sorted where it asks for more; until that has taken as long as to sort all. From there on
+    /// the list is kept in that order, too, and looked through up to those asked for, where the
+    /// range is large enough for that to be sooner.
     pub fn range(&mut self, alloc: Global, query: &RangeQuery) -> Result<RangeReply<'a>, AllocError>
         requires { ranges.revision_refusal self.old.compacted self.old.revision query.now.revision
             ≡ None }
@@ -157,7 +166,8 @@ impl<'a> LiveKeys<'a> {
     /// key-values, and every other key what it held.
     ///
     /// Where there is no memory to note that, what is known of the keys is dropped: no answer is
-    /// another for it.
+    /// another for it. A list of all live keys stays: a part of it is found by two halvings, and
+    /// what stands behind that is moved. What was found about it is dropped.
     pub fn replace(&mut self, next: View<'a>, range: &KeyRange, kvs: Vec<KvRef<'a>>)
         requires here { map kv_view kvs.items ≡ live next.versions next.place range.now }
         requires beside { (k : List ℕ) → keys.in_range range.now k ≡ false
@@ -173,7 +183,7 @@ impl<'a> LiveKeys<'a> {
         self.listed = listed;
     }
 
-    /// Goes on to another place, or to other tables, of which nothing is known. Takes constant time.
+    /// Goes on to another place, or to other tables, and drops what is known of the keys.
     pub fn skip(&mut self, next: View<'a>)
         ensures { self.new ≡ next.entry }
     {

@@ -4,14 +4,14 @@ ghost use Rattle.std.specs.List.{AllByRecursion};
 ghost use Rattle.kv_model.specs.Ranges.{sorted_by};
 ghost use Rattle.range_view.specs.declared.reply.KvRef.{KvRef};
 ghost use Rattle.live_keys.specs.Ranked as ranked;
-ghost use Rattle.live_keys.specs.Shown.{gathered};
+ghost use Rattle.shown_ranges.specs.Shown.{gathered};
 
 use crate::order::{Placed, placed_of};
 use crate::part::Part;
-use crate::shown::{is_enough, passes};
-use crate::sorting::compare;
 use kv_model::call::{RangeQuery, SortOrder, SortTarget};
 use range_view::reply::KvRef;
+use shown_ranges::shown::{is_enough, passes};
+use shown_ranges::sorting::compare;
 use std::alloc::{AllocError, Global};
 
 /// The key-values of a list with their places, in an order that a Range asks for; those that tie by

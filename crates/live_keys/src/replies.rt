@@ -12,12 +12,16 @@ ghost use Rattle.live_keys.specs.Ranked as ranked;
 use crate::listed::{FEW, Listed};
 use crate::part::{Part, part_of};
 use crate::ranking::{Ranking, first_ranked, ranking_of, ranking_over};
-use crate::shown::{finish, reply_by};
-use crate::sorting::keeps_order;
 use kv_model::call::RangeQuery;
 use range_view::View;
 use range_view::reply::{KvRef, RangeReply};
+use shown_ranges::best::is_few;
+use shown_ranges::shown::{finish, reply_by};
+use shown_ranges::sorting::keeps_order;
 use std::alloc::{AllocError, Global};
+
+/// How many times a part is looked through for a few in the time that it takes to sort it.
+const FEW_PASSES: usize = 16;
 
 /// The answer to a Range at the view's place, by the list. The error is want of memory.
 pub(crate) fn reply_in<'a>(
@@ -55,8 +59,17 @@ fn is_ranked(all: usize, sorted: &mut usize, part: Part, query: &RangeQuery) -> 
         return false;
     }
     let is_time = *sorted >= all;
-    *sorted = sorted.saturating_add(part.len());
+    *sorted = sorted.saturating_add(effort(part, query));
     is_time
+}
+
+/// What it takes to find those of a part that a Range asks for without that, in key-values sorted.
+fn effort(part: Part, query: &RangeQuery) -> usize {
+    if is_few(query) {
+        part.len() / FEW_PASSES
+    } else {
+        part.len()
+    }
 }
 
 /// Whether those of a part that a Range asks for are likely to be found sooner in the order of all

@@ -3,7 +3,7 @@ use Rattle.std.proofs.Common.{rules}
 use Rattle.std.proofs.lemmas.List.Sorted.{IsPartitionPoint-from_clause}
 use Rattle.store_laws.proofs.Rising.{count_while-point}
 use Rattle.live_keys.specs.Orders.{is_before}
-use Rattle.live_keys.proofs.Counted.{falls-partitioned}
+use Rattle.shown_ranges.proofs.Falling.{falls-partitioned}
 use Rattle.live_keys.proofs.Places.{before-falls, ordered-rises}
 use Rattle.live_keys.proofs.order.count_before.Goals as goal
 

@@ -4,7 +4,8 @@ use Rattle.std.proofs.lemmas.List.Sorted.{IsPartitionPoint-from_clause}
 use Rattle.kv_model.specs.Keys.{key_le}
 use Rattle.range_view.specs.Replies.{kv_view}
 use Rattle.store_laws.proofs.Rising.{count_while-point}
-use Rattle.live_keys.proofs.Counted.{count-map, falls-partitioned, falls-seen}
+use Rattle.shown_ranges.proofs.Falling.{falls-partitioned}
+use Rattle.live_keys.proofs.Counted.{count-map, falls-seen}
 use Rattle.live_keys.proofs.Standing.{keys-fall-behind}
 use Rattle.live_keys.proofs.part.place_behind.Goals as goal
 

@@ -4,7 +4,8 @@ use Rattle.std.proofs.lemmas.List.Sorted.{IsPartitionPoint-from_clause}
 use Rattle.kv_model.specs.Keys.{key_lt}
 use Rattle.range_view.specs.Replies.{kv_view}
 use Rattle.store_laws.proofs.Rising.{count_while-point}
-use Rattle.live_keys.proofs.Counted.{count-map, falls-partitioned, falls-seen, keys-fall}
+use Rattle.shown_ranges.proofs.Falling.{falls-partitioned}
+use Rattle.live_keys.proofs.Counted.{count-map, falls-seen, keys-fall}
 use Rattle.live_keys.proofs.part.place_of.Goals as goal
 
 pub returns-clause-count : goal.returns-clause-count

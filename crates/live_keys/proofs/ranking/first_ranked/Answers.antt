@@ -1,8 +1,8 @@
 -- Where there are enough, no more are gathered.
 use Rattle.std.proofs.Common.{◌≡◌, ◌∙◌, sym, length, true, rules, drop}
 use Rattle.live_keys.specs.Ranked.{is_shown}
-use Rattle.live_keys.specs.Shown.{is_enough}
-use Rattle.live_keys.proofs.Gathering.{gathered-full}
+use Rattle.shown_ranges.specs.Shown.{is_enough}
+use Rattle.shown_ranges.proofs.Gathering.{gathered-full}
 use Rattle.live_keys.proofs.ranking.first_ranked.Goals as goal
 
 pub returns-then-is_enough : goal.returns-then-is_enough

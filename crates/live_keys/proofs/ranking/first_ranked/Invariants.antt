@@ -1,6 +1,6 @@
 use Rattle.std.proofs.Common.{◌≡◌, [], drop}
 use Rattle.live_keys.specs.Ranked.{is_shown}
-use Rattle.live_keys.specs.Shown.{gathered}
+use Rattle.shown_ranges.specs.Shown.{gathered}
 use Rattle.live_keys.proofs.ranking.first_ranked.Given as goal
 
 -- what is gathered behind those so far is what all give

@@ -6,8 +6,8 @@ use Rattle.range_view.specs.Replies.{kv_view}
 use Rattle.live_keys.specs.Orders.{placed_from}
 use Rattle.live_keys.specs.Parts.{of_part}
 use Rattle.live_keys.specs.Ranked.{ranked_cmp}
-use Rattle.live_keys.specs.Shown.{beyond, hits_of, reply_of}
-use Rattle.live_keys.proofs.Gathering.{beyond-again, told-shown}
+use Rattle.shown_ranges.specs.Shown.{beyond, hits_of, reply_of}
+use Rattle.shown_ranges.proofs.Gathering.{beyond-again, told-shown}
 use Rattle.live_keys.proofs.Neighbours.{between-map}
 use Rattle.live_keys.proofs.Rankings.{length-seen, ranked-shown}
 use Rattle.live_keys.proofs.replies.by_ranking.Goals as goal

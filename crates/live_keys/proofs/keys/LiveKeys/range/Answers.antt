@@ -2,7 +2,7 @@
 use Rattle.std.proofs.Common.{◌≡◌, ◌∙◌, rules, true}
 use Rattle.kv_model.specs.Ranges.{range_reply}
 use Rattle.range_view.specs.Replies.{reply_view}
-use Rattle.live_keys.specs.Shown.{is_present}
+use Rattle.shown_ranges.specs.Shown.{is_present}
 use Rattle.live_keys.proofs.Within.{if_ok-map, read-here}
 use Rattle.live_keys.proofs.keys.LiveKeys.range.Goals as goal
 

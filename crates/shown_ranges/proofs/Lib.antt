@@ -1,0 +1,4 @@
+pub mod Falling
+pub mod Gathering
+pub mod Inserting
+pub mod FirstFew
