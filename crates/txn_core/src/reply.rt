@@ -23,7 +23,8 @@ use std::alloc::{AllocError, Global};
 /// have its changes. The transaction began at the revision `before`, and made its changes at the
 /// next; each operation reads what those before it left. No Range of them is refused at `before`.
 ///
-/// `AllocError` comes where a list of answers, or of what one of them shows, found no memory.
+/// `AllocError` comes where a list of answers, of what one of them shows, of the live keys or of the
+/// changes found no memory.
 ///
 /// A Range costs what `LiveKeys::range` does: the first walk their keys, and from there on a list of
 /// all live keys is made, and again behind the first change, and behind 64 operations in a row that
