@@ -7,6 +7,8 @@ pub mod Clashing
 pub mod Counting
 pub mod Making
 pub mod Models
+pub mod Numbering
+pub mod Passing
 pub mod Present
 pub mod PutCounts
 pub mod Running

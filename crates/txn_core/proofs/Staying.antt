@@ -84,7 +84,7 @@ later-none vs p q k m h e = by (later-all vs p q k m h)
 
 -- ---- places within one revision
 
-rev_le-sub : (u : Rev) (main n m : ℕ) → n ≤ m → rev_le u (record { main = main; sub = n }) ≡ true → rev_le u (record { main = main; sub = m }) ≡ true
+pub rev_le-sub : (u : Rev) (main n m : ℕ) → n ≤ m → rev_le u (record { main = main; sub = n }) ≡ true → rev_le u (record { main = main; sub = m }) ≡ true
 rev_le-sub u main n m l e = by (nat_cmp u.main main) (nat_cmp u.sub n) (ranks u.sub n) (nat_cmp u.sub m) (ranks u.sub m) e
   where
     by : (o t : Ordering) → MatchOrdering t (u.sub < n) (u.sub ≡ n) (n < u.sub) → (w : Ordering) → MatchOrdering w (u.sub < m) (u.sub ≡ m) (m < u.sub)
@@ -99,7 +99,7 @@ rev_le-sub u main n m l e = by (nat_cmp u.main main) (nat_cmp u.sub n) (ranks u.
     by Equal Greater a w b f = cc
     by Greater t a w b f = cc
 
-of-main : (u : Rev) (main n : ℕ) → rev_le u (record { main = main; sub = n }) ≡ false → nat_le main u.main ≡ true
+pub of-main : (u : Rev) (main n : ℕ) → rev_le u (record { main = main; sub = n }) ≡ false → nat_le main u.main ≡ true
 of-main u main n e = by (nat_le main u.main) refl
   where
     by : (b : Bool) → nat_le main u.main ≡ b → b ≡ true

@@ -2,6 +2,7 @@ pub mod Checking
 pub mod Emptied
 pub mod Graves
 pub mod KeyWrites
+pub mod Known
 pub mod Planning
 pub mod Steps
 pub mod Touching

@@ -24,7 +24,8 @@
 //!
 //! Only tested is that calls which may find no memory succeed where there is ample: in the crate
 //! `store_tests`, in `src/checks.rt` and `src/plans.rt`; those of answers are rows of
-//! `tests/rows.d`.
+//! `tests/rows.d`, and many Ranges between the changes of a transaction `many_answers` of
+//! `tests/rows`. Which way a Range is answered is cost alone, and no clause says it.
 #![tactic(auto)]
 
 mod changes;
@@ -36,6 +37,7 @@ mod deleted;
 mod emptied;
 mod fault;
 mod keys;
+mod known;
 mod planning;
 mod put;
 mod reply;

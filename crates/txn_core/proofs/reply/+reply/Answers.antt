@@ -1,12 +1,13 @@
 -- Each operation is answered as its path is, and so is a row of them.
-use Rattle.std.proofs.Common.{◌≡◌, ◌+◌, ◌<◌, ◌≤◌, ◌^◌, sym, ◌∙◌, ap, subst, map, drop, arith, rules}
+use Rattle.std.proofs.Common.{◌≡◌, ◌+◌, ◌<◌, ◌^◌, sym, ◌∙◌, ap, subst, map, drop, arith, rules}
 use Rattle.txn_core.specs.declared.step.Step.{the_lemmas}
+use Rattle.kv_model.specs.Ranges.{range_reply}
 use Rattle.kv_model.specs.Txns.{Path, replies_of, changes_of}
 use Rattle.store_laws.specs.Plans.{ReadsKept}
 use Rattle.range_view.specs.Replies.{in_row, op_reply_view}
+use Rattle.range_view.specs.Stored.{Viewed}
 use Rattle.txn_core.specs.Steps.{step_view, steps_view}
 use Rattle.txn_core.proofs.Elements.{At}
-use Rattle.txn_core.proofs.Staying.{emptied-later}
 use Rattle.txn_core.proofs.Answering.{row-at, row-end, row-reads, row-changes, row-room, row-pushed}
 use Rattle.txn_core.proofs.Answering.{path-range, path-put, path-delete, path-inner}
 use Rattle.txn_core.proofs.Answering.{range-changes, put-changes, delete-changes, inner-changes}
@@ -26,7 +27,7 @@ row_replies-step_reply-requires t c =
         c.requires.room,
         (
           (row-reads c.args.tables.now.compacted c.args.before ss here l.invariant.reads).0,
-          (row-room c.args.tables.now.versions (c.args.before + 1) l.next ss here _ room, l.invariant.emptied),
+          (row-room c.args.tables.now.versions (c.args.before + 1) l.next ss here _ room, l.invariant.known),
         ),
       ),
     )
@@ -47,7 +48,7 @@ row_replies-loop-step-preserved t c =
           ∙ row-pushed l.replies.items reply.reply (told v n reply.after rest)
           ∙ ap (in_row (map op_reply_view l.replies.items)) (reply.ensures.replies rest ∙ ap (told v n l.next) (sym (row-at ss here)))
           ∙ l.invariant.replies;
-      emptied = reply.ensures.emptied;
+      known = reply.ensures.known;
     }
 
 pub row_replies-returns-clause-replies : goal.row_replies-returns-clause-replies
@@ -67,16 +68,13 @@ row_replies-returns-clause-next t c =
 
 -- ---- a Range
 
-pub step_reply-range_reply-requires : goal.step_reply-range_reply-requires
-step_reply-range_reply-requires t c =
-    let path = path-range c.args.step.now c.in-Range.query c.in-Range.is Path.end in
-    record { room = c.requires.room; kept = (subst (ReadsKept c.args.tables.now.compacted c.args.before) path c.requires.reads).0 }
-
 pub step_reply-returns-in_ok-range_reply-in-Range-clause-replies : goal.step_reply-returns-in_ok-range_reply-in-Range-clause-replies
 step_reply-returns-in_ok-range_reply-in-Range-clause-replies t c = λ rest.
     let v = c.args.tables.now in
     let reply = c.in_ok-range_reply-in-Range in
-    range-told v c.args.before c.args.sub c.in-Range.query.now reply.field-0 reply.ensures rest
+    let q = c.in-Range.query.now in
+    range-told v c.args.before c.args.sub q reply.field-0
+    (reply.ensures.reply ∙ ap (λ (w : Viewed). range_reply w.versions w.revision w.place q) c.requires.known.keys) rest
     ∙ ap (told v c.args.before c.args.sub) (sym (path-range c.args.step.now c.in-Range.query c.in-Range.is rest))
 
 pub step_reply-returns-in_ok-range_reply-in-Range-clause-next : goal.step_reply-returns-in_ok-range_reply-in-Range-clause-next
@@ -88,6 +86,15 @@ step_reply-returns-in_ok-range_reply-in-Range-clause-next t c =
 
 -- ---- a put
 
+pub step_reply-pass_put-requires-clause-next : goal.step_reply-pass_put-requires-clause-next
+step_reply-pass_put-requires-clause-next t c =
+    let vs = c.args.tables.now.versions in
+    let main = c.args.before + 1 in
+    let path = path-put c.args.step.now c.in-Put.put c.in-Put.is Path.end in
+    let one : c.args.sub + 1 ≡ c.args.sub + changes_of vs main c.args.sub (step_view c.args.step.now Path.end)
+    = put-changes vs main c.args.sub c.in-Put.put.now ∙ ap (λ q. c.args.sub + changes_of vs main c.args.sub q) (sym path) in
+    omega (arith, one, c.requires.changes)
+
 pub step_reply-overflow_add-result : goal.step_reply-overflow_add-result
 step_reply-overflow_add-result t c =
     let vs = c.args.tables.now.versions in
@@ -98,28 +105,23 @@ step_reply-overflow_add-result t c =
     let room : c.args.sub + 1 < 2 ^ 64 = omega (arith, one, c.requires.changes) in
     search (rules, room)
 
-pub step_reply-returns-in-Put-clause-replies : goal.step_reply-returns-in-Put-clause-replies
-step_reply-returns-in-Put-clause-replies t c = λ rest.
+pub step_reply-returns-in_ok-pass_put-in-Put-clause-replies : goal.step_reply-returns-in_ok-pass_put-in-Put-clause-replies
+step_reply-returns-in_ok-pass_put-in-Put-clause-replies t c = λ rest.
     let v = c.args.tables.now in
-    put-told v c.args.before c.args.sub c.in-Put.put.now c.previous.result c.previous.ensures rest
+    put-told v c.args.before c.args.sub c.in-Put.put.now c.previous-previous.result c.previous-previous.ensures rest
     ∙ ap (told v c.args.before c.args.sub) (sym (path-put c.args.step.now c.in-Put.put c.in-Put.is rest))
 
-pub step_reply-returns-in-Put-clause-next : goal.step_reply-returns-in-Put-clause-next
-step_reply-returns-in-Put-clause-next t c =
+pub step_reply-returns-in_ok-pass_put-in-Put-clause-next : goal.step_reply-returns-in_ok-pass_put-in-Put-clause-next
+step_reply-returns-in_ok-pass_put-in-Put-clause-next t c =
     let vs = c.args.tables.now.versions in
     let main = c.args.before + 1 in
     put-changes vs main c.args.sub c.in-Put.put.now
     ∙ ap (λ q. c.args.sub + changes_of vs main c.args.sub q) (sym (path-put c.args.step.now c.in-Put.put c.in-Put.is Path.end))
 
-pub step_reply-returns-in-Put-clause-emptied : goal.step_reply-returns-in-Put-clause-emptied
-step_reply-returns-in-Put-clause-emptied t c =
-    let more : c.args.sub ≤ c.args.sub + 1 = omega arith in
-    emptied-later c.args.tables.now.versions (c.args.before + 1) c.args.sub (c.args.sub + 1) c.args.emptied.now more c.requires.emptied
-
 -- ---- a delete
 
-pub step_reply-overflow_add-result-in-Delete : goal.step_reply-overflow_add-result-in-Delete
-step_reply-overflow_add-result-in-Delete t c =
+pub step_reply-overflow_add-next : goal.step_reply-overflow_add-next
+step_reply-overflow_add-next t c =
     let vs = c.args.tables.now.versions in
     let main = c.args.before + 1 in
     let deleted = c.in_ok-deleted-in-Delete.deleted in
@@ -130,26 +132,20 @@ step_reply-overflow_add-result-in-Delete t c =
     let room : c.args.sub + deleted < 2 ^ 64 = omega (arith, more, c.requires.changes) in
     search (rules, room)
 
-pub step_reply-returns-in_ok-deleted-in-Delete-clause-replies : goal.step_reply-returns-in_ok-deleted-in-Delete-clause-replies
-step_reply-returns-in_ok-deleted-in-Delete-clause-replies t c = λ rest.
+pub step_reply-returns-in_ok-pass-in-Delete-clause-replies : goal.step_reply-returns-in_ok-pass-in-Delete-clause-replies
+step_reply-returns-in_ok-pass-in-Delete-clause-replies t c = λ rest.
     let v = c.args.tables.now in
     let d = c.in_ok-deleted-in-Delete in
     delete-told v c.args.before c.args.sub d.deleted c.in-Delete.delete.now d.previous d.ensures.count d.ensures.previous rest
     ∙ ap (told v c.args.before c.args.sub) (sym (path-delete c.args.step.now c.in-Delete.delete c.in-Delete.is rest))
 
-pub step_reply-returns-in_ok-deleted-in-Delete-clause-next : goal.step_reply-returns-in_ok-deleted-in-Delete-clause-next
-step_reply-returns-in_ok-deleted-in-Delete-clause-next t c =
+pub step_reply-returns-in_ok-pass-in-Delete-clause-next : goal.step_reply-returns-in_ok-pass-in-Delete-clause-next
+step_reply-returns-in_ok-pass-in-Delete-clause-next t c =
     let vs = c.args.tables.now.versions in
     let main = c.args.before + 1 in
     let path = path-delete c.args.step.now c.in-Delete.delete c.in-Delete.is Path.end in
     ap (λ k. c.args.sub + k) c.in_ok-deleted-in-Delete.ensures.count ∙ delete-changes vs main c.args.sub c.in-Delete.delete.now
     ∙ ap (λ q. c.args.sub + changes_of vs main c.args.sub q) (sym path)
-
-pub step_reply-returns-in_ok-deleted-in-Delete-clause-emptied : goal.step_reply-returns-in_ok-deleted-in-Delete-clause-emptied
-step_reply-returns-in_ok-deleted-in-Delete-clause-emptied t c =
-    let more : c.args.sub ≤ c.args.sub + c.in_ok-deleted-in-Delete.deleted = omega arith in
-    emptied-later c.args.tables.now.versions (c.args.before + 1) c.args.sub (c.args.sub + c.in_ok-deleted-in-Delete.deleted) _ more
-    c.in_ok-deleted-in-Delete.ensures.emptied
 
 -- ---- a transaction within
 
@@ -167,7 +163,7 @@ step_reply-row_replies-requires t c =
         c.requires.room,
         (
           (subst (ReadsKept c.args.tables.now.compacted c.args.before) path c.requires.reads).0,
-          (omega (arith, same, c.requires.changes), c.requires.emptied),
+          (omega (arith, same, c.requires.changes), c.requires.known),
         ),
       ),
     )

@@ -1,18 +1,21 @@
--- Of what is emptied nothing is seen before the delete.
-use Rattle.std.proofs.Common.{◌+◌, arith, ◌∙◌, ap}
-use Rattle.kv_model.specs.History.{value_at}
-use Rattle.range_view.specs.Stored.{Viewed}
+-- To note a range changes nothing of what is known.
+use Rattle.std.proofs.Common.{◌+◌}
 use Rattle.txn_core.proofs.reply.deleted.Goals as goal
 
-pub live_left-requires : goal.live_left-requires
-live_left-requires c = λ k h.
-    let vs = c.args.tables.now.versions in
-    ap (λ (w : Viewed). value_at w.versions w.place k) c.view_before-view.ensures ∙ ap (λ p. value_at vs p k) c.place_before.ensures
-    ∙ c.in_ok-settle_before.ensures.none k h c.args.sub (omega arith)
+pub returns-then-not-delete-clause-known : goal.returns-then-not-delete-clause-known
+returns-then-not-delete-clause-known c =
+    let known = c.in_ok-kvs.ensures.known in
+    record {
+      emptied = c.note.ensures c.args.tables.now.versions (c.args.before + 1) c.args.sub known.emptied;
+      keys = known.keys;
+      changes = known.changes;
+    }
 
-pub returns-then-not-delete-clause-emptied : goal.returns-then-not-delete-clause-emptied
-returns-then-not-delete-clause-emptied c =
-    c.note.ensures c.args.tables.now.versions (c.args.before + 1) c.args.sub c.in_ok-settle_before.ensures
-
-pub returns-clause-emptied : goal.returns-clause-emptied
-returns-clause-emptied c = c.note.ensures c.args.tables.now.versions (c.args.before + 1) c.args.sub c.in_ok-settle_before.ensures
+pub returns-clause-known : goal.returns-clause-known
+returns-clause-known c =
+    let known = c.in_ok-kvs.ensures.known in
+    record {
+      emptied = c.note.ensures c.args.tables.now.versions (c.args.before + 1) c.args.sub known.emptied;
+      keys = known.keys;
+      changes = known.changes;
+    }
