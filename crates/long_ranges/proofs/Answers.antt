@@ -130,8 +130,8 @@ pub happened : (z : ℤ) (now c : ℕ) (b : Begun) (empty : Bool) → IsAskedFor
 happened (pos zero) now c b empty e h = omega (arith, e)
 happened (pos (suc n)) now c b empty e h =
     let past : nat_lt now (suc n) ≡ false = not_future (nat_lt now (suc n)) (Future now)
-        (unrefused (refuse_if (nat_lt (suc n) c) (Compacted c)) (refuse_if (nat_lt now (suc n)) (Future now))
-        (unrefused (refuse_if empty NoKey) (revision_refusal c now (pos (suc n))) h)) in
+    (unrefused (refuse_if (nat_lt (suc n) c) (Compacted c)) (refuse_if (nat_lt now (suc n)) (Future now))
+    (unrefused (refuse_if empty NoKey) (revision_refusal c now (pos (suc n))) h)) in
     let le : suc n ≤ now = grind (arith, nat_tests) in
     omega (arith, e, le)
 happened (negsuc n) now c b empty e h = omega (arith, e)

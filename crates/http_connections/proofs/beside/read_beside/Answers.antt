@@ -18,6 +18,6 @@ returns-in-Ok-clause-reads g c = reads_in_parts c.args.ids.now c.args.client.now
 pub returns-in-Err-Whole-clause-reads : goal.returns-in-Err-Whole-clause-reads
 returns-in-Err-Whole-clause-reads g c =
     let m = within c.args.client.now c.enter.new.self c.read_in_parts.new.client c.enter.ensures.begins c.enter.ensures.others c.enter.ensures.book
-        c.read_in_parts.ensures.begins c.read_in_parts.ensures.client c.read_in_parts.ensures.book in
+    c.read_in_parts.ensures.begins c.read_in_parts.ensures.client c.read_in_parts.ensures.book in
     if_some_map (λ o. Reads c.args.ids.now c.read_in_parts.new.client c.args.query.now o c.read_again.new.client) (λ o. Reads c.args.ids.now c.args.client.now c.args.query.now o c.read_again.new.client)
-        (λ o r. reads_after c.args.ids.now c.args.client.now c.read_in_parts.new.client c.read_again.new.client c.args.query.now o m.0 m.1 m.2 r) c.read_again.result c.read_again.ensures.reads
+    (λ o r. reads_after c.args.ids.now c.args.client.now c.read_in_parts.new.client c.read_again.new.client c.args.query.now o m.0 m.1 m.2 r) c.read_again.result c.read_again.ensures.reads
