@@ -1,4 +1,4 @@
-use Rattle.std.proofs.Common.{sym, ap, subst}
+use Rattle.std.proofs.Common.{sym, subst}
 use Rattle.json_gateway.specs.declared.outcome.Outcome.{Outcome}
 use Rattle.store_laws.specs.Changes.{untrimmed}
 use Rattle.event_book.specs.Events.{led_to}
@@ -10,4 +10,4 @@ pub returns-clause-settles : goal.returns-clause-settles
 returns-clause-settles g c =
     let u = untrimmed (led_to c.args.client.now.reader.known) in
     subst (λ (o : Outcome). SettlesAs (response_over c.args.ids.now (answer_over u c.args.query.now)) o.settled) (sym c.read_as.ensures)
-        (c.settled-settled.ensures (answer_over u c.args.query.now) (is_answer u c.args.query.now c.range.result c.range.ensures))
+    (c.settled-settled.ensures (answer_over u c.args.query.now) (is_answer u c.args.query.now c.range.result c.range.ensures))

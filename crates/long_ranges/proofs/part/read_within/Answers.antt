@@ -14,7 +14,7 @@ returns-clause-reads g c = λ front p then ids now count seen gat.
     let at = to_z-of_z w64 c.signed.result (search rules) ∙ c.signed.ensures in
     let asked = c.part_of-part.ensures ∙ (λ i. part_of q c.in-Ok.cut.part (at i) (c.counts.ensures i)) in
     let is_shown = subst (λ (a : RangeQuery). IsShownBy (led_to known) a c.args.gathered q (live_at front r c.in-Ok.cut.part)) (sym asked)
-        (shown_by front known p r c.requires.some then c.args.gathered q c.in-Ok.cut.part) in
+    (shown_by front known p r c.requires.some then c.args.gathered q c.in-Ok.cut.part) in
     record {
       part = live_at front r c.in-Ok.cut.part;
       whole = whole_is front known p r c.requires.some then c.requires.shown.sound c.args.rest c.in-Ok.cut.part c.in-Ok.cut.rest c.requires.several c.in-Ok.ensures;

@@ -19,10 +19,10 @@ returns-clause-reads g c =
     let text = c.in_ok-text.ensures q 0 all counted in
     let gathered = c.in_ok-gathered.ensures.reads front c.read_all.ensures.begins b ids begun.now (length all) text in
     if_ok_map (λ t. t.items ≡ text_of ids begun.now (length all) q all) (λ t. ReadsInParts ids c.args.client.now q t.items c.read_all-2.new.client)
-        (λ t e. record {
-          front = front;
-          begins = c.begin.ensures.begins;
-          goes_on = prefix_trans front c.read_all.new.client.reader.known c.read_all-2.new.client.reader.known c.read_all.ensures.begins c.read_all-2.ensures.begins;
-          allowed = subst (λ n. range_refusal (led_to front).compacted n q ≡ None) b.now b.allowed;
-          says = e ∙ whole_text ids front q begun b;
-        }) c.finished.result (c.finished.ensures ids begun.now (length all) q all gathered)
+    (λ t e. record {
+      front = front;
+      begins = c.begin.ensures.begins;
+      goes_on = prefix_trans front c.read_all.new.client.reader.known c.read_all-2.new.client.reader.known c.read_all.ensures.begins c.read_all-2.ensures.begins;
+      allowed = subst (λ n. range_refusal (led_to front).compacted n q ≡ None) b.now b.allowed;
+      says = e ∙ whole_text ids front q begun b;
+    }) c.finished.result (c.finished.ensures ids begun.now (length all) q all gathered)
