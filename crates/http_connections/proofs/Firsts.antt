@@ -1,5 +1,5 @@
 -- A request that was done but for the trimming that its answer waits for, and that trimming.
-use Rattle.std.proofs.Common.{◌≡◌, ◌⊎◌, inl, inr, ℕ, List, Bool, true, false, None, Ok, refl, sym, ◌∙◌, subst}
+use Rattle.std.proofs.Common.{◌≡◌, ◌⊎◌, inl, inr, ℕ, List, Bool, false, None, Ok, refl, sym, ◌∙◌, subst}
 use Rattle.kv_model.specs.declared.ids.Ids.{Ids}
 use Rattle.kv_model.specs.declared.call.Command.{Command}
 use Rattle.kv_model.specs.Commands.{call_of}

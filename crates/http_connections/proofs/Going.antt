@@ -1,5 +1,5 @@
 -- How far a connection has come, by several things one after the other.
-use Rattle.std.proofs.Common.{◌≡◌, ℕ, List, [], ◌++◌, Bool, refl, sym, ap, subst, append_assoc}
+use Rattle.std.proofs.Common.{◌≡◌, ℕ, List, ◌++◌, Bool, refl, sym, ap, subst, append_assoc}
 use Rattle.std.proofs.lemmas.List.{append-nil}
 use Rattle.kv_model.specs.declared.ids.Ids.{Ids}
 use Rattle.event_book.specs.Callers as list

@@ -1,5 +1,5 @@
 -- How far a connection has come, by one thing more.
-use Rattle.std.proofs.Common.{◌≡◌, ◌⊎◌, inl, inr, ◌<◌, ℕ, ◌+◌, List, [], ◌++◌, Bool, true, false, Option, None, Some, Result, Ok, Err, refl, sym, ◌∙◌, ap, subst, append_assoc}
+use Rattle.std.proofs.Common.{◌≡◌, inl, inr, ◌<◌, ℕ, ◌+◌, List, [], ◌++◌, Bool, true, false, Option, None, Some, Result, Ok, Err, refl, sym, ◌∙◌, ap, subst}
 use Rattle.std.specs.Io.KnownBytes.{Appends}
 use Rattle.std.proofs.lemmas.List.{append-nil}
 use mathlib.Core.List.{IsPrefix}
@@ -8,24 +8,21 @@ use Rattle.http_head.specs.Requests.{Asked}
 use Rattle.http_reply.specs.declared.front.Front.{Front}
 use Rattle.http_reply.specs.declared.front.Front.TheVariants as front
 use Rattle.std.specs.Prelude.{IfErr}
-use Rattle.json_gateway.specs.declared.outcome.Outcome.{Outcome}
 use Rattle.event_book.specs.Events.{Entry}
 use Rattle.event_book.proofs.Prefixes.{prefix_trans}
-use Rattle.engine_lock.specs.Locked.{Caller, naming}
-use Rattle.engine_lock.specs.declared.engine.Submitted.{Submitted}
+use Rattle.engine_lock.specs.Locked.{naming}
 use Rattle.http_loop.specs.declared.stepping.Step.{Step}
 use Rattle.http_loop.specs.declared.stepping.Step.TheVariants as step
 use Rattle.http_loop.specs.declared.stepping.Waiting.{Waiting as Pending}
 use Rattle.http_loop.specs.declared.writing.Turn.{Turn}
 use Rattle.http_loop.specs.declared.writing.Turn.TheVariants as turn
-use Rattle.http_loop.specs.Answered.{Conn, IsAnswered}
-use Rattle.http_loop.specs.Stepped.{EndsWith, Finished, ReadsOn, Steps, Waits}
-use Rattle.http_loop.specs.Texts.{Grows, turn_of}
-use Rattle.http_loop.specs.Turned.{IsTurn, MayHaveAfter, Progress, Serves, SoFar, TurnsOnce, progress}
+use Rattle.http_loop.specs.Answered.{Conn}
+use Rattle.http_loop.specs.Stepped.{ReadsOn, Steps, Waits}
+use Rattle.http_loop.specs.Texts.{Grows}
+use Rattle.http_loop.specs.Turned.{Progress, Serves, SoFar, TurnsOnce, progress}
 use Rattle.http_loop.proofs.Conns.{end, failed, gave_none, last, on, reads_on}
-use Rattle.http_loop.proofs.Texts.{by_both, seen_as, wrote_more}
+use Rattle.http_loop.proofs.Texts.{wrote_more}
 use Rattle.http_loop.proofs.Turns.{turns}
-use Rattle.http_connections.specs.Engines as engines
 use Rattle.http_connections.specs.Handing as handing
 use Rattle.http_connections.specs.Handing.{Hands}
 use Rattle.http_connections.specs.Lines as lines

@@ -10,13 +10,10 @@ use mathlib.Core.List.{IsPrefix}
 use Rattle.kv_model.specs.declared.ids.Ids.{Ids}
 use Rattle.kv_model.specs.declared.version.KeyRange.{KeyRange}
 use Rattle.kv_model.specs.declared.version.Rev.{Rev}
-use Rattle.kv_model.specs.declared.version.Version.{Version}
 use Rattle.kv_model.specs.declared.call.RangeQuery.{RangeQuery}
-use Rattle.kv_model.specs.declared.call.SortOrder.{SortOrder}
-use Rattle.kv_model.specs.declared.call.SortTarget.{SortTarget}
 use Rattle.kv_model.specs.declared.refusal.Refusal.{Refusal}
 use Rattle.kv_model.specs.declared.refusal.Refusal.TheVariants.{Compacted, Future, NoKey}
-use Rattle.kv_model.specs.History.{KeyValue, Mutation, dress, end_of, value_at}
+use Rattle.kv_model.specs.History.{KeyValue, Mutation, end_of, value_at}
 use Rattle.kv_model.specs.Answers.{success_response}
 use Rattle.kv_model.specs.Told.{Reply}
 use Rattle.kv_model.specs.Keys.{same_key}
@@ -37,7 +34,7 @@ use Rattle.snapshot_feed.specs.Answers.{AnswersOf}
 use Rattle.long_ranges.specs.declared.begin.Begun.{Begun}
 use Rattle.long_ranges.specs.declared.gathered.Gathered.{Gathered}
 use Rattle.long_ranges.specs.declared.gathered.Gathered.TheVariants as gathered
-use Rattle.long_ranges.specs.Laws.{IsCut, below, from}
+use Rattle.long_ranges.specs.Laws.{below, from}
 use Rattle.long_ranges.specs.Parts.{HasBegun, IsAskedFor, IsCutInto, IsOfMany, IsOfSeveral, IsShownBy, Shows, is_count, live_at, live_left, part_of, shown, text_of}
 use Rattle.long_ranges.proofs.Later.{later_says_the_same}
 use Rattle.long_ranges.proofs.Wholes.{parts_make_the_whole}

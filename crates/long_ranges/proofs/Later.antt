@@ -1,19 +1,16 @@
 -- What later events leave as it was.
-use Rattle.std.proofs.Common.{◌≡◌, ◌≤◌, ◌<◌, ◌⊎◌, inl, inr, ℕ, ◌+◌, List, [], ◌∷◌, ◌++◌, fold, false, refl, sym, ◌∙◌, ap, subst, arith}
+use Rattle.std.proofs.Common.{◌≡◌, ◌≤◌, inl, inr, ℕ, ◌+◌, List, [], ◌∷◌, fold, false, refl, sym, ◌∙◌, ap, subst, arith}
 use mathlib.Core.List.{IsPrefix}
 use Rattle.std.specs.List.{AllByRecursion}
 use Rattle.std.proofs.lemmas.List.Sums.{fold-append}
-use Rattle.kv_model.specs.declared.version.Version.{Version}
-use Rattle.kv_model.specs.declared.version.KeyRange.{KeyRange}
 use Rattle.kv_model.specs.Commands.{call_of}
 use Rattle.kv_model.specs.Calls.{Call}
 use Rattle.kv_model.specs.Follows.{Outcome}
 use Rattle.kv_model.specs.History.{Mutation, dress, end_of, rev_le, value_at}
-use Rattle.kv_model.specs.Ranges.{live}
 use Rattle.kv_model.specs.Step.{expire, perform}
 use Rattle.kv_model.specs.Txns.{added_by}
 use Rattle.kv_model.specs.Watches.{Delivery, after_delivery, deliver}
-use Rattle.kv_model.specs.Wire.{WireOutcome, raised}
+use Rattle.kv_model.specs.Wire.{WireOutcome}
 use Rattle.kv_model.specs.World.{World, opening, revision, versions}
 use Rattle.store_laws.specs.Changes.{untrimmed}
 use Rattle.store_laws.specs.Growth.{RaisesByOne}

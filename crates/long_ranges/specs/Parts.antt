@@ -10,7 +10,6 @@ use Rattle.kv_model.specs.declared.call.SortTarget.TheVariants.{ByKey}
 use Rattle.kv_model.specs.Answers.{success_response}
 use Rattle.kv_model.specs.History.{KeyValue, end_of}
 use Rattle.kv_model.specs.Lists.{is_empty}
-use Rattle.kv_model.specs.Ranges as ranges
 use Rattle.kv_model.specs.Ranges.{live, passes_filters, range_refusal, range_reply, stripped}
 use Rattle.kv_model.specs.Told as told
 use Rattle.kv_model.specs.World.{World, revision, versions}
@@ -20,7 +19,6 @@ use Rattle.range_view.specs.Replies.{kv_view}
 use Rattle.range_view.specs.Selecting.{keeps_order}
 use Rattle.snapshot_feed.specs.Answers.{AnswersOf}
 use Rattle.store_laws.specs.Changes.{untrimmed}
-use Rattle.gateway_text.specs.declared.range_parts.RangeText.{RangeText}
 use Rattle.gateway_text.specs.RangeParts.{IsRangeText}
 use Rattle.engine_lock.specs.Locked.{Caller}
 use Rattle.long_ranges.specs.declared.gathered.Gathered.{Gathered}

@@ -1,10 +1,5 @@
-use Rattle.std.proofs.Common.{◌≡◌, Option, None, Some, List, refl, sym, ◌∙◌, ap, subst}
-use Rattle.std.specs.Prelude.{IfSome}
-use mathlib.Core.List.{IsPrefix}
-use Rattle.json_gateway.specs.declared.outcome.Outcome.{Outcome}
-use Rattle.engine_lock.specs.Locked.{Caller, left}
 use Rattle.http_connections.specs.Engines.{Reads}
-use Rattle.http_connections.proofs.Readings.{if_some_map, on_from, reads_after, reads_in_parts, reads_whole, within}
+use Rattle.http_connections.proofs.Readings.{if_some_map, reads_after, reads_in_parts, reads_whole, within}
 use Rattle.http_connections.proofs.beside.read_beside.Goals as goal
 
 pub returns-then-not-may_be_parted-clause-reads : goal.returns-then-not-may_be_parted-clause-reads

@@ -1,4 +1,4 @@
-use Rattle.std.proofs.Common.{sym, ap, subst}
+use Rattle.std.proofs.Common.{sym, subst}
 use Rattle.json_gateway.specs.declared.outcome.Outcome.{Outcome}
 use Rattle.store_laws.specs.Changes.{untrimmed}
 use Rattle.event_book.specs.Events.{led_to}

@@ -1,4 +1,4 @@
-use Rattle.std.proofs.Common.{◌≡◌, ◌<◌, ℕ, ◌+◌, arith, refl, sym, true, subst}
+use Rattle.std.proofs.Common.{◌≡◌, ◌<◌, ℕ, arith, refl, sym, true, subst}
 use Rattle.trim_core.specs.declared.trimmer.Trim.{Trim}
 use Rattle.trim_core.specs.Told.{told_of}
 use Rattle.json_gateway.specs.Endings.{is_done}

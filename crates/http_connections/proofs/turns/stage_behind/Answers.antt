@@ -1,4 +1,4 @@
-use Rattle.std.proofs.Common.{refl, sym, ◌∙◌, ap, subst, ℕ, Result, Ok}
+use Rattle.std.proofs.Common.{sym, ◌∙◌, ap, subst, ℕ, Result, Ok}
 use Rattle.http_reply.specs.declared.front.Front.{Front}
 use Rattle.http_loop.specs.declared.stepping.Step.{Step}
 use Rattle.http_connections.specs.Handing.{Hands}

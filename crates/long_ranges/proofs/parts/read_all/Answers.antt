@@ -2,7 +2,7 @@ use Rattle.std.proofs.Common.{◌++◌, ◌∙◌, subst, ap}
 use Rattle.event_book.proofs.Prefixes.{prefix_trans}
 use Rattle.engine_lock.specs.Locked.{Caller, left}
 use Rattle.long_ranges.specs.Parts.{IsGathered}
-use Rattle.long_ranges.proofs.Answers.{gathered_all, gathered_more, in_time, several_rest}
+use Rattle.long_ranges.proofs.Answers.{gathered_all, gathered_more, in_time}
 use Rattle.long_ranges.proofs.parts.read_all.Goals as goal
 
 pub returns-in_default-left-clause-reads : goal.returns-in_default-left-clause-reads
