@@ -24,6 +24,7 @@ use kv_model::call::RangeQuery;
 use kv_model::version::KeyRange;
 use range_view::RangeReply;
 use std::alloc::{AllocError, Global};
+use std::thread::yield_now;
 
 /// A Range of more keys than these is read in parts of so many.
 const MOST_KEYS: usize = 128;
@@ -68,6 +69,8 @@ pub(crate) fn read_part<L: EngineName>(
     }
     let read = read_within(alloc, client, query, revision, rest, gathered);
     client.leave();
+    // A thread that loses its core within a reading has writers wait: so it gives way here.
+    yield_now();
     read
 }
 
