@@ -20,7 +20,9 @@
 //!
 //! Were the store compacted at 28 before reading 7, that would be refused, and the Range is read whole.
 //!
-//! Only tested is that calls which may find no memory succeed where there is ample.
+//! Only tested is that calls which may find no memory succeed where there is ample, and that a Range
+//! goes on to its end in parts of some 128 keys: no clause says how many keys a part has. Both through
+//! the program, in the scripts `allocations_served` and `long_ranges` of `tests`.
 #![tactic(auto)]
 
 mod begin;
