@@ -7,3 +7,4 @@ pub mod Walks
 pub mod InPlace
 pub mod Intervals
 pub mod Retracting
+pub mod Nths

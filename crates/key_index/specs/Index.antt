@@ -1,5 +1,5 @@
 -- An index: each key with its revisions, the keys ascending.
-use Rattle.std.specs.Prelude.{◌≡◌, ◌≢◌, ℕ, List, [], ◌∷◌, ◌++◌, drop, filter, Bool, if◌then◌else◌}
+use Rattle.std.specs.Prelude.{◌≡◌, ◌≢◌, ℕ, zero, suc, List, [], ◌∷◌, ◌++◌, drop, filter, Bool, if◌then◌else◌}
 use Rattle.std.specs.Prelude.{Option, None, Some, unwrap_or, ⊤}
 use Rattle.std.specs.List.{AllByRecursion, list_all}
 use Rattle.std.specs.declared.cmp.Ordering.TheVariants.{Less}
@@ -76,3 +76,9 @@ in_interval r i = filter (λ e. in_range r e.0) i
 abbrev pub first_same : List ℕ → Index → Index
 first_same k [] = []
 first_same k (e ∷ es) = if is_key (key_cmp k) e.0 then e ∷ [] else []
+
+-- the key before which so many stand
+abbrev pub nth_of : ℕ → Index → Option (List ℕ)
+nth_of n [] = None
+nth_of zero (e ∷ es) = Some e.0
+nth_of (suc n) (e ∷ es) = nth_of n es

@@ -1,11 +1,12 @@
 //! From each key to its revisions (etcd: the tree index of keys).
 ghost use Rattle.std.specs.Prelude.{◌≡◌, List, [], ◌++◌, ◌||◌, if◌then◌else◌, map};
-ghost use Rattle.std.specs.Prelude.{option_copied, OnOk, OnErr, IfOk, MatchOption, ⊤, true};
+ghost use Rattle.std.specs.Prelude.{option_copied, OnOk, OnErr, IfOk, MatchOption, Some, ⊤, true, ◌<◌};
 ghost use Rattle.kv_model.specs.declared.version.Version.{Version};
-ghost use Rattle.kv_model.specs.Keys.{in_range};
+ghost use Rattle.kv_model.specs.Keys.{in_range, key_lt};
+ghost use Rattle.key_pages.specs.Pairs.{from_key};
 ghost use Rattle.key_index.specs.Agrees.{Agrees, IsBelow, AreOf};
 ghost use Rattle.key_index.specs.KeyRevisions.{IsBehind, after_place, at_place, is_followed};
-ghost use Rattle.key_index.specs.Index.{IsIndex, found, in_interval, is_up_to, revisions};
+ghost use Rattle.key_index.specs.Index.{IsIndex, found, in_interval, is_up_to, nth_of, revisions};
 ghost use Rattle.key_index.specs.Index.{retracted, retracted_newest, undone_at};
 ghost use Rattle.key_index.specs.Index.{with_revision, without_front, without_revision};
 
@@ -199,20 +200,21 @@ impl KeyIndex {
         }
     }
 
-    /// The key of a range before which so many of its keys stand, lent; `None` where it has no more
-    /// than so many, and of one key. Takes no memory.
+    /// The key of a range before which so many of those from the range's first key on stand, lent;
+    /// `None` where the range has no more than so many, and of one key. Takes no memory.
     ///
     /// The time is logarithmic in the number of keys, and linear in the number that is given.
     pub fn nth_key(&self, range: &KeyRange, count: usize) -> Option<&Bytes>
-        ensures { MatchOption result ⊤ (λ k. in_range range.now k.now ≡ true) }
+        ensures within { MatchOption result ⊤ (λ k. in_range range.now k.now ≡ true) }
+        ensures nth { MatchOption result ⊤ (λ k.
+            nth_of count (from_key range.now.key self.now) ≡ Some k.now) }
+        ensures above { MatchOption result ⊤ (λ k.
+            0 < count → key_lt range.now.key k.now ≡ true) }
     {
-        let walk = match range.span() {
-            Span::Key(_) => return None,
-            Span::All => self.keys.all(),
-            Span::From(from) => self.keys.from(from),
-            Span::Interval { from, .. } => self.keys.from(from),
-        };
-        match interval::nth(walk, count) {
+        if range.end.is_empty() {
+            return None;
+        }
+        match interval::nth(self.keys.from(&range.key), count) {
             Some(key) if range.contains(key.as_slice()) => Some(key),
             _ => None,
         }

@@ -1,7 +1,7 @@
 //! The keys of a walk, listed.
-ghost use Rattle.std.specs.Prelude.{◌≡◌, map, IfOk};
+ghost use Rattle.std.specs.Prelude.{◌≡◌, map, IfOk, MatchOption, Some, ⊤};
 ghost use Rattle.key_pages.specs.Pairs.{IsAscending, below_key};
-ghost use Rattle.key_index.specs.Index.{first_same};
+ghost use Rattle.key_index.specs.Index.{first_same, nth_of};
 ghost use Rattle.key_index.specs.Lent.{entry_of};
 
 use crate::index::Indexed;
@@ -60,10 +60,14 @@ pub(crate) fn first<'a>(
 }
 
 /// The key of a walk before which so many stand, where there is one.
-pub(crate) fn nth<'a>(walk: Walk<'a, Revisions>, count: usize) -> Option<&'a Bytes> {
+pub(crate) fn nth<'a>(walk: Walk<'a, Revisions>, count: usize) -> Option<&'a Bytes>
+    ensures { MatchOption result ⊤ (λ k. nth_of count walk.entry ≡ Some k.now) }
+{
     let mut walk = walk;
-    for _ in 0..count {
+    let mut left = count;
+    'passing: while left > 0 {
         let _ = walk.next()?;
+        left -= 1;
     }
     match walk.next() {
         Some((key, _)) => Some(key),
