@@ -1,8 +1,8 @@
 //! A client of an engine, what it has seen of the list of all events, and its reader.
-ghost use Rattle.std.specs.Prelude.{◌≡◌, ◌++◌, ◌∷◌, [], cond, true, ⊤, MatchBool, MatchOption, OnOk, OnErr, IfOk, IfErr};
+ghost use Rattle.std.specs.Prelude.{◌≡◌, ◌<◌, ◌++◌, ◌∷◌, [], cond, true, ⊤, MatchBool, MatchOption, OnOk, OnErr, IfOk, IfErr};
 ghost use mathlib.Core.List.{IsPrefix};
 ghost use Rattle.kv_model.specs.declared.refusal.Refusal.TheVariants.{NoPlace};
-ghost use Rattle.kv_model.specs.Keys.{in_range};
+ghost use Rattle.kv_model.specs.Keys.{in_range, key_lt};
 ghost use Rattle.store_laws.specs.Changes.{untrimmed};
 ghost use Rattle.snapshot_feed.specs.Answers.{AnswersOf};
 ghost use Rattle.snapshot_feed.specs.Showing.{IsShown};
@@ -181,7 +181,9 @@ impl<L: EngineName> Client<L> {
     /// no reading. Takes no memory; the time is logarithmic in the number of keys, and linear in the
     /// number that is given. Waits for nobody.
     pub fn nth_key(&self, range: &KeyRange, count: usize) -> Option<&Bytes>
-        ensures { MatchOption result ⊤ (λ k. in_range range.now k.now ≡ true) }
+        ensures within { MatchOption result ⊤ (λ k. in_range range.now k.now ≡ true) }
+        ensures above { MatchOption result ⊤ (λ k.
+            0 < count → key_lt range.now.key k.now ≡ true) }
     {
         self.reader.nth_key(range, count)
     }

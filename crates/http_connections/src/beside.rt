@@ -137,7 +137,6 @@ fn read_beside<L: EngineName>(
     ensures none { IfNone result (ReadsOn client.old client.old.reader.known client.new) }
 {
     if client.enter().is_err() {
-        client.leave();
         return None;
     }
     if !may_be_parted(query) || !is_long(client, query) {
@@ -162,7 +161,6 @@ fn read_again<L: EngineName>(
     ensures none { IfNone result (ReadsOn client.old client.old.reader.known client.new) }
 {
     if client.enter().is_err() {
-        client.leave();
         return None;
     }
     Some(read_whole(alloc, client, query, ids))

@@ -160,7 +160,7 @@ pub(crate) fn keeping_of<L: EngineName, R: Wait + Net>(
 }
 
 /// What the workers wait with.
-pub(crate) fn lines_of<L: EngineName, R: Net>(
+pub(crate) fn lines_of<L: EngineName, R: Net + Threads>(
     rt: &R,
     alloc: Global,
     listener: &TcpListener,
@@ -168,10 +168,20 @@ pub(crate) fn lines_of<L: EngineName, R: Net>(
 ) -> Result<Lines<L>, Front>
     ensures fault { IfErr result IsOfServer }
 {
-    match Lines::new(rt, alloc, listener, workers) {
+    match Lines::new(rt, alloc, listener, workers, at_once(rt, workers)) {
         Ok(lines) => Ok(lines),
         Err(_) => Err(Front::Spawn),
     }
+}
+
+/// How many of so many threads look out for connections at once: one for each core but one, and two at
+/// least.
+fn at_once<R: Threads>(rt: &R, workers: u64) -> u64 {
+    let cores = match thread::available_parallelism(rt) {
+        Ok(cores) => cores.get() as u64,
+        Err(_) => 2,
+    };
+    workers.min(cores.saturating_sub(1).max(2))
 }
 
 /// Why a server ends before its connections do.

@@ -6,6 +6,7 @@
 //! a thread, and no connection is kept by one. What the threads share is [`Shared`].
 #![tactic(auto)]
 
+mod crew;
 mod line;
 mod lines;
 mod shared;

@@ -1,4 +1,5 @@
 //! The connections of a server, and the threads that wait for them.
+use crate::crew::{Crew, Seat};
 use crate::line::Line;
 use crate::slots::{Ages, Slots};
 use engine_lock::EngineName;
@@ -51,6 +52,8 @@ pub struct Lines<L: EngineName> {
     listener: RawFd,
     /// How many connections have come in and not ended.
     pub(crate) crowd: Crowd,
+    /// Which of the threads look out, and which stand by.
+    crew: Crew,
     /// Whether no further one comes in.
     shut: AtomicBool,
     /// Whether the listener is not asked for until a connection ends, since an accept found no place.
@@ -65,9 +68,13 @@ impl<L: EngineName> Lines<L> {
         alloc: Global,
         listener: &TcpListener,
         workers: u64,
+        most: u64,
     ) -> io::Result<Lines<L>> {
         let set = Set::new(rt)?;
         let Ok(slots) = Slots::new(alloc) else {
+            return Err(io::Error::from(ErrorKind::OutOfMemory));
+        };
+        let Ok(crew) = Crew::new(alloc, workers, most) else {
             return Err(io::Error::from(ErrorKind::OutOfMemory));
         };
         open_listener(listener)?;
@@ -79,19 +86,30 @@ impl<L: EngineName> Lines<L> {
             set,
             slots,
             listener,
-            crowd: Crowd::new(workers),
+            crowd: Crowd::new(most),
+            crew,
             shut: AtomicBool::new(false),
             parked: AtomicBool::new(false),
         })
     }
 
-    /// Waits until something is ready. One thread alone is told of a connection.
-    pub(crate) fn next(&self) -> Next {
-        self.next_of(self.set.next())
+    /// A thread comes that is to give connections their turns.
+    pub(crate) fn join(&self) -> Seat {
+        self.crew.join()
     }
 
-    /// The same, without waiting.
-    pub(crate) fn next_now(&self) -> Next {
+    /// Waits until something is ready, or stands by until there is something to wait for. One thread
+    /// alone is told of a connection.
+    pub(crate) fn next<R: Wait>(&self, rt: &R, seat: &mut Seat) -> Next {
+        self.crew.wait(rt, seat);
+        let ready = self.set.next();
+        self.crew.visit(seat);
+        self.next_of(ready)
+    }
+
+    /// The same, without waiting, of a thread that begins a further visit.
+    pub(crate) fn next_now(&self, seat: &Seat) -> Next {
+        self.crew.visit(seat);
         self.next_of(self.set.next_now())
     }
 
@@ -131,15 +149,21 @@ impl<L: EngineName> Lines<L> {
         let was_last = self.crowd.went();
         self.unpark_listener();
         if was_last && self.shut.load(Ordering::SeqCst) {
-            self.set.end();
+            self.end();
         }
+    }
+
+    /// All threads end.
+    fn end(&self) {
+        self.set.end();
+        self.crew.end();
     }
 
     /// No further connection comes in: once all have ended, so do the threads.
     pub fn shut(&self) {
         self.shut.store(true, Ordering::SeqCst);
         if self.is_empty() {
-            self.set.end();
+            self.end();
         }
     }
 

@@ -3,6 +3,7 @@ ghost use Rattle.std.specs.Prelude.{◌≡◌};
 ghost use Rattle.http_connections.specs.Lines.{Goes};
 ghost use Rattle.http_workers.specs.Inputs.{at_place, seen};
 
+use crate::crew::Seat;
 use crate::line::Line;
 use crate::lines::Next;
 use crate::shared::Shared;
@@ -38,6 +39,8 @@ struct Worker<'s, L: EngineName, G, C, R> {
     buffer: Option<ReplyBuffer>,
     /// An input of which nothing is left, for a connection that has none.
     spare: Spare,
+    /// Its place among the threads.
+    seat: Seat,
 }
 
 /// What came of an accept.
@@ -73,11 +76,12 @@ where
         serving: Serving::new(client),
         buffer: None,
         spare: Spare::new(alloc),
+        seat: shared.lines.join(),
     };
     let mut next = Next::Nothing;
     for _ in rt.forever() {
         next = match next {
-            Next::Nothing => shared.lines.next(),
+            Next::Nothing => shared.lines.next(rt, &mut worker.seat),
             Next::Over => break,
             Next::Listener => worker.let_in(),
             Next::Line(place, is_wet) => worker.visit(place, is_wet),
@@ -193,7 +197,7 @@ where
             if after != After::Again || !lines.crowd.are_few() {
                 return (after, Next::Nothing);
             }
-            match lines.next_now() {
+            match lines.next_now(&self.seat) {
                 Next::Nothing => is_wet = true,
                 next => return (after, next),
             }

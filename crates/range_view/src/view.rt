@@ -1,7 +1,7 @@
 //! What is kept, read at a place (the etcd documentation's RangeRequest and RangeResponse).
-ghost use Rattle.std.specs.Prelude.{◌≡◌, ◌&&◌, IfOk, IfErr, MatchOption, option_map, filter_map};
+ghost use Rattle.std.specs.Prelude.{◌≡◌, ◌&&◌, ◌<◌, IfOk, IfErr, MatchOption, option_map, filter_map};
 ghost use Rattle.std.specs.Prelude.{map, filter, length, nat_le, true, ⊤};
-ghost use Rattle.kv_model.specs.Keys.{in_range, one_key, same_key};
+ghost use Rattle.kv_model.specs.Keys.{in_range, key_lt, one_key, same_key};
 ghost use Rattle.kv_model.specs.History.{value_at, end_of};
 ghost use Rattle.kv_model.specs.Ranges.{range_reply, read_place, revision_refusal, live};
 ghost use Rattle.version_table.specs.Rising.{IsRising};
@@ -201,7 +201,9 @@ impl<'a> View<'a> {
     ///
     /// The time is logarithmic in the number of keys, and linear in the number that is given.
     pub fn nth_key(&self, range: &KeyRange, count: usize) -> Option<&'a Bytes>
-        ensures { MatchOption result ⊤ (λ k. in_range range.now k.now ≡ true) }
+        ensures within { MatchOption result ⊤ (λ k. in_range range.now k.now ≡ true) }
+        ensures above { MatchOption result ⊤ (λ k.
+            0 < count → key_lt range.now.key k.now ≡ true) }
     {
         self.index.nth_key(range, count)
     }

@@ -1,9 +1,9 @@
 //! A reader beside the writer.
-ghost use Rattle.std.specs.Prelude.{◌≡◌, suc, true, false, OnOk, OnErr, IfErr, IfOk, IfSome, MatchBool, MatchOption, ⊤};
+ghost use Rattle.std.specs.Prelude.{◌≡◌, ◌<◌, suc, true, false, OnOk, OnErr, IfErr, IfOk, IfSome, MatchBool, MatchOption, ⊤};
 ghost use mathlib.Core.List.{IsPrefix};
 ghost use Rattle.left_right.specs.Sides.{view};
 ghost use Rattle.kv_model.specs.declared.refusal.Refusal.TheVariants as refusal;
-ghost use Rattle.kv_model.specs.Keys.{in_range};
+ghost use Rattle.kv_model.specs.Keys.{in_range, key_lt};
 ghost use Rattle.store_laws.specs.Changes.{untrimmed};
 ghost use Rattle.event_book.specs.Events.{led_to};
 ghost use Rattle.event_book.specs.Rules.{IsShorter};
@@ -196,7 +196,9 @@ impl SnapReader {
     /// `range_view`'s [`View::nth_key`](range_view::View::nth_key), lent from the tables that the reader
     /// is within. Takes no memory.
     pub fn nth_key(&self, range: &KeyRange, count: usize) -> Option<&Bytes>
-        ensures { MatchOption result ⊤ (λ k. in_range range.now k.now ≡ true) }
+        ensures within { MatchOption result ⊤ (λ k. in_range range.now k.now ≡ true) }
+        ensures above { MatchOption result ⊤ (λ k.
+            0 < count → key_lt range.now.key k.now ≡ true) }
     {
         match &self.seat {
             Seat::In(reading) => reading.get().tables.view().nth_key(range, count),
