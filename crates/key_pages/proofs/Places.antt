@@ -63,6 +63,31 @@ module _ {X : Type 0} (k : List ℕ) where
   place (e ∷ es) r (suc (suc n)) a b =
       ap suc (place es r.1 (suc n) a b) ∙ sym (ap (λ t. cond t (suc (count_below k es)) zero) (below-first e es r.0 n a))
 
+  -- a key that stands behind another is above it
+  there-first : (e : List ℕ × X) (es : List (List ℕ × X)) → AllByRecursion (λ f. key_cmp e.0 f.0 ≡ Less) es → (n : ℕ)
+      → is_there k n es ≡ true → is_below k e ≡ true
+  there-first e [] a n h = cc
+  there-first e (f ∷ es) a zero h =
+      ap is_gt (turn-less e.0 k (subst (λ j. key_cmp e.0 j ≡ Less) (sym (same (key_cmp k f.0) refl h)) a.0))
+    where
+      same : (o : Ordering) → key_cmp k f.0 ≡ o → is_eq o ≡ true → k ≡ f.0
+      same Less g h = cc
+      same Equal g h = exact_bytes k f.0 g
+      same Greater g h = cc
+  there-first e (f ∷ es) a (suc n) h = there-first e es a.1 n h
+
+  -- where the key stands is its place
+  pub there-place : (es : List (List ℕ × X)) → IsAscending es → (n : ℕ) → is_there k n es ≡ true → n ≡ count_below k es
+  there-place [] r n h = cc
+  there-place (e ∷ es) r zero h = by (key_cmp k e.0) h
+    where
+      by : (o : Ordering) → is_eq o ≡ true → zero ≡ cond (is_gt o) (suc (count_below k es)) zero
+      by Less g = refl
+      by Equal g = refl
+      by Greater g = cc
+  there-place (e ∷ es) r (suc n) h =
+      ap suc (there-place es r.1 n h) ∙ sym (ap (λ t. cond t (suc (count_below k es)) zero) (there-first e es r.0 n h))
+
   pub found-place : (es : List (List ℕ × X)) → IsAscending es → found k es ≡ value_if k (slice_get es (count_below k es))
   found-place [] r = refl
   found-place (e ∷ es) r = by (key_cmp k e.0) refl (found-place es r.1)

@@ -102,14 +102,18 @@ impl<V> Page<V> {
         self.pairs.last()
     }
 
-    /// How many keys are below a key. It goes by the hints where they are right, which two looks at
-    /// keys tell, and else halves.
+    /// How many keys are below a key. It goes by the hints where they are right, which one look at a key
+    /// tells where it is there, and else two, and else halves.
     pub(crate) fn count_below(&self, key: &Bytes) -> usize
         requires { IsAscending self.now }
         ensures value { result ≡ count_below key.now self.now }
         ensures bound { result ≤ length self.now }
     {
-        let hint = self.hint(key);
+        let (low, high) = self.heads.bounds(key.as_slice());
+        if self.is_standing(low, key) {
+            return low;
+        }
+        let hint = self.hint(low, high, key);
         if self.is_place(hint, key) {
             hint
         } else {
@@ -117,9 +121,9 @@ impl<V> Page<V> {
         }
     }
 
-    /// Where a key has its place, as far as the hints tell: among keys of equal hints it halves.
-    fn hint(&self, key: &Bytes) -> usize {
-        let (low, high) = self.heads.bounds(key.as_slice());
+    /// Where a key has its place, as far as the hints tell: among the keys of equal hints, between these
+    /// indices, it halves.
+    fn hint(&self, low: usize, high: usize, key: &Bytes) -> usize {
         if low >= high {
             return low;
         }
@@ -127,6 +131,15 @@ impl<V> Page<V> {
             Some(pairs) => low.saturating_add(pairs.partition_point(|pair| is_below(key, pair))),
             None => low,
         }
+    }
+
+    /// Whether a key stands at an index: all before it are below it then.
+    fn is_standing(&self, index: usize, key: &Bytes) -> bool
+        requires { IsAscending self.now }
+        ensures place { IsTrue result → index ≡ count_below key.now self.now }
+        ensures bound { IsTrue result → index ≤ length self.now }
+    {
+        self.is_there(index, key)
     }
 
     /// Whether a key has its place at an index: the key before is below it, and the key there is not.
