@@ -9,6 +9,7 @@ ghost use Rattle.http_connections.specs.Engines.{SubmitsFirst, lost_answer};
 use crate::beside::looked;
 use crate::stopped_clock::StoppedClock;
 use engine_lock::{Asked, Client, EngineName, Submitted};
+use gateway_read::Reading;
 use http_input::Request;
 use http_loop::{Answering, Told, command_path};
 use http_peer::{Clock, Gate};
@@ -53,7 +54,8 @@ where
 
     /// Does the command that a request asks for, once the gate lets it, at the clock's moment.
     fn answer(&self, alloc: Global, state: &mut Client<L>, request: &Request<'_>) -> Outcome {
-        let submitted = self.begin(alloc, state, request);
+        let mut reading = Reading::new(alloc);
+        let submitted = self.begin(alloc, state, &mut reading, request);
         awaited(&self.events, state, submitted)
     }
 
@@ -88,11 +90,13 @@ where
     R: Wait + time::Clock,
 {
     /// Does the command that a request asks for, as [`Answering::answer`] does, but for the trimming
-    /// that its answer waits for, where its outcome says that it waits.
+    /// that its answer waits for, where its outcome says that it waits. What is kept from one body to the
+    /// next spares each its clearing.
     pub(crate) fn begin(
         &self,
         alloc: Global,
         client: &mut Client<L>,
+        reading: &mut Reading,
         request: &Request<'_>,
     ) -> Submitted
         ensures { AnswersFirst self.now.events.engine.now.ids L.recorded (C.Tells self.now.clock.now)
@@ -100,7 +104,7 @@ where
     {
         self.events.gate.before(self.call);
         let path = command_path(request);
-        match read(alloc, path, request.body) {
+        match reading.read(alloc, path, request.body) {
             Ok(command) => {
                 let now = self.clock.now();
                 let asked = Asked::by(&command, path, request.body);

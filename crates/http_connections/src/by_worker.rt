@@ -7,6 +7,7 @@ ghost use Rattle.http_connections.specs.Lines.{TrimsSome};
 use crate::by_engine::ByEngine;
 use crate::trimming::{Trimmed, trim_some};
 use engine_lock::{Client, EngineName};
+use gateway_read::Reading;
 use http_input::Request;
 use http_loop::{Answering, Told};
 use http_peer::{Clock, Gate};
@@ -24,6 +25,8 @@ pub struct Serving<L: EngineName> {
     pub handed: Option<u64>,
     /// The store's revision behind the last request.
     pub revision: u64,
+    /// What is kept from one body to the next.
+    reading: Reading,
 }
 
 impl<L: EngineName> Model for Serving<L> {
@@ -41,13 +44,14 @@ impl<L: EngineName> Model for Serving<L> {
 
 impl<L: EngineName> Serving<L> {
     /// Nothing goes on elsewhere yet.
-    pub fn new(client: Client<L>) -> Self
+    pub fn new(alloc: Global, client: Client<L>) -> Self
         ensures { result ≡ record { client = client; handed = None; revision = 0 } }
     {
         Serving {
             client,
             handed: None,
             revision: 0,
+            reading: Reading::new(alloc),
         }
     }
 
@@ -100,7 +104,10 @@ where
 
     /// The trimming that an outcome waits for is not done yet.
     fn answer(&self, alloc: Global, state: &mut Serving<L>, request: &Request<'_>) -> Outcome {
-        let submitted = self.by.begin(alloc, &mut state.client, request);
+        let Serving {
+            client, reading, ..
+        } = state;
+        let submitted = self.by.begin(alloc, client, reading, request);
         state.revision = submitted.revision;
         submitted.outcome
     }

@@ -73,7 +73,7 @@ where
         rt,
         alloc,
         shared,
-        serving: Serving::new(client),
+        serving: Serving::new(alloc, client),
         buffer: None,
         spare: Spare::new(alloc),
         seat: shared.lines.join(),

@@ -93,7 +93,7 @@ impl<L: EngineName> Served<L> {
         let other = engine.client(rt).ok()?;
         let known = other.known();
         Some(Served {
-            clients: [Serving::new(one), Serving::new(other)],
+            clients: [Serving::new(alloc, one), Serving::new(alloc, other)],
             buffer: ReplyBuffer::new(alloc).ok()?,
             input: Input::new(alloc).ok()?,
             life: Life::new(alloc, 1, known),
