@@ -22,13 +22,19 @@ use std::marker::Model;
 /// How many ranges are walked at most before all live keys are listed.
 const MOST_WALKS: usize = 64;
 
+/// How many ranges of more keys than `LONG`, live or not, are walked at most.
+const MOST_LONG_WALKS: usize = 8;
+
+/// See `MOST_LONG_WALKS`.
+const LONG: usize = 256;
+
 /// The live keys of a view, of which it is asked whether compares hold, and what Ranges show.
 #[derive(Drop)]
 pub struct LiveKeys<'a> {
     view: View<'a>,
     /// How many ranges were walked.
     walks: usize,
-    /// How many live keys these have.
+    /// How many live keys these have; a long range counts for an eighth of the versions at least.
     walked: usize,
     listed: Option<Listed<'a>>,
 }
@@ -63,8 +69,8 @@ impl<'a> LiveKeys<'a> {
     /// `AllocError` comes where a list of the keys of a range, or of all, or what is found about
     /// that, found no memory; no later answer is another for it.
     ///
-    /// One key is looked up. The first ranges are walked, up to 64 of them, and as long as those
-    /// walked have fewer live keys than versions are kept. Then all keys are walked once, and from
+    /// One key is looked up. The first ranges are walked, up to 64 of them, 8 of which have more
+    /// than 256 keys, and as long as those walked have fewer live keys than versions are kept. Then all keys are walked once, and from
     /// there on a range is found by two halvings, and its key-values are looked at one after
     /// another: up to 32 of them, or until that were eight times as many as live keys are. From
     /// there on each takes time logarithmic in the live keys, but the first of a field: that takes
@@ -137,8 +143,7 @@ impl<'a> LiveKeys<'a> {
         ensures same { self.new ≡ self.old }
     {
         let reply = self.range_of_view(alloc, query)?;
-        self.walks = self.walks.saturating_add(1);
-        self.walked = self.walked.saturating_add(reply.count as usize);
+        self.note_walk(&query.range, reply.count as usize);
         Ok(reply)
     }
 
@@ -201,6 +206,19 @@ impl<'a> LiveKeys<'a> {
         self.walks < MOST_WALKS && self.walked < self.view.count()
     }
 
+    /// A range was walked, of which so many keys are live. A long one of which few are, since they were
+    /// deleted, was walked all the same.
+    fn note_walk(&mut self, range: &KeyRange, live: usize)
+        ensures { self.new ≡ self.old }
+    {
+        let long = match self.view.nth_key(range, LONG) {
+            Some(_) => self.view.count() / MOST_LONG_WALKS,
+            None => 0,
+        };
+        self.walks = self.walks.saturating_add(1);
+        self.walked = self.walked.saturating_add(live.max(long));
+    }
+
     /// Whether a compare of one key holds.
     fn holds_of_one(&self, alloc: Global, compare: &Compare) -> Result<bool, AllocError>
         ensures { IfOk result (λ b. b ≡ txns.holds_of compare.now
@@ -216,9 +234,8 @@ impl<'a> LiveKeys<'a> {
             (live self.old.versions self.old.place compare.now.range)) }
         ensures same { self.new ≡ self.old }
     {
-        self.walks = self.walks.saturating_add(1);
         let kvs = self.view.live(alloc, &compare.range)?;
-        self.walked = self.walked.saturating_add(kvs.len());
+        self.note_walk(&compare.range, kvs.len());
         Ok(holds_of(compare, &kvs))
     }
 
@@ -263,8 +280,7 @@ impl<'a> LiveKeys<'a> {
         ensures same { self.new ≡ self.old }
     {
         let kvs = self.view.live(alloc, range)?;
-        self.walks = self.walks.saturating_add(1);
-        self.walked = self.walked.saturating_add(kvs.len());
+        self.note_walk(range, kvs.len());
         Ok(kvs)
     }
 

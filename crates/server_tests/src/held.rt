@@ -1,4 +1,4 @@
-//! Two connections of one server: the first is answered only when the second has been.
+//! Connections of one server that are answered only when the last has been: each holds a thread.
 ghost use Rattle.std.specs.Prelude.{◌≡◌, false};
 
 use crate::texts::{LAST_PUT, LAST_PUT_REPLIES, ONES, Still};
@@ -18,21 +18,22 @@ use std::{io, thread, time};
 /// How often the first connection looks whether the second was answered.
 const MOST_TURNS: u64 = 1_000_000;
 
-/// Holds the first connection's request back until the second's reply is written.
+/// Holds the requests of all connections but the last back until the last one's reply is written.
 #[derive(Drop)]
-struct SecondFirst<'x, R: time::Clock> {
+struct LastFirst<'x, R: time::Clock> {
     rt: &'x R,
-    second_answered: AtomicBool,
+    last: u64,
+    last_answered: AtomicBool,
     gave_up: AtomicBool,
 }
 
-impl<'x, R: time::Clock> Gate for SecondFirst<'x, R> {
+impl<'x, R: time::Clock> Gate for LastFirst<'x, R> {
     fn before(&self, call: u64) {
-        if call != 1 {
+        if call == self.last {
             return;
         }
         for _ in 0..MOST_TURNS {
-            if self.second_answered.load(Ordering::SeqCst) {
+            if self.last_answered.load(Ordering::SeqCst) {
                 return;
             }
             thread::sleep(self.rt, Duration::from_micros(10));
@@ -41,19 +42,20 @@ impl<'x, R: time::Clock> Gate for SecondFirst<'x, R> {
     }
 
     fn after(&self, call: u64) {
-        if call == 2 {
-            self.second_answered.store(true, Ordering::SeqCst);
+        if call == self.last {
+            self.last_answered.store(true, Ordering::SeqCst);
         }
     }
 }
 
-/// Serves two connections with two workers: whether the first was held until the second was
+/// Serves so many connections with as many workers: whether all others were held until the last was
 /// answered, and the revision of the core that is left.
 fn served<L: EngineName + Send + Sync, R: Wait + Threads + time::Clock + Net + Sync>(
     rt: &R,
     alloc: Global,
     opening: Opening,
     listener: &TcpListener,
+    count: u64,
 ) -> Option<(bool, u64)>
     requires name { opening.name ≡ L.Ledger.name }
     requires parts { opening.parts ≡ L.Ledger.parts }
@@ -62,12 +64,13 @@ fn served<L: EngineName + Send + Sync, R: Wait + Threads + time::Clock + Net + S
     requires ids { L.ListName.ids ≡ record { cluster = 1; member = 1 } }
 {
     let engine = Engine::<L>::new(alloc, opening, ONES);
-    let gate = SecondFirst {
+    let gate = LastFirst {
         rt,
-        second_answered: AtomicBool::new(false),
+        last: count,
+        last_answered: AtomicBool::new(false),
         gave_up: AtomicBool::new(false),
     };
-    let ended = pool(rt, alloc, engine, &gate, &Still, listener, 2, 2);
+    let ended = pool(rt, alloc, engine, &gate, &Still, listener, count, count);
     let held = !gate.gave_up.load(Ordering::SeqCst);
     match ended {
         Ok(core) => Some((held, core.status().revision)),
@@ -79,9 +82,10 @@ fn run_served<R: Wait + Threads + time::Clock + Net + Sync>(
     rt: &R,
     alloc: Global,
     listener: &TcpListener,
+    count: u64,
 ) -> Option<(bool, u64)> {
     let opening = Opening::new(alloc, rt).ok()?;
-    served::<Brand, R>(rt, alloc, opening, listener)
+    served::<Brand, R>(rt, alloc, opening, listener, count)
 }
 
 /// Both clients have written a request before the server accepts. One worker that served all
@@ -95,8 +99,30 @@ fn gate_two_connections(rt: HostRuntime) -> Result<(), Fail> {
     let (mut first, mut second) = (&first, &second);
     first.write_all(LAST_PUT)?;
     second.write_all(LAST_PUT)?;
-    assert_eq!(rt; run_served(&rt, alloc, &listener), Some((true, 3)));
+    assert_eq!(rt; run_served(&rt, alloc, &listener, 2), Some((true, 3)));
     assert!(rt; io::read_to_string(alloc, first)?.as_str() == LAST_PUT_REPLIES[1]);
     assert!(rt; io::read_to_string(alloc, second)?.as_str() == LAST_PUT_REPLIES[0]);
+    Ok(())
+}
+
+/// Of eight threads no more than have a core look out for connections; seven of them are held, and the
+/// eighth connection is answered all the same. A server whose threads that stand by never look would
+/// hold it for ever, on fewer than eight cores.
+#[test]
+fn gate_eight_connections(rt: HostRuntime) -> Result<(), Fail> {
+    let alloc = rt.alloc();
+    let listener = TcpListener::bind(&rt, "127.0.0.1:0")?;
+    let mut streams = Vec::new(alloc);
+    for _ in 0..8 {
+        let stream = TcpStream::connect(&rt, listener.local_addr()?)?;
+        let mut writer = &stream;
+        writer.write_all(LAST_PUT)?;
+        streams.push(stream)?;
+    }
+    assert_eq!(rt; run_served(&rt, alloc, &listener, 8), Some((true, 9)));
+    let Some(last) = streams.pop() else {
+        return Ok(());
+    };
+    assert!(rt; io::read_to_string(alloc, &last)?.as_str() == LAST_PUT_REPLIES[0]);
     Ok(())
 }
