@@ -4,7 +4,8 @@ use std::sync::atomic::{AtomicU64, Ordering};
 use std::sync::{Mutex, Wait};
 use std::time::Duration;
 
-/// How often it is looked whether a thread has been at one visit for long, in milliseconds.
+/// How often it is looked whether a thread is still at the visit that it was at, in milliseconds. A
+/// thread that the system gave no core for a while is taken for one, so this is longer than that.
 const LOOK: u64 = 5;
 
 /// After so many looks that found a thread that waits, it is looked no more until none does.
@@ -53,12 +54,15 @@ pub(crate) struct Seat {
     visits: u64,
 }
 
-/// The threads that serve connections. So many look out for connections that are ready as have a core
-/// each; the others stand by. One that has been at one visit for a millisecond or two is not counted, so
-/// that a long Range, a transaction or a gate holds no more than the thread that does it.
+/// The threads that serve connections. So many of them look out for connections that are ready as have a
+/// core each; the others stand by. One that has been at one visit for five milliseconds is not counted,
+/// and another takes its place: so a long Range, a transaction or a gate holds no more than the thread
+/// that does it, and a connection waits for some milliseconds at most while another thread stands by.
 ///
 /// More threads than cores take each other's core away, and that of the one that has the engine's lock:
 /// over HTTP, on four cores, a Put takes three threads 0.8 of the processor time that it takes eight.
+///
+/// Which threads these are no clause says, nor which thread is told of a connection.
 #[derive(Drop)]
 pub(crate) struct Crew {
     /// How many look out at once.

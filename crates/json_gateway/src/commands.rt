@@ -20,8 +20,8 @@ ghost use Rattle.json_gateway.specs.Endings.{answered, is_physical, is_want, una
 ghost use Rattle.json_gateway.specs.Outcomes.{IsBare, is_accepted, wire_response};
 
 use crate::outcome::{Outcome, Reply, ReplyBody, Settled};
+use gateway_read::Reading;
 use gateway_read::bad::Bad;
-use gateway_read::read;
 use gateway_text::{
     Wording, created_text, delete_text, granted_text, leases_text, put_text, range_text,
     refusal_text, refusal_wording, renewed_text, revoked_text, time_left_text, txn_text,
@@ -134,7 +134,32 @@ pub fn post(alloc: Global, core: &mut Core, path: &[u8], body: &[u8], ids: &Ids)
     ensures waits { (w : World) → StandsFor core.old.store w → is_accepted result.settled ≡ true
         → result.waits ≡ is_physical_call w (request_of path.now body.now) }
 {
-    match read(alloc, path, body) {
+    post_by(alloc, &mut Reading::new(alloc), core, path, body, ids)
+}
+
+/// The same, by what is kept from one body to the next.
+pub(crate) fn post_by(
+    alloc: Global,
+    reading: &mut Reading,
+    core: &mut Core,
+    path: &[u8],
+    body: &[u8],
+    ids: &Ids,
+) -> Outcome
+    ensures ends { (w : World) → StandsFor core.old.store w → Ends result core.old core.new w
+        (reply_to ids.now w path.now body.now).0 (reply_to ids.now w path.now body.now).1
+        (λ l. IsChangeBy w l (request_of path.now body.now)) }
+    ensures unchanged { is_accepted result.settled ≡ false → core.new ≡ core.old }
+    ensures bare { IsBare result }
+    ensures counted { (w : World) → StandsFor core.old.store w → is_accepted result.settled ≡ true
+        → IsCounted (is_change_by w (request_of path.now body.now)) core.old core.new }
+    ensures keeps { (w : World) → StandsFor core.old.store w → KeepsAs result.settled
+        core.old core.new w (reply_to ids.now w path.now body.now).1 }
+    ensures ready { is_accepted result.settled ≡ false → result.waits ≡ false }
+    ensures waits { (w : World) → StandsFor core.old.store w → is_accepted result.settled ≡ true
+        → result.waits ≡ is_physical_call w (request_of path.now body.now) }
+{
+    match reading.read(alloc, path, body) {
         Ok(command) => perform(alloc, core, &command, ids),
         Err(bad) => Outcome {
             settled: dismissed(alloc, bad),

@@ -13,9 +13,10 @@ ghost use Rattle.trim_core.specs.Told.{told_of};
 ghost use Rattle.kv_model.specs.World.{World};
 
 use crate::certifying::{certified, trimmed};
-use crate::commands::post;
+use crate::commands::post_by;
 use crate::messages::message;
 use crate::outcome::{Certified, Message, Outcome, Trimmed};
+use gateway_read::Reading;
 use kv_model::ids::Ids;
 use kv_model::refusal::Refusal;
 use range_view::tables::Trim;
@@ -100,22 +101,29 @@ pub fn run_wire(alloc: Global, events: &[WireEvent<'_>], ids: &Ids) -> Result<Wi
 {
     let mut outcomes = Vec::with_capacity(alloc, events.len())?;
     let mut core = Core::new(alloc);
+    let mut reading = Reading::new(alloc);
     for event in events {
-        let outcome = step(alloc, &mut core, event, ids);
+        let outcome = step(alloc, &mut reading, &mut core, event, ids);
         outcomes.push(outcome).unwrap();
     }
     Ok(WireRun { outcomes })
 }
 
 /// One event on a core.
-fn step(alloc: Global, core: &mut Core, event: &WireEvent<'_>, ids: &Ids) -> WireOutcome
+fn step(
+    alloc: Global,
+    reading: &mut Reading,
+    core: &mut Core,
+    event: &WireEvent<'_>,
+    ids: &Ids,
+) -> WireOutcome
     ensures bare { IsBareIn result }
     ensures steps { (w : World) → StandsFor core.old.store w
         → Steps ids.now w (event_view event.now) (outcome_view result) core.old core.new }
 {
     match event {
         WireEvent::Moment(now) => WireOutcome::Clock(core.moment(*now)),
-        WireEvent::Post { path, body } => step_post(alloc, core, path, body, ids),
+        WireEvent::Post { path, body } => step_post(alloc, reading, core, path, body, ids),
         WireEvent::Expire => step_expire(core),
         WireEvent::Deliver(number) => step_deliver(alloc, core, *number, ids),
         WireEvent::Close(number) => step_close(core, *number),
@@ -125,12 +133,19 @@ fn step(alloc: Global, core: &mut Core, event: &WireEvent<'_>, ids: &Ids) -> Wir
 }
 
 /// A request on a core, as an event of a run.
-fn step_post(alloc: Global, core: &mut Core, path: &[u8], body: &[u8], ids: &Ids) -> WireOutcome
+fn step_post(
+    alloc: Global,
+    reading: &mut Reading,
+    core: &mut Core,
+    path: &[u8],
+    body: &[u8],
+    ids: &Ids,
+) -> WireOutcome
     ensures bare { IsBareIn result }
     ensures steps { (w : World) → StandsFor core.old.store w
         → Steps ids.now w (model_post path.now body.now) (outcome_view result) core.old core.new }
 {
-    WireOutcome::Posted(post_and_trim(alloc, core, path, body, ids))
+    WireOutcome::Posted(post_and_trim_by(alloc, reading, core, path, body, ids))
 }
 
 /// Does what a request asks on a core, as [`post`] does, and makes the trimming steps that its
@@ -141,7 +156,23 @@ pub fn post_and_trim(alloc: Global, core: &mut Core, path: &[u8], body: &[u8], i
     ensures steps { (w : World) → StandsFor core.old.store w
         → Steps ids.now w (model_post path.now body.now) (command_view result) core.old core.new }
 {
-    let outcome = post(alloc, core, path, body, ids);
+    post_and_trim_by(alloc, &mut Reading::new(alloc), core, path, body, ids)
+}
+
+/// The same, by what is kept from one body to the next.
+fn post_and_trim_by(
+    alloc: Global,
+    reading: &mut Reading,
+    core: &mut Core,
+    path: &[u8],
+    body: &[u8],
+    ids: &Ids,
+) -> Outcome
+    ensures bare { IsBare result }
+    ensures steps { (w : World) → StandsFor core.old.store w
+        → Steps ids.now w (model_post path.now body.now) (command_view result) core.old core.new }
+{
+    let outcome = post_by(alloc, reading, core, path, body, ids);
     trim_where(core, outcome.waits);
     outcome
 }

@@ -4,7 +4,7 @@ use Rattle.kv_model.specs.Requests.{Bad}
 use Rattle.kv_model.specs.Wire.{post_call}
 use Rattle.json_gateway.specs.Endings.{KeepsAs, fault_of_reading}
 use Rattle.json_gateway.proofs.Keeps.{dismissed_keeps}
-use Rattle.json_gateway.proofs.commands.post.Goals as goal
+use Rattle.json_gateway.proofs.commands.post_by.Goals as goal
 
 pub returns-in-Ok-clause-keeps : goal.returns-in-Ok-clause-keeps
 returns-in-Ok-clause-keeps c = λ w h.
