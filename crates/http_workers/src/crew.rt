@@ -249,7 +249,7 @@ impl Crew {
 
     /// Counts the threads that have been at one visit since the last look. Says whether any waits.
     fn count_held(&self, seen: &mut Seen) -> bool {
-        let mut held = 0;
+        let mut held = 0u64;
         let mut waiting = false;
         for (place, last) in self.places.iter().zip(seen.words.iter_mut()) {
             let word = place.word.load(Ordering::SeqCst);
@@ -257,7 +257,7 @@ impl Crew {
                 waiting = true;
             }
             if word & ABOUT == VISITS && word == *last {
-                held += 1;
+                held = held.saturating_add(1);
             }
             *last = word;
         }
