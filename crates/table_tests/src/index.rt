@@ -72,6 +72,20 @@ fn shown(index: &KeyIndex, from: &'static [u8], end: &'static [u8]) -> Option<Fo
     found
 }
 
+/// The first letter of the key of a range before which so many of its keys stand.
+fn nth(index: &KeyIndex, from: &'static [u8], end: &'static [u8], count: usize) -> Option<u8> {
+    let range = KeyRange {
+        key: Bytes::from_static(from),
+        end: Bytes::from_static(end),
+    };
+    let found = match index.nth_key(&range, count) {
+        Some(key) => key.as_slice().first().copied(),
+        None => None,
+    };
+    drop(range);
+    found
+}
+
 /// How many revisions of a key are of an earlier main revision, and the first that is not.
 type From = Option<(usize, Option<(u64, u64)>)>;
 
@@ -130,6 +144,8 @@ enum Row {
     /// The keys from one to another.
     In(&'static [u8], &'static [u8], Found),
     From(&'static [u8], u64, From),
+    /// The key from one to another before which so many stand.
+    Nth(&'static [u8], &'static [u8], usize, Option<u8>),
     Retract(u64),
     DropFront(&'static [u8]),
     Remove(&'static [u8], u64, u64),
@@ -149,6 +165,7 @@ fn is_so(index: &mut KeyIndex, row: Row) -> bool {
         Row::After(key, main, sub, expected) => after(index, key, Rev { main, sub }) == expected,
         Row::In(key, end, expected) => shown(index, key, end) == Some(expected),
         Row::From(key, main, expected) => from(index, key, main) == expected,
+        Row::Nth(key, end, count, expected) => nth(index, key, end, count) == expected,
         Row::Retract(main) => {
             retract(index, main);
             true
@@ -226,6 +243,23 @@ static RANGES: [Row; 7] = [
 #[test]
 fn walks_the_four_kinds_of_range(rt: HostRuntime) {
     assert_eq!(rt; first_wrong_of_three(rt.alloc(), RANGES.as_slice()), None);
+}
+
+static CUT: [Row; 9] = [
+    Row::Nth(b"\0", b"\0", 0, Some(97)),
+    Row::Nth(b"\0", b"\0", 2, Some(99)),
+    Row::Nth(b"\0", b"\0", 3, None),
+    Row::Nth(b"b", b"\0", 1, Some(99)),
+    Row::Nth(b"a", b"c", 1, Some(98)),
+    Row::Nth(b"a", b"c", 2, None),
+    Row::Nth(b"aa", b"c", 0, Some(98)),
+    Row::Nth(b"b", b"a", 0, None),
+    Row::Nth(b"a", b"", 0, None),
+];
+
+#[test]
+fn cuts_a_range_at_a_key(rt: HostRuntime) {
+    assert_eq!(rt; first_wrong_of_three(rt.alloc(), CUT.as_slice()), None);
 }
 
 static TAKEN_OUT: [Row; 12] = [
