@@ -36,6 +36,6 @@ mod unsent;
 pub use door::{Door, MOST_CONNECTIONS};
 pub use gate::{Clock, Gate, OpenGate, Takes};
 pub use peer::{Coming, Going};
-pub use set::{Ready, Set, Wish, open_listener};
+pub use set::{Ready, Set, Sign, Wish, open_listener};
 pub use socket::{Socket, open_peer};
 pub use unsent::Unsent;

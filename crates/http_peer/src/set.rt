@@ -12,16 +12,20 @@ use std::os::fd::{AsRawFd, RawFd};
 pub enum Wish {
     /// That something can be read, or that its client has ended.
     Read,
+    /// The same, each time that something comes or the client ends, until something else is asked for.
+    Coming,
     /// That something can be written.
     Write,
     /// One of the two.
     Either,
 }
 
-/// What the system is asked for by a wish: once, so that one thread alone is told.
+/// What the system is asked for by a wish: once, so that one thread alone is told; but for what comes,
+/// each time that some does.
 fn asked(wish: Wish) -> u32 {
     match wish {
         Wish::Read => c::EPOLLIN | c::EPOLLRDHUP | c::EPOLLONESHOT,
+        Wish::Coming => c::EPOLLIN | c::EPOLLRDHUP | c::EPOLLET,
         Wish::Write => c::EPOLLOUT | c::EPOLLONESHOT,
         Wish::Either => c::EPOLLIN | c::EPOLLRDHUP | c::EPOLLOUT | c::EPOLLONESHOT,
     }
@@ -30,6 +34,9 @@ fn asked(wish: Wish) -> u32 {
 /// Sockets that any number of threads wait for at once. Each has a name. A socket that was asked for
 /// is told once, to one of the threads, as soon as its wish is met, also where it is met already; then
 /// it is not told before it is asked for again. No name is 2^64 - 1. One of which the connection is broken meets any wish.
+/// One that was asked for by [`Wish::Coming`] is told again without being asked for, each time that more comes or its
+/// client ends, maybe to another thread while the first is still at it: whoever has read all that there was waits for
+/// the next. That a client has ended is told with what came before, and not once more.
 ///
 /// What is in the set, and what it tells, no clause says: the system has it.
 #[derive(Drop)]
@@ -51,8 +58,30 @@ pub enum Ready {
     Nothing,
     /// The set has ended.
     Over,
-    /// The socket of this name: whether something can be read, or its client has ended.
-    Socket(u64, bool),
+    /// The socket of this name, and what of it.
+    Socket(u64, Sign),
+}
+
+/// What is known of a socket that is ready.
+#[derive(Clone, Copy, Debug, PartialEq, Eq)]
+pub enum Sign {
+    /// Something can be written, and that alone was seen.
+    Room,
+    /// Something can be read.
+    Bytes,
+    /// Its client has ended, or the connection is broken; something may be there to be read, too.
+    End,
+}
+
+/// What of a socket the system has told.
+fn sign_of(events: u32) -> Sign {
+    if events & !(c::EPOLLOUT | c::EPOLLIN) != 0 {
+        Sign::End
+    } else if events & c::EPOLLIN != 0 {
+        Sign::Bytes
+    } else {
+        Sign::Room
+    }
 }
 
 impl Set {
@@ -115,7 +144,7 @@ impl Set {
         }
         match ready[0].data {
             OVER => Ready::Over,
-            name => Ready::Socket(name, ready[0].events & !c::EPOLLOUT != 0),
+            name => Ready::Socket(name, sign_of(ready[0].events)),
         }
     }
 }

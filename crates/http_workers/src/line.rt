@@ -20,6 +20,9 @@ pub(crate) struct Line<L: EngineName> {
     pub(crate) life: Life<L>,
     /// How often it was looked at since a byte came or went.
     looks: u32,
+    /// Whether a thread is told of what comes without being asked to, and nothing was told of it that
+    /// would not be told again.
+    pub(crate) is_awaited: bool,
 }
 
 impl<L: EngineName> Line<L> {
@@ -30,6 +33,7 @@ impl<L: EngineName> Line<L> {
             input: None,
             life: Life::new(alloc, call, known),
             looks: 0,
+            is_awaited: false,
         }
     }
 

@@ -4,7 +4,7 @@ use crate::line::Line;
 use crate::slots::{Ages, Slots};
 use engine_lock::EngineName;
 use http_connections::Crowd;
-use http_peer::{Ready, Set, Wish, open_listener};
+use http_peer::{Ready, Set, Sign, Wish, open_listener};
 use http_streams::Looked;
 use std::alloc::Global;
 use std::io;
@@ -39,8 +39,8 @@ pub(crate) enum Next {
     Over,
     /// To let a connection in.
     Listener,
-    /// To give the connection at this place its turns: whether something can be read.
-    Line(usize, bool),
+    /// To give the connection at this place its turns, and what is known of its socket.
+    Line(usize, Sign),
 }
 
 /// The connections that stand, the set by which threads wait for them, and how many there are. Each is
@@ -119,8 +119,8 @@ impl<L: EngineName> Lines<L> {
             Ready::Nothing => Next::Nothing,
             Ready::Over => Next::Over,
             Ready::Socket(LISTENER, _) => Next::Listener,
-            Ready::Socket(name, is_wet) => match usize::try_from(name) {
-                Ok(place) => Next::Line(place, is_wet),
+            Ready::Socket(name, sign) => match usize::try_from(name) {
+                Ok(place) => Next::Line(place, sign),
                 Err(_) => Next::Nothing,
             },
         }
@@ -189,7 +189,7 @@ impl<L: EngineName> Lines<L> {
         if !self.slots.has_room(rt, alloc, place) {
             return Some(line);
         }
-        self.stand(rt, place, line, Wish::Read, true)
+        self.stand(rt, place, line, Wish::Coming, true)
     }
 
     /// Puts a connection at its place again, and asks for it. Hands it back where the system refuses.
@@ -204,7 +204,8 @@ impl<L: EngineName> Lines<L> {
     }
 
     /// Puts a connection at its place before it is asked for, since another thread may have it as soon
-    /// as it is; `is_new` says that its socket is not in the set yet.
+    /// as it is; `is_new` says that its socket is not in the set yet. One of which what comes is told
+    /// anyway is not asked for, unless somebody was told of it meanwhile.
     fn stand<R: Wait>(
         &self,
         rt: &R,
@@ -216,10 +217,20 @@ impl<L: EngineName> Lines<L> {
         let Ok(socket) = RawFd::try_from(place) else {
             return Some(line);
         };
+        let mut line = line;
+        let is_told = line.is_awaited && wish == Wish::Coming;
+        line.is_awaited = wish == Wish::Coming;
         if let Some(line) = self.slots.put(rt, place, line) {
             return Some(line);
         }
         let name = place as u64;
+        let has_news = self.slots.take_news(place);
+        if is_told {
+            if has_news {
+                let _ = self.set.ask(socket, name, wish);
+            }
+            return None;
+        }
         let is_asked = if is_new {
             self.set.add(socket, name, wish)
         } else {

@@ -2,6 +2,7 @@
 use crate::line::Line;
 use engine_lock::EngineName;
 use std::alloc::{AllocError, Global};
+use std::sync::atomic::{AtomicBool, Ordering};
 use std::sync::{Mutex, OnceLock, Wait};
 
 /// How many places a page has.
@@ -10,10 +11,19 @@ const PAGE: usize = 1024;
 /// How many pages there are at most.
 const PAGES: usize = 1024;
 
+/// A place.
+#[derive(Drop)]
+struct Place<L: EngineName> {
+    /// The connection that stands there.
+    line: Mutex<Option<Box<Line<L>>>>,
+    /// Whether a thread that was told of the connection did not find it there.
+    news: AtomicBool,
+}
+
 /// Some places.
 #[derive(Drop)]
 struct Page<L: EngineName> {
-    places: Vec<Mutex<Option<Box<Line<L>>>>>,
+    places: Vec<Place<L>>,
 }
 
 impl<L: EngineName> Page<L> {
@@ -21,7 +31,10 @@ impl<L: EngineName> Page<L> {
     fn new(alloc: Global) -> Result<Page<L>, AllocError> {
         let mut places = Vec::with_capacity(alloc, PAGE)?;
         for _ in 0..PAGE {
-            places.push(Mutex::new(None))?;
+            places.push(Place {
+                line: Mutex::new(None),
+                news: AtomicBool::new(false),
+            })?;
         }
         Ok(Page { places })
     }
@@ -63,7 +76,7 @@ impl<L: EngineName> Slots<L> {
     }
 
     /// The place of a number, if there is one.
-    fn at(&self, place: usize) -> Option<&Mutex<Option<Box<Line<L>>>>> {
+    fn at(&self, place: usize) -> Option<&Place<L>> {
         let page = self.pages.get(place / PAGE)?.get()?;
         page.places.get(place % PAGE)
     }
@@ -78,14 +91,29 @@ impl<L: EngineName> Slots<L> {
         let Some(slot) = self.at(place) else {
             return Some(line);
         };
-        let mut slot = slot.lock(rt);
+        let mut slot = slot.line.lock(rt);
         *slot = Some(line);
         None
     }
 
-    /// The connection that stands at a place, if one does; none does there then.
+    /// The connection that stands at a place, if one does; none does there then. Where none does, whoever
+    /// puts it back is told that somebody looked.
     pub(crate) fn take<R: Wait>(&self, rt: &R, place: usize) -> Option<Box<Line<L>>> {
-        self.at(place)?.lock(rt).take()
+        let slot = self.at(place)?;
+        if let Some(line) = slot.line.lock(rt).take() {
+            return Some(line);
+        }
+        slot.news.store(true, Ordering::SeqCst);
+        slot.line.lock(rt).take()
+    }
+
+    /// Whether somebody looked for the connection at a place and did not find it, since this was asked
+    /// last. Who puts it back asks this behind that.
+    pub(crate) fn take_news(&self, place: usize) -> bool {
+        match self.at(place) {
+            Some(slot) => slot.news.swap(false, Ordering::SeqCst),
+            None => false,
+        }
     }
 
     /// Ages each connection that stands at its place.
@@ -93,7 +121,7 @@ impl<L: EngineName> Slots<L> {
         for page in self.pages.iter() {
             if let Some(page) = page.get() {
                 for slot in page.places.iter() {
-                    if let Some(line) = slot.lock(rt).as_mut() {
+                    if let Some(line) = slot.line.lock(rt).as_mut() {
                         line.age(ages);
                     }
                 }

@@ -11,7 +11,7 @@ use crate::spare::Spare;
 use engine_lock::{Client, EngineName};
 use http_connections::{After, ByEngine, ByWorker, Serving, Stage, Turning, Wire};
 use http_input::Input;
-use http_peer::{Clock, Gate, Socket, Wish, open_peer};
+use http_peer::{Clock, Gate, Sign, Socket, Wish, open_peer};
 use http_reply::ReplyBuffer;
 use http_streams::{Handed, Waking};
 use recorded_engine::Recorded;
@@ -84,7 +84,7 @@ where
             Next::Nothing => shared.lines.next(rt, &mut worker.seat),
             Next::Over => break,
             Next::Listener => worker.let_in(),
-            Next::Line(place, is_wet) => worker.visit(place, is_wet),
+            Next::Line(place, sign) => worker.visit(place, sign),
         };
     }
     let Worker { serving, .. } = worker;
@@ -163,15 +163,18 @@ where
 
     /// Takes the connection at a place, gives it its turns, and asks for it again. None is there where
     /// another thread had it first, which asks for it behind its turns. Gives what is to be done next.
-    fn visit(&mut self, place: usize, is_wet: bool) -> Next {
+    fn visit(&mut self, place: usize, sign: Sign) -> Next {
         let lines = &self.shared.lines;
         let Some(line) = lines.take(self.rt, place) else {
             return Next::Nothing;
         };
         let mut line = line;
-        let (after, next) = self.stay(&mut line, is_wet);
+        if sign == Sign::End {
+            line.is_awaited = false;
+        }
+        let (after, next) = self.stay(&mut line, sign != Sign::Room);
         let left = match after {
-            After::Reads => lines.ask(self.rt, line, Wish::Read),
+            After::Reads => lines.ask(self.rt, line, Wish::Coming),
             After::Writes => lines.ask(self.rt, line, Wish::Write),
             After::Again => lines.ask(self.rt, line, Wish::Either),
             After::Away(number) => {
