@@ -105,7 +105,9 @@ where
     /// The trimming that an outcome waits for is not done yet.
     fn answer(&self, alloc: Global, state: &mut Serving<L>, request: &Request<'_>) -> Outcome {
         let Serving {
-            client, reading, ..
+            client,
+            reading,
+            ..
         } = state;
         let submitted = self.by.begin(alloc, client, reading, request);
         state.revision = submitted.revision;

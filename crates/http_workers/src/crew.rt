@@ -232,9 +232,7 @@ impl Crew {
     /// Looks what the threads do, and takes a place where fewer look out than may. Says whether it did.
     fn look(&self, seen: &mut Seen) -> bool {
         let waiting = self.count_held(seen);
-        let most = self
-            .most
-            .saturating_add(self.held.load(Ordering::SeqCst));
+        let most = self.most.saturating_add(self.held.load(Ordering::SeqCst));
         let is_short = self.seated.load(Ordering::SeqCst) < most;
         if is_short {
             self.seated.fetch_add(1, Ordering::SeqCst);

@@ -61,7 +61,8 @@ pub struct Lines<L: EngineName> {
 }
 
 impl<L: EngineName> Lines<L> {
-    /// No connection has come in at a listener, which waits for nothing from then on. Fails where the
+    /// No connection has come in at a listener, which waits for nothing from then on. So many threads are to
+    /// serve them, of which at most `most` look out at once, those not counted that are held. Fails where the
     /// system has no more files, or for want of memory.
     pub fn new<R: Net>(
         rt: &R,
@@ -192,7 +193,8 @@ impl<L: EngineName> Lines<L> {
         self.stand(rt, place, line, Wish::Coming, true)
     }
 
-    /// Puts a connection at its place again, and asks for it. Hands it back where the system refuses.
+    /// Puts a connection at its place again, and asks for it, where that is not done already. Hands it back
+    /// where the system refuses.
     pub(crate) fn ask<R: Wait>(
         &self,
         rt: &R,
