@@ -99,8 +99,8 @@ impl<L: EngineName> Lines<L> {
         self.crew.join()
     }
 
-    /// Waits until something is ready, or stands by until there is something to wait for. One thread
-    /// alone is told of a connection.
+    /// Waits until something is ready, or stands by until there is something to wait for. Of what comes on a
+    /// connection that a thread has another may be told, which leaves word at its place.
     pub(crate) fn next<R: Wait>(&self, rt: &R, seat: &mut Seat) -> Next {
         self.crew.wait(rt, seat);
         let ready = self.set.next();
