@@ -1,33 +1,27 @@
 -- What stands under the lock goes on fitting as an event is entered.
-use Rattle.std.proofs.Common.{◌≡◌, ℕ, List, [], ◌∷◌, ◌++◌, fold, refl, sym, ◌∙◌, ap, subst}
+use Rattle.std.proofs.Common.{◌≡◌, List, [], ◌∷◌, ◌++◌, fold, sym, ◌∙◌, ap, subst}
 use Rattle.std.proofs.lemmas.List.Sums.{fold-append}
 use Rattle.kv_model.specs.declared.ids.Ids.{Ids}
 use Rattle.kv_model.specs.Feed.{Published}
-use Rattle.kv_model.specs.History as history
 use Rattle.kv_model.specs.Questions.{IsGood}
 use Rattle.kv_model.specs.World.{World, opening}
 use Rattle.store_laws.specs.Snapshots.{Stored, absorb, blank, store_of}
 use Rattle.store_laws.specs.Stands.{StandsFor}
 use Rattle.request_core.specs.State.{CoreState, tables_of}
-use Rattle.logbook.specs.Pages.{Book}
 use Rattle.snapshot_feed.specs.Showing.{IsShown}
-use Rattle.snapshot_feed.specs.States.{FeedState, appended, unused}
 use Rattle.event_book.specs.Events.{Answers, Entry, after, clocked, led_to}
 use Rattle.event_book.specs.Publishing.{change_by, published_by}
 use Rattle.event_book.proofs.Publishing.{published_more}
 use Rattle.engine_lock.specs.Fits.{Fits, MakesOn}
 
 -- a new core, and a feed to which nothing was appended
-pub fits_first : (s : CoreState) (log : List Entry) (f : FeedState) (b : Book) → StandsFor s.store opening → tables_of s ≡ blank → log ≡ []
-    → f ≡ unused b → Fits s log (appended f)
-fits_first s log f b h e none new = record {
+pub fits_first : (s : CoreState) (log : List Entry) (fed : List Published) → StandsFor s.store opening → tables_of s ≡ blank → log ≡ []
+    → fed ≡ [] → Fits s log fed
+fits_first s log fed h e none nothing = record {
   stands = subst (λ (l : List Entry). StandsFor s.store (led_to l)) (sym none) h;
   told = nothing ∙ sym (ap published_by none);
   stored = ap store_of nothing ∙ sym e;
 }
-  where
-    nothing : appended f ≡ []
-    nothing = ap appended new
 
 -- readers may be shown the list
 pub fits_shown : (s : CoreState) (log : List Entry) (fed : List Published) → Fits s log fed → IsShown log

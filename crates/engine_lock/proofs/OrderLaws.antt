@@ -1,5 +1,5 @@
 -- A step of expiry that was submitted is an event of a run, made at its moment.
-use Rattle.std.proofs.Common.{◌≡◌, ℕ, Bool, true, false, cond, Ok, Err, refl, sym, ◌∙◌, ap, subst}
+use Rattle.std.proofs.Common.{◌≡◌, ℕ, Bool, true, false, cond, Ok, Err, sym, ap, subst}
 use Rattle.kv_model.specs.declared.ids.Ids.{Ids}
 use Rattle.kv_model.specs.declared.refusal.Refusal.{Refusal}
 use Rattle.kv_model.specs.Follows.Outcome.{memory, said}

@@ -1,12 +1,12 @@
 -- By how much an event raises the revision, as its outcome tells it.
-use Rattle.std.proofs.Common.{◌≡◌, ◌≤◌, ◌+◌, ◌==◌, ℕ, Bool, true, false, cond, List, [], ◌∷◌, length, Option, None, Some, Result, Ok, Err, refl, sym, ◌∙◌, ap, arith}
+use Rattle.std.proofs.Common.{◌≡◌, ◌≤◌, ◌+◌, ◌==◌, ℕ, Bool, true, false, cond, List, [], ◌∷◌, length, Option, None, Result, Ok, Err, refl, sym, ◌∙◌, ap, arith}
 use Rattle.std.specs.Prelude.{is_some}
 use Rattle.kv_model.specs.declared.ids.Ids.{Ids}
 use Rattle.kv_model.specs.declared.refusal.Refusal.{Refusal}
 use Rattle.kv_model.specs.Commands.{call_of}
 use Rattle.kv_model.specs.Calls.{Call}
 use Rattle.kv_model.specs.Follows.Outcome.{lost, memory, said}
-use Rattle.kv_model.specs.Step.{Made, expire, made_in, perform, world_of}
+use Rattle.kv_model.specs.Step.{Made, made_in, world_of}
 use Rattle.kv_model.specs.Told as told
 use Rattle.kv_model.specs.Wire.{IsChange, Loss, WireOutcome, WireTold, raised}
 use Rattle.kv_model.specs.World.{World, at_moment, opening}

@@ -1,6 +1,6 @@
 -- What the steps of the core and of the feed come to as events.
-use Rattle.std.proofs.Common.{◌≡◌, ◌==◌, ℕ, Bool, true, false, cond, List, [], ◌∷◌, ◌++◌, fold, Option, None, Some, Result, Ok, Err, refl, sym, ◌∙◌, ap, subst, append_assoc, arith, length}
-use Rattle.std.specs.Prelude.{IfOk, IfErr, OnOk, OnErr, MatchBool, is_ok, is_some, ⊤}
+use Rattle.std.proofs.Common.{◌≡◌, ◌==◌, ℕ, Bool, true, false, cond, List, [], ◌∷◌, ◌++◌, fold, Option, None, Result, Ok, Err, refl, sym, ◌∙◌, ap, subst, append_assoc, arith, length}
+use Rattle.std.specs.Prelude.{IfOk, IfErr, OnOk, OnErr, MatchBool, is_some, ⊤}
 use Rattle.std.proofs.lemmas.List.{append-nil, drop_all}
 use Rattle.std.specs.declared.alloc.AllocError.{AllocError}
 use Rattle.kv_model.specs.declared.call.Command.{Command}
@@ -9,14 +9,12 @@ use Rattle.kv_model.specs.declared.refusal.Refusal.{Refusal}
 use Rattle.kv_model.specs.declared.refusal.Refusal.TheVariants.{RevisionsSpent}
 use Rattle.kv_model.specs.Answers.{Response, response_to}
 use Rattle.kv_model.specs.Calls.{Call}
-use Rattle.kv_model.specs.Certificates.{Claim}
 use Rattle.kv_model.specs.Commands.{call_of}
 use Rattle.kv_model.specs.Feed.{Published}
-use Rattle.kv_model.specs.Follows.Outcome.{lost, memory, said}
-use Rattle.kv_model.specs.Step.{Made, answer_of, expire, made_in, perform, world_of}
+use Rattle.kv_model.specs.Follows.Outcome.{memory, said}
+use Rattle.kv_model.specs.Step.{Made, answer_of, expire, made_in, perform}
 use Rattle.kv_model.specs.Told as told
-use Rattle.kv_model.specs.Watches.{deliver}
-use Rattle.kv_model.specs.Wire.{IsChange, Loss, WireEvent, WireOutcome, WireTold, trim_told, wire_step}
+use Rattle.kv_model.specs.Wire.{IsChange, WireEvent, WireOutcome, WireTold, trim_told, wire_step}
 use Rattle.kv_model.specs.World.{World, at_moment, versions, watch_at, without_watch}
 use Rattle.store_laws.specs.Changes.{Takes, batch_of, change_between, change_of, change_of_expiry}
 use Rattle.store_laws.proofs.ChangeLaws.{change_added}
@@ -29,45 +27,37 @@ use Rattle.request_core.specs.declared.answer.Expiry.TheVariants as expiry
 use Rattle.request_core.specs.Answers.{expiry_view, is_memory}
 use Rattle.request_core.specs.Commands.{Expires, IsToldChange, IsToldExpiry, RefusesExpiry, StoresChange, StoresExpiry, TrimsOnce}
 use Rattle.request_core.specs.State.{CoreState, tables_of}
-use Rattle.snapshot_feed.specs.States.{FeedState, appended, with_op}
 use Rattle.json_gateway.specs.declared.outcome.Certified.{Certified}
 use Rattle.json_gateway.specs.declared.outcome.Message.{Message}
 use Rattle.json_gateway.specs.declared.outcome.Outcome.{Outcome}
 use Rattle.json_gateway.specs.declared.outcome.Reply.{Reply}
 use Rattle.json_gateway.specs.declared.outcome.Settled.{Settled}
 use Rattle.json_gateway.specs.declared.outcome.Settled.TheVariants as settled
-use Rattle.json_gateway.specs.declared.outcome.Trimmed.{Trimmed}
 use Rattle.json_gateway.specs.Endings.{Ends, EndsAs}
 use Rattle.json_gateway.specs.Outcomes.{is_accepted, response_of}
 use Rattle.json_gateway.proofs.Keeps.{spent_rests}
-use Rattle.json_gateway.specs.Runs.{certified_outcome, command_view, delivery_outcome, ending_view, expired_view, message_view, trimmed_view}
+use Rattle.json_gateway.specs.Runs.{certified_outcome, command_view, delivery_outcome, ending_view, expired_view, message_view}
 use Rattle.event_book.specs.Asking.{Asking}
-use Rattle.event_book.specs.Events.{Answers, Event, left_by, told_of as told_in}
-use Rattle.event_book.specs.Publishing.{change_by, change_made, published_by}
+use Rattle.event_book.specs.Events.{Answers, Event, left_by}
+use Rattle.event_book.specs.Publishing.{change_by}
 use Rattle.event_book.proofs.Publishing.{refused_is_untold}
 use Rattle.event_script.specs.Notes.{step_outcome}
 use Rattle.engine_lock.specs.Fits.{MakesOn}
 
--- ---- what the feed took
+-- ---- what was done on the tables, behind all that readers were told of before
 
 -- one operation
-pub took : (f g : FeedState) (op : Published) → g ≡ with_op f op → appended g ≡ appended f ++ op ∷ []
-took f g op e = ap appended e ∙ sym (append_assoc (published_by f.published) f.pending (op ∷ []))
+pub took : (fed f g : List Published) (op : Published) → g ≡ f ++ op ∷ [] → fed ++ g ≡ (fed ++ f) ++ op ∷ []
+took fed f g op e = ap (λ l. fed ++ l) e ∙ sym (append_assoc fed f (op ∷ []))
 
 -- none
-still : (f g : FeedState) → g ≡ f → appended g ≡ appended f ++ []
-still f g e = ap appended e ∙ sym (append-nil (appended f))
+still : (fed f g : List Published) → g ≡ f → fed ++ g ≡ (fed ++ f) ++ []
+still fed f g e = ap (λ l. fed ++ l) e ∙ sym (append-nil (fed ++ f))
 
-took_all : (ops : List Published) (f g : FeedState) → Takes (λ f op g. g ≡ with_op f op) ops f g → appended g ≡ appended f ++ ops
-took_all [] f g e = still f g e
-took_all (op ∷ []) f g e = took f g op e
-took_all (op ∷ next ∷ ops) f g e = absurd e
-
--- it stays the feed of its list
-all_of : (ops : List Published) (f g : FeedState) → Takes (λ f op g. g ≡ with_op f op) ops f g → g.book ≡ f.book
-all_of [] f g e = ap (λ (x : FeedState). x.book) e
-all_of (op ∷ []) f g e = ap (λ (x : FeedState). x.book) e
-all_of (op ∷ next ∷ ops) f g e = absurd e
+took_all : (fed ops f g : List Published) → Takes (λ f op g. g ≡ f ++ op ∷ []) ops f g → fed ++ g ≡ (fed ++ f) ++ ops
+took_all fed [] f g e = still fed f g e
+took_all fed (op ∷ []) f g e = took fed f g op e
+took_all fed (op ∷ next ∷ ops) f g e = absurd e
 
 -- ---- events of which readers are told nothing
 
@@ -112,12 +102,12 @@ makes_certificate ids (Err e) s fed = makes_still ids Event.certificate memory s
 
 -- ---- a trimming step, whatever it tells
 
-pub makes_trimming : (ids : Ids) (t : Trim) (told : WireTold) (old new : CoreState) (f g : FeedState) → g ≡ with_op f Published.trim
-    → TrimsOnce old new t → MakesOn ids Event.trimming (said told) old new (appended f) (appended g)
-makes_trimming ids t told old new f g e x = record {
+pub makes_trimming : (ids : Ids) (t : Trim) (told : WireTold) (old new : CoreState) (fed f g : List Published) → g ≡ f ++ Published.trim ∷ []
+    → TrimsOnce old new t → MakesOn ids Event.trimming (said told) old new (fed ++ f) (fed ++ g)
+makes_trimming ids t told old new fed f g e x = record {
   answers = λ w h. tt;
   stands = λ w h. (x.trims w h).stands;
-  told = λ w h. took f g Published.trim e;
+  told = λ w h. took fed f g Published.trim e;
   stored = λ w h. ap tables_of x.left;
 }
 
@@ -140,7 +130,7 @@ refused_untold ids w call r told bad = by (made_in w call) refl
         absurd (cc wrong)
     by (Err e) is = refused_is_untold w call e is
 
-module _ (ids : Ids) (now : ℕ) (a : Asking) (old new : CoreState) (f g : FeedState) where
+module _ (ids : Ids) (now : ℕ) (a : Asking) (old new : CoreState) (fed f g : List Published) where
   call : Call
   call = call_of a.command
 
@@ -165,28 +155,28 @@ module _ (ids : Ids) (now : ℕ) (a : Asking) (old new : CoreState) (f g : FeedS
 
   -- what the feed took and what is kept, by whether the command was accepted, where this is its change
   Changes : Bool → World → Type 0
-  Changes b w = (appended g ≡ appended f ++ cond b (change_of w call) []) × (tables_of new ≡ fold absorb (tables_of old) (cond b (change_of w call) []))
+  Changes b w = (fed ++ g ≡ (fed ++ f) ++ cond b (change_of w call) []) × (tables_of new ≡ fold absorb (tables_of old) (cond b (change_of w call) []))
 
   changes : (b : Bool) (w : World) → StandsFor old.store w → (b ≡ false → new ≡ old)
-      → (b ≡ true → IsToldChange (λ f op g. g ≡ with_op f op) old.store call f g) → (b ≡ true → StoresChange old new call)
+      → (b ≡ true → IsToldChange (λ f op g. g ≡ f ++ op ∷ []) old.store call f g) → (b ≡ true → StoresChange old new call)
       → (b ≡ false → g ≡ f) → Changes b w
   unfolding call Changes
-  changes true w h unchanged told stored untold = (took_all (change_of w call) f g (told refl w h), stored refl w h)
-  changes false w h unchanged told stored untold = (still f g (untold refl), ap tables_of (unchanged refl))
+  changes true w h unchanged told stored untold = (took_all fed (change_of w call) f g (told refl w h), stored refl w h)
+  changes false w h unchanged told stored untold = (still fed f g (untold refl), ap tables_of (unchanged refl))
 
   changed : (s : Settled) (up watch : Option ℕ) → EndsSo s up watch → (w : World) → StandsFor old.store w → Changes (is_accepted s) w
-      → (appended g ≡ appended f ++ change_by w (Event.command now a) (ending_view s up watch))
+      → (fed ++ g ≡ (fed ++ f) ++ change_by w (Event.command now a) (ending_view s up watch))
       × (tables_of new ≡ fold absorb (tables_of old) (change_by w (Event.command now a) (ending_view s up watch)))
   unfolding call EndsSo Changes
   changed (settled.Reply r) up watch ends w h c = by (r.status == 200) refl c
     where
       by : (b : Bool) → (r.status == 200) ≡ b
-          → (appended g ≡ appended f ++ cond b (change_of w call) []) × (tables_of new ≡ fold absorb (tables_of old) (cond b (change_of w call) []))
-          → (appended g ≡ appended f ++ change_of w call) × (tables_of new ≡ fold absorb (tables_of old) (change_of w call))
+          → (fed ++ g ≡ (fed ++ f) ++ cond b (change_of w call) []) × (tables_of new ≡ fold absorb (tables_of old) (cond b (change_of w call) []))
+          → (fed ++ g ≡ (fed ++ f) ++ change_of w call) × (tables_of new ≡ fold absorb (tables_of old) (change_of w call))
       by true is c = c
       by false is c =
           let none : [] ≡ change_of w call = sym (refused_untold ids w call r (ends w h).0 is) in
-          subst (λ l. (appended g ≡ appended f ++ l) × (tables_of new ≡ fold absorb (tables_of old) l)) none c
+          subst (λ l. (fed ++ g ≡ (fed ++ f) ++ l) × (tables_of new ≡ fold absorb (tables_of old) l)) none c
   changed settled.Memory up watch ends w h c = c
   changed (settled.Lost revision) up watch ends w h c = c
 
@@ -194,10 +184,10 @@ module _ (ids : Ids) (now : ℕ) (a : Asking) (old new : CoreState) (f g : FeedS
       → ((w : World) → StandsFor old.store w → Ends o old new w (response_to ids (perform w (call_of a.command)).0)
       (perform w (call_of a.command)).1 (λ l. IsChange w (call_of a.command) l (made_in w (call_of a.command))))
       → (is_accepted o.settled ≡ false → new ≡ old)
-      → (is_accepted o.settled ≡ true → IsToldChange (λ f op g. g ≡ with_op f op) old.store (call_of a.command) f g)
+      → (is_accepted o.settled ≡ true → IsToldChange (λ f op g. g ≡ f ++ op ∷ []) old.store (call_of a.command) f g)
       → (is_accepted o.settled ≡ true → StoresChange old new (call_of a.command))
       → ((w : World) → StandsFor old.store w → is_accepted o.settled ≡ false → g ≡ f)
-      → MakesOn ids (Event.command now a) (command_view o) old new (appended f) (appended g)
+      → MakesOn ids (Event.command now a) (command_view o) old new (fed ++ f) (fed ++ g)
   unfolding call EndsSo Changes
   makes_asked o ends unchanged told stored untold = record {
     answers = answered o.settled o.raised o.watch ends;
@@ -207,31 +197,22 @@ module _ (ids : Ids) (now : ℕ) (a : Asking) (old new : CoreState) (f g : FeedS
   }
     where
       both : (w : World) → StandsFor old.store w
-          → (appended g ≡ appended f ++ change_by w (Event.command now a) (command_view o))
+          → (fed ++ g ≡ (fed ++ f) ++ change_by w (Event.command now a) (command_view o))
           × (tables_of new ≡ fold absorb (tables_of old) (change_by w (Event.command now a) (command_view o)))
       both w h = changed o.settled o.raised o.watch ends w h (changes (is_accepted o.settled) w h unchanged told stored (untold w h))
 
 -- the same, of a command that is the one asked for
-pub makes_command : (ids : Ids) (now : ℕ) (a : Asking) (x : Command) (old new : CoreState) (f g : FeedState) (o : Outcome) → x ≡ a.command
+pub makes_command : (ids : Ids) (now : ℕ) (a : Asking) (x : Command) (old new : CoreState) (fed f g : List Published) (o : Outcome) → x ≡ a.command
     → ((w : World) → StandsFor old.store w → Ends o old new w (response_to ids (perform w (call_of x)).0)
     (perform w (call_of x)).1 (λ l. IsChange w (call_of x) l (made_in w (call_of x))))
     → (is_accepted o.settled ≡ false → new ≡ old)
-    → (is_accepted o.settled ≡ true → IsToldChange (λ f op g. g ≡ with_op f op) old.store (call_of x) f g)
+    → (is_accepted o.settled ≡ true → IsToldChange (λ f op g. g ≡ f ++ op ∷ []) old.store (call_of x) f g)
     → (is_accepted o.settled ≡ true → StoresChange old new (call_of x))
     → ((w : World) → StandsFor old.store w → is_accepted o.settled ≡ false → g ≡ f)
-    → MakesOn ids (Event.command now a) (command_view o) old new (appended f) (appended g)
-makes_command ids now a x old new f g o is ends unchanged told stored untold =
-    subst (λ (y : Command). MakesOn ids (Event.command now (record { command = y; request = a.request })) (command_view o) old new (appended f) (appended g)) is
-    (makes_asked ids now (record { command = x; request = a.request }) old new f g o ends unchanged told stored untold)
-
-pub command_book : (s : Settled) (call : Call) (old : CoreState) (f g : FeedState) (w : World) → StandsFor old.store w
-    → (is_accepted s ≡ true → IsToldChange (λ f op g. g ≡ with_op f op) old.store call f g)
-    → ((w : World) → StandsFor old.store w → is_accepted s ≡ false → g ≡ f) → g.book ≡ f.book
-command_book s call old f g w h told untold = by (is_accepted s) refl
-  where
-    by : (b : Bool) → is_accepted s ≡ b → g.book ≡ f.book
-    by true e = all_of (change_of w call) f g (told e w h)
-    by false e = ap (λ (x : FeedState). x.book) (untold w h e)
+    → MakesOn ids (Event.command now a) (command_view o) old new (fed ++ f) (fed ++ g)
+makes_command ids now a x old new fed f g o is ends unchanged told stored untold =
+    subst (λ (y : Command). MakesOn ids (Event.command now (record { command = y; request = a.request })) (command_view o) old new (fed ++ f) (fed ++ g)) is
+    (makes_asked ids now (record { command = x; request = a.request }) old new fed f g o ends unchanged told stored untold)
 
 -- ---- a step of expiry
 
@@ -241,38 +222,33 @@ nothing_between w = change_added w w refl ∙ ap batch_of (drop_all (length (ver
 spent_untold : (w : World) → (expire w).0 ≡ told.Expiry.spent → change_of_expiry w ≡ []
 spent_untold w e = ap (change_between w) (spent_rests w e) ∙ nothing_between w
 
-pub makes_expiry : (ids : Ids) (now : ℕ) (r : Result Expiry Refusal) (old new : CoreState) (f g : FeedState)
-    → IfOk r (λ e. Expires old new e) → OnOk r (IsToldExpiry (λ f op g. g ≡ with_op f op) old.store f g) → OnOk r (StoresExpiry old new)
+pub makes_expiry : (ids : Ids) (now : ℕ) (r : Result Expiry Refusal) (old new : CoreState) (fed f g : List Published)
+    → IfOk r (λ e. Expires old new e) → OnOk r (IsToldExpiry (λ f op g. g ≡ f ++ op ∷ []) old.store f g) → OnOk r (StoresExpiry old new)
     → IfErr r (λ e. RefusesExpiry old new e) → OnErr r (g ≡ f)
-    → MakesOn ids (Event.expiry now) (step_outcome r) old new (appended f) (appended g)
-makes_expiry ids now (Ok e) old new f g done heard stored refused untold = record {
+    → MakesOn ids (Event.expiry now) (step_outcome r) old new (fed ++ f) (fed ++ g)
+makes_expiry ids now (Ok e) old new fed f g done heard stored refused untold = record {
   answers = λ w h. ap (λ x. WireTold.expiry x) (sym (viewed e) ∙ (done.expired w h).tells);
   stands = λ w h. (done.expired w h).stands;
-  told = λ w h. took_all (change_of_expiry w) f g (heard w h);
+  told = λ w h. took_all fed (change_of_expiry w) f g (heard w h);
   stored = λ w h. stored w h;
 }
   where
     viewed : (e : Expiry) → expiry_view e ≡ expired_view e
     viewed expiry.Nothing = refl
     viewed (expiry.Expired id revision raised) = refl
-makes_expiry ids now (Err e) old new f g done heard stored refused untold = by (is_memory e) refused.refused
+makes_expiry ids now (Err e) old new fed f g done heard stored refused untold = by (is_memory e) refused.refused
   where
     by : (b : Bool) → MatchBool b ⊤ ((e ≡ RevisionsSpent) × ((w : World) → StandsFor old.store w → (expire w).0 ≡ told.Expiry.spent))
-        → MakesOn ids (Event.expiry now) (cond b memory (said (WireTold.expiry told.Expiry.spent))) old new (appended f) (appended g)
+        → MakesOn ids (Event.expiry now) (cond b memory (said (WireTold.expiry told.Expiry.spent))) old new (fed ++ f) (fed ++ g)
     by true r = record {
       answers = λ w h. refl;
       stands = λ w h. subst (λ (s : CoreState). StandsFor s.store w) (sym refused.kept) h;
-      told = λ w h. still f g untold;
+      told = λ w h. still fed f g untold;
       stored = λ w h. ap tables_of refused.kept;
     }
     by false r = record {
       answers = λ w h. ap (λ x. WireTold.expiry x) (sym (r.1 w h));
       stands = λ w h. subst (StandsFor new.store) (sym (spent_rests w (r.1 w h))) (subst (λ (s : CoreState). StandsFor s.store w) (sym refused.kept) h);
-      told = λ w h. still f g untold ∙ ap (λ l. appended f ++ l) (sym (spent_untold w (r.1 w h)));
+      told = λ w h. still fed f g untold ∙ ap (λ l. (fed ++ f) ++ l) (sym (spent_untold w (r.1 w h)));
       stored = λ w h. ap tables_of refused.kept ∙ ap (fold absorb (tables_of old)) (sym (spent_untold w (r.1 w h)));
     }
-
-pub expiry_book : (r : Result Expiry Refusal) (old : CoreState) (f g : FeedState) (w : World) → StandsFor old.store w
-    → OnOk r (IsToldExpiry (λ f op g. g ≡ with_op f op) old.store f g) → OnErr r (g ≡ f) → g.book ≡ f.book
-expiry_book (Ok e) old f g w h told untold = all_of (change_of_expiry w) f g (told w h)
-expiry_book (Err e) old f g w h told untold = ap (λ (x : FeedState). x.book) untold

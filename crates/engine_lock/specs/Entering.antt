@@ -19,7 +19,6 @@ use Rattle.json_gateway.specs.Outcomes.{IsBare, is_accepted}
 use Rattle.json_gateway.specs.Runs.{command_view}
 use Rattle.json_gateway.specs.Steps.{Steps}
 use Rattle.event_book.specs.Asking.{Asking}
-use Rattle.event_book.specs.Callers as list
 use Rattle.event_book.specs.Callers.{Adds, AreAll, Shows, made_by_all}
 use Rattle.event_book.specs.Events.{Entry, Event, IsHistory, clocked, led_to}
 use Rattle.event_book.specs.Publishing.{published_by}

@@ -2,12 +2,12 @@
 use Rattle.std.specs.Prelude.{◌≡◌, ℕ, List, [], Bool, false}
 use Rattle.kv_model.specs.declared.ids.Ids.{Ids}
 use Rattle.snapshot_feed.specs.Seats.{Reads}
-use Rattle.snapshot_feed.specs.States.{FeedState}
 use Rattle.request_core.specs.State.{CoreState}
 use Rattle.recording.specs.Lines.{Written}
 use Rattle.event_book.specs.Callers as list
 use Rattle.event_book.specs.Events.{Entry}
 use Rattle.event_script.specs.Scripts.{Taken}
+use Rattle.engine_lock.specs.Copied.{Publication}
 
 -- of an engine: by which ids it answers, how many clients it made, and whether its events are written down
 pub record EngineState : Type 0 where
@@ -27,7 +27,7 @@ pub record Caller : Type 0 where
 pub record LockState : Type 0 where
   pub core : CoreState
   pub log : List Entry
-  pub feed : FeedState
+  pub feed : Publication
   pub steps : ℕ
   pub lines : Written
   pub taken : Taken

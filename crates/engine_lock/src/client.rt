@@ -6,7 +6,7 @@ ghost use Rattle.kv_model.specs.Keys.{in_range, key_lt};
 ghost use Rattle.store_laws.specs.Changes.{untrimmed};
 ghost use Rattle.snapshot_feed.specs.Answers.{AnswersOf};
 ghost use Rattle.snapshot_feed.specs.Showing.{IsShown};
-ghost use Rattle.snapshot_feed.specs.States.{appended, tried};
+ghost use Rattle.engine_lock.specs.Copied.{appended};
 ghost use Rattle.event_book.specs.Callers.{Adds, Shows};
 ghost use Rattle.event_book.specs.Events.{Answers, IsAskedFor, clocked, entry, led_to};
 ghost use Rattle.event_book.specs.Publishing.{published_by};
@@ -15,16 +15,17 @@ ghost use Rattle.engine_lock.specs.Entering.{Learns, StaysOut, made_by};
 ghost use Rattle.engine_lock.specs.Locked.{IsNew, left, naming};
 ghost use Rattle.engine_lock.specs.Makings.{event_made, outcome_made};
 
+use crate::copies::Copies;
 use crate::known::Known;
 use crate::making::{Made, Making, Makings};
 use crate::opening::EngineName;
 use bytes::Bytes;
-use event_book::{Front, Holder, Listing};
+use event_book::{Holder, Listing};
 use json_gateway::Refusal;
 use kv_model::call::RangeQuery;
 use kv_model::version::KeyRange;
 use range_view::RangeReply;
-use snapshot_feed::{Feed, SnapReader};
+use snapshot_feed::SnapReader;
 use std::alloc::Global;
 use std::marker::Model;
 use std::sync::Wait;
@@ -243,48 +244,16 @@ impl<L: EngineName> Client<L> {
         }
     }
 
-    /// Makes all that was appended visible to readers, at this front of the list, and takes note of it;
-    /// says whether it did. The client has to have left its reading, since the publication waits for
-    /// readings.
-    pub(crate) fn publish<R: Wait>(&mut self, rt: &R, feed: &mut Feed, front: &Front) -> bool
-        requires shown { IsShown front.now.list }
-        requires all { published_by front.now.list ≡ appended feed.old }
-        requires front { front.now.book ≡ feed.old.book }
-        requires book { feed.old.book ≡ L.ListName.book }
-        ensures told { Learns result (appended feed.old) self.old self.new }
-        ensures others { self.new ≡ record self.old { reader = self.new.reader } }
-        ensures out { StaysOut self.old self.new }
-        ensures feed { (appended feed.new ≡ appended feed.old) × (feed.new.book ≡ feed.old.book) }
-        ensures tried { feed.new.attempts ≡ (tried feed.old).attempts }
-    {
-        if !published(rt, feed, front) {
-            return false;
-        }
-        self.learn(feed)
-    }
-
     /// Takes note of all that was appended, where readers see all of it; says whether it did.
-    pub(crate) fn learn(&mut self, feed: &Feed) -> bool
-        requires { feed.now.book ≡ L.ListName.book }
-        ensures told { Learns result (appended feed.now) self.old self.new }
+    pub(crate) fn learn(&mut self, copies: &Copies) -> bool
+        requires { copies.now.feed.book ≡ L.ListName.book }
+        ensures told { Learns result (appended copies.now.feed) self.old self.new }
         ensures others { self.new ≡ record self.old { reader = self.new.reader } }
         ensures out { StaysOut self.old self.new }
     {
-        if !feed.is_settled() {
+        if !copies.is_settled() {
             return false;
         }
-        self.reader.learn(&feed.told())
+        self.reader.learn(&copies.told())
     }
-}
-
-/// Makes all that was appended visible to readers, at this front of the list; says whether it did.
-pub(crate) fn published<R: Wait>(rt: &R, feed: &mut Feed, front: &Front) -> bool
-    requires shown { IsShown front.now.list }
-    requires all { published_by front.now.list ≡ appended feed.old }
-    requires book { front.now.book ≡ feed.old.book }
-    ensures same { (appended feed.new ≡ appended feed.old) × (feed.new.book ≡ feed.old.book) }
-    ensures tried { feed.new.attempts ≡ (tried feed.old).attempts }
-{
-    let done = feed.publish(rt, front);
-    done.is_ok()
 }

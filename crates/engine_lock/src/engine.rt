@@ -166,10 +166,12 @@ impl<L: EngineName> Engine<L> {
     /// The client's share rises by one where the outcome tells a new revision, also where its
     /// answer was lost, and else stays. Its reading is left.
     ///
-    /// Where something was appended it is published, which waits for the readings that began before
-    /// the last publication. Where that finds no memory `published` is false, and the next
-    /// publication tells of it. The text of the answer is made while the lock is held: the cost is
-    /// that of `perform_to`, of waiting for the lock, and of `Feed::publish`.
+    /// What was changed is published, which takes no memory and waits for nobody. Before, the core
+    /// takes the copy of the tables that readers do not see, unless it has it: that waits for the
+    /// readings that began before the last publication, and does there what was done on the other
+    /// copy. Where that finds no memory the command is refused for it. The text of the answer is made
+    /// while the lock is held: the cost is that of `perform_to`, of waiting for the lock, and of
+    /// `Feed::lend` and `Feed::show`.
     ///
     /// Where events are written down, no line is written from here on: the command is none of a
     /// request ([`Engine::submit_request`]).
@@ -191,11 +193,11 @@ impl<L: EngineName> Engine<L> {
     /// of a linearizable read). So a Range that the client reads then beside the lock answers from a
     /// state that was the engine's between this call and that reading. The moment is the event of it.
     ///
-    /// Says whether the client was told. It is not where something is not published yet, as a
-    /// trimming step, and publishing it finds no memory. The client's reading is left.
+    /// Says whether the client was told, which it always is, but that no clause can say so. Its reading
+    /// is left.
     ///
-    /// Constant time under the lock, but where something has to be published: then the cost is that
-    /// of `Feed::publish`, which waits for readings, too.
+    /// Constant time under the lock, and waits for no reading, also where something has to be
+    /// published, as trimming steps.
     pub fn catch_up<R: Wait>(&self, rt: &R, client: &mut Client<L>, now: u64) -> bool
         ensures { CatchesUp self.now.ids client.old now result client.new }
     {
@@ -236,12 +238,13 @@ impl<L: EngineName> Engine<L> {
         locked(rt, &self.state).drop_watch(rt, client, number)
     }
 
-    /// Makes a trimming step, as `Core::trim_step` does, of which the feed is told before it is
-    /// made. `Memory` comes where the feed finds none for that, and then nothing has changed, and no
-    /// event was made. The client's reading is left.
+    /// Makes a trimming step, as `Core::trim_step` does, which is noted for the other copy of the
+    /// tables before it is made. `Memory` comes where there is none for that, or for what the copy that
+    /// is trimmed lacks, and then nothing has changed, and no event was made. The client's reading is
+    /// left.
     ///
-    /// What was appended is published where the step says Done, and after 100 steps that were not
-    /// told of; that waits for readings, as [`Engine::submit`] does.
+    /// What was done is published where the step says Done, and after 100 steps that were not. The
+    /// first step behind that waits for readings, as [`Engine::submit`] does.
     pub fn trim_once<R: Wait>(&self, rt: &R, client: &mut Client<L>) -> Result<Trim, Refusal>
         ensures trims { MayTrim self.now.ids client.old result client.new }
         ensures refused { IfErr result (λ e. e ≡ Memory) }

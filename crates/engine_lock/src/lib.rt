@@ -50,6 +50,7 @@
 pub mod asked;
 mod client;
 mod closing;
+mod copies;
 pub mod engine;
 mod kept;
 mod known;

@@ -9,7 +9,7 @@ ghost use Rattle.kv_model.specs.declared.refusal.Refusal.TheVariants.{Memory, No
 ghost use Rattle.store_laws.specs.Snapshots.{blank as first_tables};
 ghost use Rattle.store_laws.specs.Stands.{StandsFor};
 ghost use Rattle.request_core.specs.State.{tables_of};
-ghost use Rattle.snapshot_feed.specs.States.{appended, tried};
+ghost use Rattle.engine_lock.specs.Copied.{appended};
 ghost use Rattle.json_gateway.specs.Runs.{command_view, delivery_outcome};
 ghost use Rattle.recording.specs.Lines.{blank};
 ghost use Rattle.event_book.specs.Events.{Event, led_to};
@@ -27,18 +27,18 @@ mod writing;
 
 use crate::asked::Asked;
 use crate::client::Client;
+use crate::copies::Copies;
 use crate::engine::Submitted;
 use crate::making::Made;
 use crate::noting::{first_lines, note_done, note_dropped, note_expired, note_told};
 use crate::opening::{EngineName, Opening};
-use crate::steps::{dropped, expired, has_raised, is_raised, moved, performed, told};
+use crate::steps::{has_raised, is_raised};
 use crate::taken::Taken;
 use event_book::{Listing, Roster};
 use json_gateway::{Expiry, Ids, Message, Outcome, Refusal};
 use recording::Lines;
 use request_core::answer::Status;
-use request_core::store::Core;
-use snapshot_feed::{Feed, SnapReader};
+use snapshot_feed::SnapReader;
 use std::alloc::{AllocError, Global};
 use std::marker::Model;
 use std::sync::Wait;
@@ -47,10 +47,9 @@ use std::sync::Wait;
 /// `lines` are what is written down of the events that led to the core.
 #[derive(Drop)]
 pub(crate) struct State<L: EngineName> {
-    core: Core,
+    copies: Copies,
     listing: Listing<L>,
     steps: u64,
-    feed: Feed,
     lines: Lines,
     /// Up to which event the lines were taken.
     taken: Taken<L>,
@@ -60,7 +59,7 @@ impl<L: EngineName> Model for State<L> {
     ghost use Rattle.std.specs.Prelude.{◌≡◌, true, false};
     ghost use Rattle.std.specs.Coded.{codes};
     ghost use Rattle.kv_model.specs.contracts.call.Command as commands;
-    ghost use Rattle.snapshot_feed.specs.States.{appended};
+    ghost use Rattle.engine_lock.specs.Copied.{appended};
     ghost use Rattle.engine_lock.specs.Fits.{IsLocked};
     ghost use Rattle.engine_lock.specs.Locked.{LockState};
 
@@ -69,16 +68,16 @@ impl<L: EngineName> Model for State<L> {
     ghost coded = { Prim.hlevel (codes, commands.the_row.coded) };
 
     ghost view = { λ s. record {
-      core = s.core;
+      core = s.copies.core;
       log = s.listing;
-      feed = s.feed;
+      feed = s.copies.feed;
       steps = s.steps;
       lines = s.lines;
       taken = s.taken;
     } };
 
-    ghost invariant = { λ s. IsLocked s.core s.listing (appended s.feed) s.lines s.taken
-        × (s.feed.book ≡ L.ListName.book) × (L.recorded ≡ false → s.taken.is_over ≡ true) };
+    ghost invariant = { λ s. IsLocked s.copies.core s.listing (appended s.copies.feed) s.lines s.taken
+        × (s.copies.feed.book ≡ L.ListName.book) × (L.recorded ≡ false → s.taken.is_over ≡ true) };
 }
 
 impl<L: EngineName> State<L> {
@@ -98,10 +97,9 @@ impl<L: EngineName> State<L> {
         let (listing, roster) = Listing::new(list);
         let taken = Taken::nothing(listing.front(), !is_recorded);
         let state = State {
-            core: first_core(alloc),
+            copies: Copies::new(alloc, feed),
             listing,
             steps: 0,
-            feed,
             lines: first_lines(alloc, is_recorded),
             taken,
         };
@@ -114,14 +112,14 @@ impl<L: EngineName> State<L> {
         ensures full { IfErr result (λ e. e ≡ NoPlace) }
         ensures same { self.new ≡ self.old }
     {
-        self.feed.reader()
+        self.copies.reader()
     }
 
     /// The core's numbers.
     fn status(&self) -> Status
         ensures revision { result.revision ≡ revision (led_to self.now.log) }
     {
-        self.core.status()
+        self.copies.status()
     }
 
     /// Hands in a moment and then does a command. Readers are told of it as soon as all that was
@@ -170,9 +168,9 @@ impl<L: EngineName> State<L> {
         ensures front { client.new.holder.front ≡ self.new.log }
         ensures out { client.new.reader.inside ≡ false }
     {
-        moved(&mut self.core, &self.feed, now);
+        self.copies.moved(now);
         self.lines.hand_in(now);
-        let outcome = performed(alloc, &mut self.core, &mut self.feed, asked, ids);
+        let outcome = self.copies.performed(rt, alloc, asked, ids);
         let raised = is_raised(&outcome);
         let made = Made::Command(now, &*asked, &outcome);
         client.note(rt, &mut self.listing, made, raised);
@@ -187,17 +185,15 @@ impl<L: EngineName> State<L> {
         ensures told { IsTold result client.old client.new }
         ensures others { client.new ≡ record client.old { reader = client.new.reader } }
         ensures out { StaysOut client.old client.new }
-        ensures tries { MatchBool has_appended
-            (self.new.feed.attempts ≡ (tried self.old.feed).attempts)
+        ensures settled { MatchBool has_appended (self.new.feed.pending ≡ [])
             (self.new.feed ≡ self.old.feed) }
         ensures appended { appended self.new.feed ≡ appended self.old.feed }
         ensures same { self.new ≡ record self.old { feed = self.new.feed } }
     {
         if has_appended {
-            client.publish(rt, &mut self.feed, &self.listing.front())
-        } else {
-            client.learn(&self.feed)
+            self.copies.show(rt, &self.listing.front());
         }
+        client.learn(&self.copies)
     }
 
     /// Hands in a moment, and tells the client of all that was done; says whether it did. Where some
@@ -207,7 +203,7 @@ impl<L: EngineName> State<L> {
         ensures { CatchesUp L.ListName.ids client.old now result client.new }
     {
         self.moment(rt, client, now);
-        let has_pending = !self.feed.is_settled();
+        let has_pending = !self.copies.is_settled();
         self.tell(rt, client, has_pending)
     }
 
@@ -236,9 +232,9 @@ impl<L: EngineName> State<L> {
         ensures front { client.new.holder.front ≡ self.new.log }
         ensures out { client.new.reader.inside ≡ false }
     {
-        moved(&mut self.core, &self.feed, now);
+        self.copies.moved(now);
         self.lines.hand_in(now);
-        let step = expired(&mut self.core, &mut self.feed);
+        let step = self.copies.expired(rt);
         let raised = has_raised(&step);
         client.note(rt, &mut self.listing, Made::Expiry(now, &step), raised);
         note_expired(&mut self.lines, &step);
@@ -259,7 +255,7 @@ impl<L: EngineName> State<L> {
         ensures { EntersAlone ids.now client.old (Event.delivery number) (delivery_outcome result)
             client.new }
     {
-        let message = told(alloc, &mut self.core, &self.feed, number, ids);
+        let message = self.copies.delivered(rt, alloc, number, ids);
         client.note(
             rt,
             &mut self.listing,
@@ -282,20 +278,12 @@ impl<L: EngineName> State<L> {
             (said (WireTold.closed (is_ok result))) client.new }
         ensures missing { IfErr result (λ e. e ≡ NoWatch) }
     {
-        let ended = dropped(&mut self.core, &self.feed, number);
+        let ended = self.copies.dropped(number);
         let stood = ended.is_ok();
         client.note(rt, &mut self.listing, Made::Ending(number, stood), false);
         note_dropped(&mut self.lines, number, stood);
         ended
     }
-}
-
-/// The core of a new store, of which readers are told nothing.
-fn first_core(alloc: Global) -> Core
-    ensures core { StandsFor result.store first_world }
-    ensures tables { tables_of result ≡ first_tables }
-{
-    Core::new(alloc)
 }
 
 /// Whether what was done between these appended an operation of its own.

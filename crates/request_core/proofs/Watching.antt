@@ -24,6 +24,8 @@ use Rattle.watch_hub.proofs.Delivered.{client_ids, delivery_told, none_goes}
 use Rattle.request_core.specs.declared.answer.Todo.TheVariants as todo
 use Rattle.request_core.specs.Answers.{IsFault, is_memory}
 use Rattle.request_core.specs.Commands.{CarriesOut, Makes, Moves, Refuses, first_refusal}
+use Rattle.lease_keys.specs.Pairs.{Pairs}
+use Rattle.request_core.specs.Apart.{RestState}
 use Rattle.request_core.specs.State.{CoreState, after_watch, core_state}
 use Rattle.request_core.proofs.Worlds.{changed-beside, fault_refusal, is_refused, made_refused, refusal_told, rests}
 
@@ -152,3 +154,12 @@ pub cancelled_same : (r : Result (Unit {0}) Refusal) (n stamp : ℕ) (t : Stored
 cancelled_same (Ok u) n stamp t b h new s f e is = tt
 cancelled_same (Err x) n stamp t b h new s f e is =
     (λ i. core_state t b (e i) stamp) ∙ ap (λ ts. core_state t b (record h { watches = ts }) stamp) (none_goes h.watches n (sym f)) ∙ is
+
+-- and of what a core is besides its tables
+pub rest_same : (r : Result (Unit {0}) Refusal) (n : ℕ) (b : Book) (ps : Pairs) (h : Hub) (stamp : ℕ) (new : Hub) (s : RestState)
+    → is_ok r ≡ is_some (tracked_at h.watches n) → new ≡ record h { watches = without_tracked n h.watches }
+    → record { book = b; keys = ps; hub = h; stamp = stamp } ≡ s → OnErr r (record { book = b; keys = ps; hub = new; stamp = stamp } ≡ s)
+rest_same (Ok u) n b ps h stamp new s f e is = tt
+rest_same (Err x) n b ps h stamp new s f e is =
+    (λ i. record { book = b; keys = ps; hub = e i; stamp = stamp })
+    ∙ ap (λ ts. record { book = b; keys = ps; hub = record h { watches = ts }; stamp = stamp }) (none_goes h.watches n (sym f)) ∙ is

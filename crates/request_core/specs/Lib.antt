@@ -3,3 +3,4 @@ pub mod State
 pub mod Answers
 pub mod Refusing
 pub mod Commands
+pub mod Apart

@@ -37,4 +37,4 @@ pub mod store;
 mod writing;
 
 pub use answer::{Answer, Expiry, Receipt, Status, Todo};
-pub use store::{Core, LAST_MAIN};
+pub use store::{Core, LAST_MAIN, Rest};

@@ -14,6 +14,7 @@ mod leasing;
 mod putting;
 mod ranging;
 mod receipts;
+mod rest;
 mod revoking;
 #[cfg(test)]
 mod spent;
@@ -22,6 +23,7 @@ mod trimming;
 mod watching;
 
 use self::leasing::{granted, renewed};
+pub use self::rest::Rest;
 use crate::answer::{Answer, Receipt, Status, Todo};
 use bytes::Bytes;
 use kv_model::call::Command;

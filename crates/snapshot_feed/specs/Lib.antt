@@ -1,4 +1,3 @@
-pub mod Entries
 pub mod Showing
 pub mod Shown
 pub mod States

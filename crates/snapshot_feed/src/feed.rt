@@ -1,19 +1,20 @@
-//! The feed of what a store publishes.
-ghost use Rattle.std.specs.Prelude.{◌≡◌, ◌<◌, false, [], length, OnOk, OnErr, IfOk, IfErr, MatchBool};
-ghost use Rattle.kv_model.specs.Feed.{published};
+//! The feed of what a store publishes, and the tables of the store itself.
+ghost use Rattle.std.specs.Prelude.{◌≡◌, ◌++◌, false, true, [], IfOk, IfErr, IfNone, IfSome};
 ghost use Rattle.kv_model.specs.declared.refusal.Refusal.TheVariants.{NoPlace};
+ghost use Rattle.store_laws.specs.Snapshots.{store_of};
 ghost use Rattle.event_book.specs.Publishing.{published_by};
 ghost use Rattle.snapshot_feed.specs.Showing.{IsShown};
-ghost use Rattle.snapshot_feed.specs.States.{Settles, appended, tried, unused, with_op};
+ghost use Rattle.snapshot_feed.specs.States.{lent_out, shown_at, unused};
 
 use crate::entry::ReadTables;
+use crate::ops::Ops;
 use crate::reader::SnapReader;
 use crate::rule::Tells;
-use crate::writer::{FeedWriter, mark_all, publish_by, push};
-use core::mem::replace_with;
+use crate::writer::{FeedWriter, Lent, lend, show};
+use core::mem::{replace, replace_with};
 use event_book::Front;
-use kv_model::feed::{Op, Sink};
 use kv_model::refusal::Refusal;
+use range_view::Tables;
 use std::alloc::{AllocError, Global};
 use std::marker::Model;
 use std::mem::ManuallyDrop;
@@ -22,51 +23,45 @@ use std::sync::Wait;
 /// There are at most so many readers at a time.
 pub const READERS: usize = 64;
 
-/// Two copies of a store's tables, of which readers take one, each at a front of the list of all
-/// events.
+/// The two copies of a store's tables: one that readers are shown, at a front of the list of all
+/// events, and a spare one, which is lent to the store that changes it, and shown again by it.
 ///
-/// It is ended by [`Feed::close`]. A feed that is dropped in another way leaks both copies, since
-/// only one who may wait for the readers can take them back.
+/// It is ended by [`Feed::close`]. A feed that is dropped in another way leaks what it has of both
+/// copies, since only one who may wait for the readers can take them back.
 #[derive(Drop)]
 pub struct Feed {
+    alloc: Global,
     writer: ManuallyDrop<FeedWriter>,
-    /// The last mark of the log, or the front that is shown where there is none, tells all that was
-    /// appended. So a publication that is tried again logs no second mark.
-    marked: bool,
-    /// How often a publication was tried while an operation waited.
-    attempts: u64,
+    /// The operations that the spare copy lacks, where it is here.
+    lag: Ops,
+    is_lent: bool,
 }
 
 impl Model for Feed {
-    ghost use Rattle.std.specs.Prelude.{◌≡◌, true, drop};
+    ghost use Rattle.std.specs.Prelude.{◌≡◌, false, fold};
     ghost use Rattle.std.specs.Coded.{codes};
     ghost use Rattle.core.specs.Mem.{manually_drop_value};
     ghost use Rattle.left_right.specs.Sides as sides;
     ghost use Rattle.kv_model.specs.contracts.call.Command as commands;
-    ghost use Rattle.snapshot_feed.specs.Entries.{marked_by};
+    ghost use Rattle.store_laws.specs.Snapshots.{absorb};
     ghost use Rattle.snapshot_feed.specs.Shown.{ShowsWell, IsOf};
-    ghost use Rattle.snapshot_feed.specs.States.{FeedState, HasAll, HasOperation, state_by};
+    ghost use Rattle.snapshot_feed.specs.States.{FeedState, state_by};
 
     ghost Value = { FeedState };
 
     ghost coded = { Prim.hlevel (codes, commands.the_row.coded) };
 
-    ghost view = { λ f. state_by f.attempts
-        (manually_drop_value f.writer).desk.shown.value.front
-        (drop (manually_drop_value f.writer).behind (manually_drop_value f.writer).log.items) };
+    ghost view = { λ f. state_by f.is_lent
+        (manually_drop_value f.writer).desk.shown.value.front };
 
     ghost invariant = { λ f.
         ShowsWell (manually_drop_value f.writer).desk.shown.value.tables
         (manually_drop_value f.writer).desk.shown.value.front
         × IsOf (manually_drop_value f.writer).desk.shown.value.front.book
         (sides.view (manually_drop_value f.writer).desk.place).front
-        × HasOperation
-        (drop (manually_drop_value f.writer).behind (manually_drop_value f.writer).log.items)
-        × (f.marked ≡ true → HasAll
-        (marked_by (manually_drop_value f.writer).desk.shown.value.front
-        (drop (manually_drop_value f.writer).behind (manually_drop_value f.writer).log.items))
-        (manually_drop_value f.writer).desk.shown.value.front
-        (drop (manually_drop_value f.writer).behind (manually_drop_value f.writer).log.items)) };
+        × (f.is_lent ≡ false
+        → fold absorb (manually_drop_value f.writer).desk.spare.value.tables f.lag
+        ≡ (manually_drop_value f.writer).desk.shown.value.tables) };
 }
 
 impl Feed {
@@ -79,9 +74,9 @@ impl Feed {
     }
 
     /// A feed of the empty store, of the list of which this front has seen nothing, with room for so
-    /// many readers, but for one at least and for 64 at most: each publication visits the place of
-    /// each, so fewer make it shorter. It publishes nothing once, so that it knows its list, and
-    /// waits for nobody then.
+    /// many readers, but for one at least and for 64 at most: each showing visits the place of each,
+    /// so fewer make it shorter. It shows the empty tables once, so that it knows its list, and waits
+    /// for nobody then.
     ///
     /// The error is want of memory: for the two copies, and the table of readers' places.
     pub fn with_room<R: Wait>(
@@ -95,95 +90,96 @@ impl Feed {
     {
         let first = ReadTables::new(alloc, front.again());
         let second = ReadTables::new(alloc, front.again());
+        let next = ReadTables::new(alloc, front.again());
         let writer = FeedWriter::new(alloc, first, second, readers.clamp(1, READERS))?;
-        let (writer, outcome) = publish_by(writer, rt);
-        match outcome {
-            Ok(()) => Ok(Feed {
-                // It is taken out again by `close`.
-                writer: unsafe { ManuallyDrop::new_unchecked(writer) },
-                marked: false,
-                attempts: 0,
-            }),
-            Err(error) => {
-                drop(writer.take(rt));
-                Err(error)
+        let (writer, ()) = show(writer, (rt, next));
+        Ok(Feed {
+            alloc,
+            // It is taken out again by `close`.
+            writer: unsafe { ManuallyDrop::new_unchecked(writer) },
+            lag: Ops::new(alloc),
+            is_lent: false,
+        })
+    }
+
+    /// Lends the spare copy of the tables, which has all that readers are shown, with an empty list of
+    /// the operations that are done on it from then on. It is shown again by [`Feed::show`].
+    ///
+    /// `None` means that a growth of its tables found no memory as it took in what it lacked; the next
+    /// call goes on from there.
+    ///
+    /// It waits for the readings that began before the copy was last replaced. The copy takes in what
+    /// was done on the other one: each operation is done twice, once on each copy. The place of each
+    /// reader that there is room for is visited once.
+    pub fn lend<R: Wait>(&mut self, rt: &R) -> Option<Lent>
+        requires { self.old.lent ≡ false }
+        ensures tables { IfSome result (λ l. l.tables ≡ store_of (published_by self.old.published)) }
+        ensures ops { IfSome result (λ l. l.ops ≡ []) }
+        ensures lent { IfSome result (λ l. self.new ≡ lent_out self.old) }
+        ensures none { IfNone result (self.new ≡ self.old) }
+    {
+        let blank = ReadTables::new(self.alloc, self.told());
+        let Feed {
+            alloc,
+            writer,
+            lag,
+            is_lent,
+        } = self;
+        let ops = replace(&mut *lag, Ops::new(*alloc));
+        match replace_with(&mut **writer, (rt, ops, blank), lend::<R>) {
+            Ok(lent) => {
+                *is_lent = true;
+                Some(lent)
+            }
+            Err(left) => {
+                *lag = left;
+                None
             }
         }
     }
 
-    /// Takes an operation, which readers see from the next publication on.
-    ///
-    /// The error is want of memory for one entry of the log, and then nothing has changed. The time
-    /// is constant, but for the growth of the log, and no version is copied. The entry stays in the
-    /// log until both copies have taken it in, that is, up to the second publication after it.
-    pub fn append(&mut self, op: Op) -> Result<(), AllocError>
-        ensures ok { OnOk result (self.new ≡ with_op self.old (published op)) }
-        ensures err { OnErr result (self.new ≡ self.old) }
-    {
-        let Feed {
-            writer,
-            marked,
-            attempts: _attempts,
-        } = self;
-        if !push(&mut **writer, op) {
-            return Err(AllocError);
-        }
-        *marked = false;
-        Ok(())
-    }
-
-    /// Makes all that was appended visible at once, at this front of the list of all events: what
-    /// readers are told of its events is all that was appended, so each change of them stands, and
-    /// they are events that readers may be shown. Where no operation waits nothing is done.
-    ///
-    /// What is shown then is this front, or, where a publication of the same operations was tried
-    /// before and found no memory, the front that was handed to that one.
-    ///
-    /// The error is want of memory, for the mark or within a copy's tables. Readers then see what
-    /// they saw, and the next publication goes on where this one stopped. Each call that finds an
-    /// operation waiting counts as an attempt, whether it finds memory or not.
-    ///
-    /// It waits for the readings that began before the last publication. The copy that is not shown
-    /// takes in what was appended since the publication before the last: each operation is taken in
-    /// twice, once by each copy, each time as it was by the store's own tables. The place of each
-    /// reader that there is room for is visited three times.
-    pub fn publish<R: Wait>(&mut self, rt: &R, front: &Front) -> Result<(), AllocError>
+    /// Shows readers the tables that were lent, with these operations that were done on them, at this
+    /// front of the list of all events: what readers are told of its events is all that was done, so
+    /// each change of them stands, and they are events that readers may be shown. Takes no memory, and
+    /// waits for nobody. The place of each reader that there is room for is visited twice.
+    pub fn show<R: Wait>(&mut self, rt: &R, lent: Lent, front: &Front)
+        requires lent { self.old.lent ≡ true }
         requires book { front.now.book ≡ self.old.book }
-        requires all { published_by front.now.list ≡ appended self.old }
+        requires all { published_by front.now.list ≡ published_by self.old.published ++ lent.ops }
         requires shown { IsShown front.now.list }
-        ensures ok { OnOk result (Settles self.old self.new) }
-        ensures err { OnErr result (self.new ≡ tried self.old) }
+        requires tables { lent.tables ≡ store_of (published_by self.old.published ++ lent.ops) }
+        ensures { self.new ≡ shown_at self.old front.now.list }
     {
-        if self.is_settled() {
-            return Ok(());
-        }
-        front.agree(&self.writer.published().front);
         let Feed {
+            alloc: _alloc,
             writer,
-            marked,
-            attempts,
+            lag,
+            is_lent,
         } = self;
-        *attempts = attempts.wrapping_add(1);
-        if !mark_all(&mut **writer, marked, front) {
-            return Err(AllocError);
-        }
-        replace_with(&mut **writer, rt, publish_by::<R>)
+        let Lent { tables, ops } = lent;
+        let next = ReadTables {
+            tables,
+            front: front.again(),
+        };
+        replace_with(&mut **writer, (rt, next), show::<R>);
+        *lag = ops;
+        *is_lent = false;
     }
 
-    /// The front of what is published now. Takes no memory, and constant time.
+    /// The tables that readers are shown. Takes no memory, and constant time.
+    pub fn tables(&self) -> &Tables
+        ensures { result.now ≡ store_of (published_by self.now.published) }
+    {
+        &self.writer.published().tables
+    }
+
+    /// The front of what is shown now. Takes no memory, and constant time.
     pub fn told(&self) -> Front
         ensures book { result.book ≡ self.now.book }
         ensures list { result.list ≡ self.now.published }
         ensures shown { IsShown result.list }
     {
         self.writer.published().front.again()
-    }
-
-    /// Whether all that was appended is published. Takes no memory, and constant time.
-    pub fn is_settled(&self) -> bool
-        ensures { MatchBool result (self.now.pending ≡ []) (0 < length self.now.pending) }
-    {
-        !self.writer.has_pending_operations()
     }
 
     /// A new reader, which was told of all that is published.
@@ -201,29 +197,26 @@ impl Feed {
         let Ok(mut reader) = self.writer.factory().reader() else {
             return Err(Refusal::NoPlace);
         };
-        reader.learn::<Tells>(self.writer.tell::<Tells>());
+        reader.learn::<Tells>(self.writer.desk.tell::<Tells>());
         Ok(SnapReader::of(reader, self.told()))
     }
 
-    /// Ends the feed, and lets both copies go. It waits for each reading to be left. Readers that
-    /// are left over find no tables to enter.
-    pub fn close<R: Wait>(self, rt: &R) {
+    /// Ends the feed, and gives back the tables that were shown last. It waits for each reading to be
+    /// left. Readers that are left over find no tables to enter.
+    pub fn close<R: Wait>(self, rt: &R) -> Tables
+        ensures { result ≡ store_of (published_by self.published) }
+    {
         let Feed {
+            alloc: _alloc,
             writer,
-            marked: _marked,
-            attempts: _attempts,
+            lag: _lag,
+            is_lent: _is_lent,
         } = self;
-        drop(ManuallyDrop::into_inner(writer).take(rt));
-    }
-}
-
-impl Sink for Feed {
-    ghost use Rattle.std.specs.Prelude.{◌≡◌};
-    ghost use Rattle.snapshot_feed.specs.States.{with_op};
-
-    ghost takes = { λ f op g. g ≡ with_op f op };
-
-    fn take(&mut self, op: Op) -> Result<(), AllocError> {
-        self.append(op)
+        let last = ManuallyDrop::into_inner(writer).take(rt);
+        let ReadTables {
+            tables,
+            front: _front,
+        } = Box::into_inner(last);
+        tables
     }
 }

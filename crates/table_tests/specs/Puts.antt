@@ -1,5 +1,6 @@
 -- What the test of a feed publishes.
-use Rattle.std.specs.Prelude.{pos, codes, false, None}
+use Rattle.std.specs.Prelude.{pos, codes, false, None, List, [], ◌∷◌}
+use Rattle.kv_model.specs.Feed.{Published}
 use Rattle.kv_model.specs.declared.call.Command.TheVariants as command
 use Rattle.kv_model.specs.declared.version.Version.{Version}
 use Rattle.kv_model.specs.declared.version.Body.TheVariants.{Put}
@@ -11,7 +12,11 @@ use Rattle.event_book.specs.Events.{Entry, Event, entry}
 abbrev pub first_put : Version
 first_put = record { rev = record { main = 2; sub = 0 }; key = codes "a"; body = Put 2 1 (pos 0) (codes "1") }
 
--- by this event
+-- by this operation
+abbrev pub first_ops : List Published
+first_ops = Published.batch (first_put ∷ []) ∷ []
+
+-- of this event
 abbrev pub first_event : Entry
 first_event = entry 0 0 (Event.command 0 (record {
   command = command.Put (record {

@@ -1,8 +1,8 @@
 //! A feed and its readers.
 ghost use Rattle.std.specs.Prelude.{◌≡◌, ◌∷◌, [], IfOk, IfSome};
-ghost use Rattle.kv_model.specs.Feed.{Published, published};
+ghost use Rattle.store_laws.specs.Snapshots.{blank, store_of};
 ghost use Rattle.snapshot_feed.specs.States.{unused};
-ghost use Rattle.table_tests.specs.Puts.{first_event, first_put};
+ghost use Rattle.table_tests.specs.Puts.{first_event, first_ops, first_put};
 
 use bytes::Bytes;
 use event_book::{Book, Front, Noted, Opening, open};
@@ -10,7 +10,7 @@ use kv_model::call::{RangeQuery, SortOrder, SortTarget};
 use kv_model::feed::Op;
 use kv_model::version::{Body, KeyRange, Rev, Version};
 use logbook::Plain;
-use snapshot_feed::{Feed, SnapReader};
+use snapshot_feed::{Feed, Lent, SnapReader};
 use std::alloc::{AllocError, Global};
 use std::sync::Wait;
 
@@ -38,9 +38,9 @@ fn front_of_put(book: &Book, first: &Front) -> Option<Front>
     Some(all)
 }
 
-/// The put of `a` at revision 2, as an operation.
-fn put(alloc: Global) -> Result<Op, AllocError>
-    ensures { IfOk result (λ op. published op ≡ Published.batch (first_put ∷ [])) }
+/// The put of `a` at revision 2, as the versions of a revision.
+fn put(alloc: Global) -> Result<Vec<Version>, AllocError>
+    ensures { IfOk result (λ vs. vs.items ≡ first_put ∷ []) }
 {
     let mut list = Vec::new(alloc);
     list.push(Version {
@@ -53,7 +53,7 @@ fn put(alloc: Global) -> Result<Op, AllocError>
             value: Bytes::from_static(b"1"),
         },
     })?;
-    Ok(Op::Batch(list))
+    Ok(list)
 }
 
 fn query() -> RangeQuery {
@@ -88,8 +88,28 @@ fn seen(alloc: Global, reader: &mut SnapReader) -> (u64, u64) {
     }
 }
 
-/// Publishes the put, and tells what a reader sees before it is published, within the tables that
-/// it had entered, and when it enters again.
+/// The tables that a new feed lends, with the put.
+fn with_put(alloc: Global, lent: Lent) -> Option<Lent>
+    requires tables { lent.tables ≡ blank }
+    requires ops { lent.ops ≡ [] }
+    ensures tables { IfSome result (λ l. l.tables ≡ store_of first_ops) }
+    ensures ops { IfSome result (λ l. l.ops ≡ first_ops) }
+{
+    let Lent {
+        mut tables,
+        mut ops,
+    } = lent;
+    let versions = put(alloc).ok()?;
+    if !tables.takes(&versions) {
+        return None;
+    }
+    tables.append(&versions).ok()?;
+    ops.append(Op::Batch(versions)).ok()?;
+    Some(Lent { tables, ops })
+}
+
+/// Shows the put, and tells what a reader sees before it is shown, within the tables that it had
+/// entered, and when it enters again.
 #[tactic(auto, using(crate::proofs::OnePut::put_is_told, crate::proofs::OnePut::put_is_shown))]
 fn put_and_read<R: Wait>(
     rt: &R,
@@ -101,12 +121,12 @@ fn put_and_read<R: Wait>(
     requires feed { feed.old ≡ unused front.now.book }
     requires front { front.now.list ≡ first_event ∷ [] }
 {
-    feed.append(put(alloc).ok()?).ok()?;
+    let lent = with_put(alloc, feed.lend(rt)?)?;
     let before = seen(alloc, reader);
     if reader.enter().is_err() {
         return None;
     }
-    feed.publish(rt, front).ok()?;
+    feed.show(rt, lent, front);
     let within = match reader.range(alloc, &query()) {
         Ok(reply) => (reply.revision, reply.count),
         Err(_) => (0, 0),

@@ -47,7 +47,7 @@ impl<L: EngineName> Engine<L> {
     }
 
     /// Makes a trimming step, as [`Engine::trim_once`] does, and where it is done makes and checks
-    /// the certificate of what is kept, in the same holding. `Memory` comes where the feed finds none
+    /// the certificate of what is kept, in the same holding. `Memory` comes where there is none
     /// for the step, and then nothing has changed; where the certificate finds none, the step tells
     /// none. The client's reading is left.
     pub fn trim_checked<R: Wait>(&self, rt: &R, client: &mut Client<L>) -> Result<Trimmed, Refusal>

@@ -21,16 +21,14 @@ impl<L: EngineName> State<L> {
         ensures { Closes L.ListName.ids result clients.items }
     {
         let State {
-            core,
+            copies,
             listing,
-            feed,
             ..
         } = self;
         listing.audit();
         let returned = take_back(rt, &listing, roster, clients);
         returned.finish(rt, listing);
-        feed.close(rt);
-        core
+        copies.finish(rt)
     }
 }
 

@@ -14,7 +14,6 @@ use crate::client::Client;
 use crate::making::Made;
 use crate::noting::note_checked;
 use crate::opening::EngineName;
-use crate::steps::{certified, moved, trimmed_and_checked};
 use json_gateway::{Certified, Refusal, Trimmed};
 use std::alloc::{AllocError, Global};
 use std::sync::Wait;
@@ -29,7 +28,7 @@ impl<L: EngineName> State<L> {
         ensures front { client.new.holder.front ≡ self.new.log }
         ensures out { client.new.reader.inside ≡ false }
     {
-        let clock = moved(&mut self.core, &self.feed, now);
+        let clock = self.copies.moved(now);
         self.lines.hand_in(now);
         client.note(rt, &mut self.listing, Made::Moment(now, clock), false);
         clock
@@ -45,7 +44,7 @@ impl<L: EngineName> State<L> {
         ensures { Makes L.ListName.ids client.old Event.certificate events.WireEvent.certify
             (certified_outcome result) client.new }
     {
-        let shown = certified(&self.core, &self.feed);
+        let shown = self.copies.certified(rt);
         client.note(rt, &mut self.listing, Made::Certificate(&shown), false);
         shown
     }
@@ -64,7 +63,7 @@ impl<L: EngineName> State<L> {
             (λ e. ShowsTo client.old client.new) }
         ensures refused { IfErr result (λ e. e ≡ Memory) }
     {
-        let step = match trimmed_and_checked(alloc, &mut self.core, &mut self.feed) {
+        let step = match self.copies.trimmed_and_checked(rt, alloc) {
             Ok(step) => step,
             Err(refusal) => {
                 client.see(rt, &self.listing);

@@ -1,15 +1,14 @@
 //! Trimming steps, of which readers are told.
-ghost use Rattle.std.specs.Prelude.{◌≡◌, ◌+◌, ◌||◌, not, nat_lt, false, IfErr, MatchBool};
+ghost use Rattle.std.specs.Prelude.{◌≡◌, ◌+◌, ◌||◌, not, nat_lt, false, [], IfErr, MatchBool};
 ghost use Rattle.kv_model.specs.declared.refusal.Refusal.TheVariants.{Memory};
-ghost use Rattle.snapshot_feed.specs.States.{appended, tried};
+ghost use Rattle.engine_lock.specs.Copied.{appended};
 ghost use Rattle.engine_lock.specs.Entering.{MayTrim};
 
 use super::State;
-use crate::client::{Client, published};
+use crate::client::Client;
 use crate::making::Made;
 use crate::noting::note_trimmed;
 use crate::opening::EngineName;
-use crate::steps::trimmed;
 use json_gateway::{Refusal, Trim};
 use std::sync::Wait;
 
@@ -24,7 +23,7 @@ impl<L: EngineName> State<L> {
         ensures trims { MayTrim L.ListName.ids client.old result client.new }
         ensures refused { IfErr result (λ e. e ≡ Memory) }
     {
-        let step = match trimmed(&mut self.core, &mut self.feed) {
+        let step = match self.copies.trimmed(rt) {
             Ok(step) => step,
             Err(refusal) => {
                 client.see(rt, &self.listing);
@@ -37,12 +36,10 @@ impl<L: EngineName> State<L> {
         Ok(step)
     }
 
-    /// Tells readers of the trimming steps, where trimming is done or many were made. Where that
-    /// finds no memory the next publication tells of them.
+    /// Tells readers of the trimming steps, where trimming is done or many were made.
     pub(super) fn show<R: Wait>(&mut self, rt: &R, is_done: bool)
-        ensures tries { MatchBool (is_done || not (nat_lt self.old.steps 100))
-            (self.new.feed.attempts ≡ (tried self.old.feed).attempts)
-            (self.new.steps ≡ self.old.steps + 1) }
+        ensures settled { MatchBool (is_done || not (nat_lt self.old.steps 100))
+            (self.new.feed.pending ≡ []) (self.new.steps ≡ self.old.steps + 1) }
         ensures appended { appended self.new.feed ≡ appended self.old.feed }
         ensures same { self.new ≡ record self.old {
           feed = self.new.feed;
@@ -54,6 +51,6 @@ impl<L: EngineName> State<L> {
             return;
         }
         self.steps = 0;
-        published(rt, &mut self.feed, &self.listing.front());
+        self.copies.show(rt, &self.listing.front());
     }
 }

@@ -9,11 +9,11 @@ impl<L: EngineName> State<L> {
     pub(crate) fn take_news(&mut self) -> bool
         ensures { self.new ≡ self.old }
     {
-        self.core.take_news()
+        self.copies.take_news()
     }
 
     /// Adds the numbers of the watches that are behind to a list.
     pub(crate) fn behind(&self, numbers: &mut Vec<u64>) {
-        self.core.behind(numbers);
+        self.copies.behind(numbers);
     }
 }

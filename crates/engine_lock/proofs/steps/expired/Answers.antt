@@ -1,10 +1,6 @@
-use Rattle.engine_lock.proofs.Stepping.{expiry_book, makes_expiry}
+use Rattle.engine_lock.proofs.Stepping.{makes_expiry}
 use Rattle.engine_lock.proofs.steps.expired.Goals as goal
 
 pub returns-clause-on : goal.returns-clause-on
-returns-clause-on c = λ ids now. makes_expiry ids now c.expire_to.result c.args.core.now c.expire_to.new.self c.args.feed.now c.expire_to.new.sink
+returns-clause-on c = λ ids now fed. makes_expiry ids now c.expire_to.result c.args.core.now c.expire_to.new.self fed c.args.ops.now c.expire_to.new.sink
     c.expire_to.ensures.done c.expire_to.ensures.told c.expire_to.ensures.stored c.expire_to.ensures.refused c.expire_to.ensures.untold
-
-pub returns-clause-book : goal.returns-clause-book
-returns-clause-book c = λ w h. expiry_book c.expire_to.result c.args.core.now c.args.feed.now c.expire_to.new.sink w h c.expire_to.ensures.told
-    c.expire_to.ensures.untold

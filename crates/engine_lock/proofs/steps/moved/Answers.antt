@@ -1,4 +1,3 @@
-use Rattle.snapshot_feed.specs.States.{appended}
 use Rattle.json_gateway.proofs.Events.{moment_steps}
 use Rattle.engine_lock.proofs.Stepping.{makes_moment}
 use Rattle.engine_lock.proofs.steps.moved.Goals as goal
@@ -7,7 +6,7 @@ pub returns-clause-stands : goal.returns-clause-stands
 returns-clause-stands c = λ w h. (c.moment.ensures.stands w h).0
 
 pub returns-clause-makes : goal.returns-clause-makes
-returns-clause-makes c = λ ids. makes_moment ids c.args.now c.moment.result c.args.core.now c.moment.new.self (appended c.args.feed.now)
+returns-clause-makes c = λ ids fed. makes_moment ids c.args.now c.moment.result c.args.core.now c.moment.new.self fed
     c.moment.ensures.stands c.moment.ensures.kept
 
 pub returns-clause-steps : goal.returns-clause-steps

@@ -1,5 +1,5 @@
-use Rattle.std.proofs.Common.{◌≡◌, ◌+◌, ◌++◌, ◌∷◌, [], ℕ, List, cond, ap, sym, subst, ◌∙◌, arith}
-use Rattle.event_book.specs.Events.{Entry, entry, led_to}
+use Rattle.std.proofs.Common.{◌≡◌, ◌++◌, ◌∷◌, [], ℕ, cond, ap, sym, subst, ◌∙◌, arith}
+use Rattle.event_book.specs.Events.{entry, led_to}
 use Rattle.event_book.specs.Raising.{rise_of}
 use Rattle.engine_lock.specs.Locked.{Caller}
 use Rattle.engine_lock.specs.Makings.{event_made, outcome_made}

@@ -1,4 +1,4 @@
-use Rattle.std.proofs.Common.{sym, ◌∙◌, ap, subst}
+use Rattle.std.proofs.Common.{ap, subst}
 use Rattle.kv_model.specs.declared.ids.Ids.{Ids}
 use Rattle.engine_lock.specs.Entering.{Submits}
 use Rattle.engine_lock.specs.Locked.{EngineState}

@@ -1,5 +1,4 @@
 use Rattle.std.proofs.Common.{◌≡◌, Bool, List, ℕ, ap, rules, sym, subst, ◌∙◌}
-use Rattle.recording.specs.Lines.{Written}
 use Rattle.event_book.specs.Events.{Entry}
 use Rattle.event_script.specs.Scripts.{IsWritten, Taken}
 use Rattle.event_script.specs.Taking.{Takes, taken_next}

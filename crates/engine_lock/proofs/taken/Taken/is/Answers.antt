@@ -1,5 +1,4 @@
-use Rattle.std.proofs.Common.{Bool, sym, ◌∙◌}
-use Rattle.event_script.specs.Scripts.{Taken}
+use Rattle.std.proofs.Common.{sym, ◌∙◌}
 use Rattle.event_book.proofs.Prefixes.{prefix_length, prefix_whole}
 use Rattle.engine_lock.proofs.Locking.{bools}
 use Rattle.engine_lock.proofs.taken.Taken.is.Goals as goal
