@@ -1,6 +1,6 @@
 //! The core and the feed of its readers, who have the two copies of the tables between them: the core's
 //! are its own, or they are the copy that readers are shown.
-ghost use Rattle.std.specs.Prelude.{◌≡◌, [], ⊤, MatchBool, IfErr, IfOk};
+ghost use Rattle.std.specs.Prelude.{◌≡◌, ◌<◌, [], length, MatchBool, IfErr, IfOk};
 ghost use Rattle.kv_model.specs.World.{opening as first_world};
 ghost use Rattle.kv_model.specs.declared.refusal.Refusal.TheVariants.{NoPlace};
 ghost use Rattle.store_laws.specs.Snapshots.{blank as first_tables, store_of};
@@ -138,7 +138,8 @@ impl Copies {
 
     /// Whether all that was appended is shown.
     pub(crate) fn is_settled(&self) -> bool
-        ensures { MatchBool result (self.now.feed.pending ≡ []) ⊤ }
+        ensures { MatchBool result (self.now.feed.pending ≡ [])
+            (0 < length self.now.feed.pending) }
     {
         match &self.hold {
             Hold::Whole(_, ops) => ops.is_empty(),

@@ -91,6 +91,8 @@ impl Rest {
         requires { CanJoin tables.now self.now }
         ensures revision { result.revision ≡ (joined tables.now self.now).store.revision }
         ensures compacted { result.compacted ≡ (joined tables.now self.now).store.compacted }
+        ensures clock { result.clock ≡ (joined tables.now self.now).store.clock }
+        ensures versions { result.versions ≡ length (joined tables.now self.now).store.versions }
     {
         Status {
             revision: tables.revision(),
