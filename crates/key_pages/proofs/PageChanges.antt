@@ -1,19 +1,17 @@
 -- What a key that goes in, changes its value or goes out makes of the pages.
 use Rattle.std.proofs.Common.{◌≡◌, ℕ, zero, suc, ◌<◌, ◌≤◌, List, [], ◌∷◌, ◌++◌, length, get_or, set, take, drop, Bool, true, false, cond}
-use Rattle.std.proofs.Common.{Option, None, Some, is_some, unwrap_or, Result, Ok, Err, IfOk, OnOk, OnErr, refl, sym, ◌∙◌, ap, subst, arith, length-drop}
-use Rattle.std.specs.List.{AllByRecursion, slice_get, insert}
+use Rattle.std.proofs.Common.{Option, None, Some, Result, Ok, Err, IfOk, OnOk, OnErr, refl, sym, ◌∙◌, ap, subst, arith, length-drop}
+use Rattle.std.specs.List.{insert}
 use Rattle.std.specs.declared.cmp.Ordering.{Ordering}
 use Rattle.std.specs.declared.cmp.Ordering.TheVariants.{Less, Equal, Greater}
-use Rattle.std.specs.Ordering.{is_eq, is_gt, match_ordering}
+use Rattle.std.specs.Ordering.{is_eq, match_ordering}
 use Rattle.std.specs.BTreeMap.{is_at as is_key}
 use Rattle.std.proofs.lemmas.Map.{length-set_value}
-use Rattle.std.proofs.lemmas.Option.{slice_get-get_or}
 use Rattle.kv_model.specs.Keys.{key_cmp}
-use Rattle.store_laws.specs.Rising.{newest}
 use Rattle.store_laws.proofs.Rising.{newest-cons}
-use Rattle.key_pages.specs.Pairs.{IsAscending, cut_by, cut_in, found, inserted, put_by, put_in, with_value}
+use Rattle.key_pages.specs.Pairs.{IsAscending, cut_in, found, inserted, put_by, put_in, with_value}
 use Rattle.key_pages.specs.Paged.{ArePages, HavePairs, change_at, ends_below_or_none, flat, freed, is_behind, page_index}
-use Rattle.key_pages.proofs.Pairs.{AreBelow, IsLocal, below-first, parted, ascending-insert, ascending-put, ascending-cut, insert-behind, put-local, cut-local}
+use Rattle.key_pages.proofs.Pairs.{AreBelow, below-first, parted, ascending-insert, ascending-put, ascending-cut, insert-behind, put-local, cut-local}
 use Rattle.key_pages.proofs.Places.{all-below}
 use Rattle.key_pages.proofs.Pages.{change-local, flat-freed, flat-push, flat-split, found-page, held-change, held-freed, held-push, held-split, index-bound, set-change}
 use Rattle.store_laws.proofs.PlaceLaws.{each-append}

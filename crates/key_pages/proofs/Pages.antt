@@ -1,6 +1,6 @@
 -- Pairs in pages: on which page a key stands, and what a change of that page makes of all.
-use Rattle.std.proofs.Common.{◌≡◌, ℕ, zero, suc, ◌+◌, ◌<◌, ◌≤◌, List, [], ◌∷◌, ◌++◌, length, get_or, set, take, drop, Bool, true, false, cond}
-use Rattle.std.proofs.Common.{Option, None, Some, filter, refl, sym, ◌∙◌, ap, subst, arith, append_assoc, length-append}
+use Rattle.std.proofs.Common.{◌≡◌, ℕ, zero, suc, ◌<◌, ◌≤◌, List, [], ◌∷◌, ◌++◌, length, get_or, set, take, drop, Bool, true, false, cond}
+use Rattle.std.proofs.Common.{Option, None, Some, filter, refl, sym, ◌∙◌, ap, subst, arith, append_assoc}
 use Rattle.std.specs.List.{AllByRecursion, slice_get, insert, remove}
 use Rattle.std.specs.List.Sorted.{IsPartitionedBy}
 use Rattle.std.specs.declared.cmp.Ordering.{Ordering}
@@ -16,10 +16,13 @@ use Rattle.kv_model.specs.Lists.{is_empty}
 use Rattle.store_laws.specs.Rising.{count_while}
 use Rattle.store_laws.proofs.PlaceLaws.{each-append, each-filter}
 use Rattle.store_laws.proofs.Rising.{each-at, count_while-le}
-use Rattle.key_pages.specs.Pairs.{IsAscending, found, inserted, from_key}
-use Rattle.key_pages.specs.Paged.{ArePages, HavePairs, change_at, count_below, flat, freed, is_void, page_index, starts_up_to}
-use Rattle.key_pages.proofs.Pairs.{AreAbove, AreBelow, IsLocal, Parted, parted, above-trans, below-first, each-parts, found-front, found-back, from-front, from-back, turn-greater, turn-less}
+use Rattle.key_pages.specs.Pairs.{IsAscending, found, from_key}
+use Rattle.key_pages.specs.Paged.{HavePairs, change_at, count_below, flat, freed, is_void, page_index, starts_at, starts_behind, starts_up_to}
+use Rattle.key_pages.proofs.Pairs.{AreAbove, AreBelow, IsLocal, parted, above-trans, below-first, each-parts, found-front, found-back, from-front, from-back, turn-greater, turn-less}
 use Rattle.key_pages.proofs.Places.{from-place}
+
+no-page-there : false ≡ true → ⊥
+no-page-there e = cc
 
 is-not-less : (o : Ordering) → is_ge o ≡ true → o ≡ Less → ⊥
 is-not-less Less e f = cc
@@ -95,6 +98,33 @@ module _ {X : Type 0} where
   starts-partitioned k (q ∷ ps) r h (suc i) zero d l m e = absurd (omega arith)
   starts-partitioned k (q ∷ ps) r h (suc i) (suc j) d l m e =
       starts-partitioned k ps (parted q (flat ps) r).back h.1 i j d (omega arith) (omega arith) e
+
+  starts-some : (k : List ℕ) (ps : List (List (List ℕ × X))) (n : ℕ) (d : List (List ℕ × X)) → starts_at k n ps ≡ true
+      → (n < length ps) × (starts_up_to k (get_or ps n d) ≡ true)
+  starts-some k [] n d a = absurd (no-page-there a)
+  starts-some k (p ∷ ps) zero d a = (omega arith, a)
+  starts-some k (p ∷ ps) (suc n) d a = let rest = starts-some k ps n d a in (let inner = rest.0 in omega arith, rest.1)
+
+  -- a page before one that does not start above the key does not, either
+  first-starts : (k : List ℕ) (q : List (List ℕ × X)) (ps : List (List (List ℕ × X))) → IsAscending (flat (q ∷ ps)) → HavePairs (q ∷ ps)
+      → (n : ℕ) → starts_at k n ps ≡ true → starts_up_to k q ≡ true
+  first-starts k q ps r h n a =
+      let some = starts-some k ps n q a in
+      let inner = some.0 in
+      starts-partitioned k (q ∷ ps) r h zero (suc n) q (omega arith) (omega arith) some.1
+
+  -- where the page before an index does not start above the key, and the one there does, so many do not
+  pub starts-count : (k : List ℕ) (ps : List (List (List ℕ × X))) → IsAscending (flat ps) → HavePairs ps → (n : ℕ)
+      → starts_behind k n ps ≡ true → starts_at k n ps ≡ false → n ≡ count_while (starts_up_to k) ps
+  starts-count k [] r h zero a b = refl
+  starts-count k [] r h (suc n) a b = cc
+  starts-count k (q ∷ ps) r h zero a b = sym (ap (λ t. cond t (suc (count_while (starts_up_to k) ps)) zero) b)
+  starts-count k (q ∷ ps) r h (suc zero) a b =
+      ap suc (starts-count k ps (parted q (flat ps) r).back h.1 zero refl b)
+      ∙ sym (ap (λ t. cond t (suc (count_while (starts_up_to k) ps)) zero) a)
+  starts-count k (q ∷ ps) r h (suc (suc n)) a b =
+      ap suc (starts-count k ps (parted q (flat ps) r).back h.1 (suc n) a b)
+      ∙ sym (ap (λ t. cond t (suc (count_while (starts_up_to k) ps)) zero) (first-starts k q ps r h n a))
 
   pub tail-ascending : (ps : List (List (List ℕ × X))) → IsAscending (flat ps) → IsAscending (flat (drop 1 ps))
   tail-ascending [] r = tt

@@ -1,15 +1,12 @@
 -- Pairs that ascend: what a change does behind those below a key, and before those above it.
-use Rattle.std.proofs.Common.{◌≡◌, ℕ, List, [], ◌∷◌, ◌++◌, Bool, true, false, cond, Option, None, Some, filter, refl, sym, ◌∙◌, ap, subst}
+use Rattle.std.proofs.Common.{◌≡◌, ℕ, List, [], ◌∷◌, ◌++◌, Bool, true, false, cond, Option, None, Some, refl, sym, ◌∙◌, ap, subst}
 use Rattle.std.specs.List.{AllByRecursion}
 use Rattle.std.specs.declared.cmp.Ordering.{Ordering}
 use Rattle.std.specs.declared.cmp.Ordering.TheVariants.{Less, Equal, Greater}
 use Rattle.std.specs.Ordering.{ordering_reverse, is_eq, is_gt, is_le, match_ordering}
-use Rattle.std.specs.Map.{lookup, set_value, remove_entry}
-use Rattle.std.specs.BTreeMap.{insert_entry, is_at as is_key}
 use Rattle.std.specs.Cmp.Lexicographic.{nat_list_cmp_total}
 use Rattle.std.proofs.lemmas.Map.Lookups.{exact_bytes}
-use Rattle.kv_model.specs.Keys.{key_cmp, key_le}
-use Rattle.store_laws.proofs.PlaceLaws.{each-append, each-map}
+use Rattle.kv_model.specs.Keys.{key_cmp}
 use Rattle.key_pages.specs.Pairs.{IsAscending, below_key, cut_by, cut_in, found, inserted, put_by, put_in, with_value, without, from_key}
 
 -- ---- keys

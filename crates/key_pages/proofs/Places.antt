@@ -1,5 +1,5 @@
 -- Where in ascending pairs a key stands, or has its place.
-use Rattle.std.proofs.Common.{◌≡◌, ℕ, zero, suc, ◌<◌, ◌≤◌, List, [], ◌∷◌, ◌++◌, length, get_or, set, take, drop, Bool, true, false, not, cond}
+use Rattle.std.proofs.Common.{◌≡◌, ℕ, zero, suc, ◌<◌, List, [], ◌∷◌, length, get_or, set, drop, Bool, true, false, not, cond}
 use Rattle.std.proofs.Common.{Option, None, Some, is_some, Result, Ok, Err, OnOk, refl, sym, ◌∙◌, ap, subst, arith}
 use Rattle.std.specs.List.{AllByRecursion, slice_get, insert, remove}
 use Rattle.std.specs.List.Sorted.{IsPartitionedBy}
@@ -9,7 +9,6 @@ use Rattle.std.specs.Ordering.{is_eq, is_gt, is_le, match_ordering}
 use Rattle.std.specs.Cmp.Lexicographic.{nat_list_cmp_total}
 use Rattle.std.proofs.lemmas.Map.Lookups.{exact_bytes}
 use Rattle.kv_model.specs.Keys.{key_cmp}
-use Rattle.store_laws.specs.Rising.{count_while, newest}
 use Rattle.store_laws.proofs.Rising.{each-at, newest-cons}
 use Rattle.key_pages.specs.Pairs.{IsAscending, cut_by, cut_in, found, inserted, put_by, put_in, told_by, with_value, without, from_key}
 use Rattle.key_pages.specs.Paged.{is_below, is_below_at, is_place_behind, is_below_or_none, count_below, cut_at, is_pair_of, is_there, ends_below, value_if}
@@ -108,6 +107,17 @@ module _ {X : Type 0} (k : List ℕ) where
       by : (o : Option (List ℕ × X)) → is_pair_of k o ≡ is_some (value_if k o)
       by None = refl
       by (Some e) = test (is_eq (key_cmp k e.0)) e.1
+
+  -- the key there is this one
+  pub there-key : (i : ℕ) (es : List (List ℕ × X)) (d : List ℕ × X) → is_there k i es ≡ true → (get_or es i d).0 ≡ k
+  there-key i [] d h = cc
+  there-key zero (e ∷ es) d h = by (key_cmp k e.0) refl h
+    where
+      by : (o : Ordering) → key_cmp k e.0 ≡ o → is_eq o ≡ true → e.0 ≡ k
+      by Less g t = cc
+      by Equal g t = sym (exact_bytes k e.0 g)
+      by Greater g t = cc
+  there-key (suc i) (e ∷ es) d h = there-key i es d h
 
   pub inside : (i : ℕ) (es : List (List ℕ × X)) → is_there k i es ≡ true → i < length es
   inside i [] h = cc

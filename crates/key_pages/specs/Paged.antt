@@ -1,5 +1,5 @@
 -- Pairs in pages.
-use Rattle.std.specs.Prelude.{◌≡◌, ℕ, zero, suc, ◌<◌, List, [], ◌∷◌, Bool, true, false, Option, None, Some, length, drop, set}
+use Rattle.std.specs.Prelude.{ℕ, zero, suc, ◌<◌, List, [], ◌∷◌, Bool, true, false, Option, None, Some, length, drop, set}
 use Rattle.std.specs.Prelude.{if◌then◌else◌}
 use Rattle.std.specs.List.{AllByRecursion, flat_map, slice_get, remove}
 use Rattle.std.specs.Ordering.{is_eq, is_gt, is_ge}
@@ -60,6 +60,19 @@ module _ {X : Type 0} where
   abbrev pub starts_up_to : List ℕ → List (List ℕ × X) → Bool
   starts_up_to k [] = true
   starts_up_to k (e ∷ es) = is_ge (key_cmp k e.0)
+
+  abbrev pub does_start : List ℕ → Option (List (List ℕ × X)) → Bool
+  does_start k None = false
+  does_start k (Some p) = starts_up_to k p
+
+  -- there is a page at an index that does not start above a key
+  abbrev pub starts_at : List ℕ → ℕ → List (List (List ℕ × X)) → Bool
+  starts_at k i ps = does_start k (slice_get ps i)
+
+  -- the page before an index, if it is not the first, does not start above a key
+  abbrev pub starts_behind : List ℕ → ℕ → List (List (List ℕ × X)) → Bool
+  starts_behind k zero ps = true
+  starts_behind k (suc i) ps = starts_at k i ps
 
   abbrev pub is_below_or_none : List ℕ → Option (List ℕ × X) → Bool
   is_below_or_none k None = true

@@ -8,6 +8,7 @@ ghost use Rattle.key_pages.specs.Paged.{ArePages, change_at, flat, freed, is_beh
 ghost use Rattle.key_pages.specs.Paged.{is_void, page_index};
 
 use crate::change::{Cut, Growth};
+use crate::heads::Heads;
 use crate::look_up::{page_at, page_index};
 use crate::page::Page;
 use bytes::Bytes;
@@ -33,6 +34,7 @@ fn last_page<V>(pages: &[Page<V>]) -> Option<&Page<V>>
 /// Adds a page of a key alone behind all others. The error is want of memory.
 fn push_page<V: Drop>(
     pages: &mut Vec<Page<V>>,
+    firsts: &mut Heads,
     alloc: Global,
     key: &Bytes,
     value: V,
@@ -41,13 +43,18 @@ fn push_page<V: Drop>(
         ≡ pages.old.items ++ ((key.now, value) ∷ []) ∷ []) }
     ensures err { OnErr result (pages.new.items ≡ pages.old.items) }
 {
-    pages.push(Page::of(alloc, key, value)?)?;
+    let page = Page::of(alloc, key, value)?;
+    pages.reserve(1)?;
+    firsts.make_room()?;
+    pages.push(page)?;
+    firsts.note(pages, pages.len().saturating_sub(1));
     Ok(())
 }
 
 /// Splits the page at an index, which is full, in half. The error is want of memory.
 fn split_page<V: Drop>(
     pages: &mut Vec<Page<V>>,
+    firsts: &mut Heads,
     alloc: Global,
     index: usize,
 ) -> Result<(), AllocError>
@@ -59,8 +66,10 @@ fn split_page<V: Drop>(
     ensures some { 0 < length pages.new.items }
 {
     pages.reserve(1)?;
+    firsts.make_room()?;
     let upper = pages[index].split(alloc)?;
     pages.insert(index + 1, upper)?;
+    firsts.note(pages, index + 1);
     Ok(())
 }
 
@@ -112,6 +121,7 @@ fn try_put_at<V: Drop, G: Growth<V>>(
 /// full or is not there. The error is want of memory.
 fn put_beside<V: Drop, G: Growth<V>>(
     pages: &mut Vec<Page<V>>,
+    firsts: &mut Heads,
     alloc: Global,
     index: usize,
     key: &Bytes,
@@ -129,18 +139,19 @@ fn put_beside<V: Drop, G: Growth<V>>(
     ensures pages { ArePages pages.new.items }
 {
     if is_behind(pages, key) {
-        return push_page(pages, alloc, key, growth.first());
+        return push_page(pages, firsts, alloc, key, growth.first());
     }
-    if let Err(error) = split_page(pages, alloc, index) {
+    if let Err(error) = split_page(pages, firsts, alloc, index) {
         return Err(error);
     }
-    let index = page_index(pages, key);
+    let index = page_index(pages, firsts, key);
     put_at(pages, index, key, growth)
 }
 
 /// Puts a key in, or adds to the value that it has. The error is want of memory.
 pub(crate) fn put<V: Drop, G: Growth<V>>(
     pages: &mut Vec<Page<V>>,
+    firsts: &mut Heads,
     alloc: Global,
     key: &Bytes,
     growth: &G,
@@ -153,13 +164,13 @@ pub(crate) fn put<V: Drop, G: Growth<V>>(
     ensures err { OnErr result (flat pages.new.items ≡ flat pages.old.items) }
     ensures pages { ArePages pages.new.items }
 {
-    let index = page_index(pages, key);
+    let index = page_index(pages, firsts, key);
     if index >= pages.len() {
-        return put_beside(pages, alloc, index, key, growth);
+        return put_beside(pages, firsts, alloc, index, key, growth);
     }
     match try_put_at(pages, index, key, growth) {
         Ok(true) => Ok(()),
-        Ok(false) => put_beside(pages, alloc, index, key, growth),
+        Ok(false) => put_beside(pages, firsts, alloc, index, key, growth),
         Err(error) => Err(error),
     }
 }
@@ -187,18 +198,24 @@ fn is_void<V>(pages: &[Page<V>], index: usize) -> bool
 }
 
 /// Takes out the page at an index where it has no key.
-fn free<V: Drop>(pages: &mut Vec<Page<V>>, index: usize)
+fn free<V: Drop>(pages: &mut Vec<Page<V>>, firsts: &mut Heads, index: usize)
     requires { index < length pages.old.items }
     ensures { pages.new.items ≡ freed index pages.old.items }
 {
     if is_void(pages, index) {
         let _ = pages.remove(index);
+        firsts.remove(index.saturating_sub(1));
     }
 }
 
 /// Takes from the value of a key, where it is there, the key out where nothing is left, and its page
 /// where it was the last key on it.
-pub(crate) fn cut<V: Drop, C: Cut<V>>(pages: &mut Vec<Page<V>>, key: &Bytes, cut: &mut C)
+pub(crate) fn cut<V: Drop, C: Cut<V>>(
+    pages: &mut Vec<Page<V>>,
+    firsts: &mut Heads,
+    key: &Bytes,
+    cut: &mut C,
+)
     requires { ArePages pages.old.items }
     ensures pairs { flat pages.new.items
         ≡ cut_in (C.left cut.old) (C.is_spent cut.old) key.now (flat pages.old.items) }
@@ -206,10 +223,10 @@ pub(crate) fn cut<V: Drop, C: Cut<V>>(pages: &mut Vec<Page<V>>, key: &Bytes, cut
         ≡ told_by (C.told cut.old) cut.old (found key.now (flat pages.old.items)) }
     ensures pages { ArePages pages.new.items }
 {
-    let index = page_index(pages, key);
+    let index = page_index(pages, firsts, key);
     if index >= pages.len() {
         return;
     }
     cut_at(pages, index, key, cut);
-    free(pages, index);
+    free(pages, firsts, index);
 }

@@ -1,11 +1,13 @@
-//! Where a key stands among those of a page, as far as four bytes of each tell. What is told is a hint:
+//! Where a key stands among others in order, as far as four bytes of each tell. What is told is a hint:
 //! no clause rests on it, and who asks looks at the keys there before it goes by it.
 
+use crate::page::Page;
 use bytes::Bytes;
 use std::alloc::{AllocError, Global};
 
-/// Of each key of a page the four bytes behind those with which all of them begin, as one number, of
-/// which the first byte counts most. They lie side by side, where the keys lie each behind a pointer.
+/// Of each key of a page, or of the first key of each page but the first one, the four bytes behind those
+/// with which all of them begin, as one number, of which the first byte counts most. They lie side by
+/// side, where the keys lie each behind a pointer.
 #[derive(Drop)]
 pub(crate) struct Heads {
     skip: usize,
@@ -13,6 +15,14 @@ pub(crate) struct Heads {
 }
 
 impl Heads {
+    /// Those of no keys, which take their memory from `alloc` as they grow.
+    pub(crate) fn new(alloc: Global) -> Heads {
+        Heads {
+            skip: 0,
+            words: Vec::new(alloc),
+        }
+    }
+
     /// Those of so many keys, all of them 0 until [`Heads::renew`]. The error is want of memory.
     pub(crate) fn of(alloc: Global, count: usize) -> Result<Heads, AllocError> {
         let mut words = Vec::new(alloc);
@@ -34,6 +44,38 @@ impl Heads {
             self.words.insert(index, word_at(key, self.skip))?;
         }
         Ok(())
+    }
+
+    /// Makes room for one more. The error is want of memory.
+    pub(crate) fn make_room(&mut self) -> Result<(), AllocError> {
+        self.words.reserve(1)
+    }
+
+    /// Takes note of the page that came to an index among others, for which there is room. Where its first
+    /// key begins otherwise than theirs they are made anew, which is linear in the number of the pages, and
+    /// comes at most once for each byte with which the first keys of all pages begin alike.
+    pub(crate) fn note<V>(&mut self, pages: &[Page<V>], index: usize) {
+        let Some((_, later)) = pages.split_first() else {
+            return;
+        };
+        let (Some(place), Some(page)) = (index.checked_sub(1), pages.get(index)) else {
+            return;
+        };
+        let key = page.first_key();
+        let _ = self.insert(place, key);
+        if later.len() == 1 || !self.fits_ends(key, later) {
+            self.renew_firsts(later);
+        }
+    }
+
+    /// Whether a key begins as the first keys of the first and of the last of these pages do.
+    fn fits_ends<V>(&self, key: &[u8], pages: &[Page<V>]) -> bool {
+        match (pages.first(), pages.last()) {
+            (Some(first), Some(last)) => {
+                self.fits(key, first.first_key()) && self.fits(key, last.first_key())
+            }
+            _ => true,
+        }
     }
 
     /// Takes note of a key that went.
@@ -70,6 +112,20 @@ impl Heads {
         self.skip = skip;
         for (word, pair) in self.words.iter_mut().zip(pairs.iter()) {
             *word = word_at(pair.0.as_slice(), skip);
+        }
+    }
+}
+
+impl Heads {
+    /// Makes them anew, of the first keys of these pages in order. Linear in the number of the pages.
+    fn renew_firsts<V>(&mut self, pages: &[Page<V>]) {
+        let skip = match (pages.first(), pages.last()) {
+            (Some(first), Some(last)) => common(first.first_key(), last.first_key()),
+            _ => 0,
+        };
+        self.skip = skip;
+        for (word, page) in self.words.iter_mut().zip(pages.iter()) {
+            *word = word_at(page.first_key(), skip);
         }
     }
 }

@@ -3,6 +3,7 @@ ghost use Rattle.std.specs.Prelude.{◌≡◌, [], option_copied, Some, OnOk, On
 ghost use Rattle.key_pages.specs.Pairs.{IsAscending, cut_in, found, from_key, put_in, told_by};
 
 use crate::change::{Cut, Growth};
+use crate::heads::Heads;
 use crate::page::Page;
 use crate::walk::Walk;
 use crate::{changes, look_up};
@@ -19,6 +20,8 @@ use std::marker::Model;
 #[derive(Drop)]
 pub struct KeyPages<V> {
     alloc: Global,
+    /// Hints of the first key of each page but the first one.
+    firsts: Heads,
     pages: Vec<Page<V>>,
 }
 
@@ -40,6 +43,7 @@ impl<V> KeyPages<V> {
     {
         KeyPages {
             alloc,
+            firsts: Heads::new(alloc),
             pages: Vec::new(alloc),
         }
     }
@@ -50,7 +54,7 @@ impl<V> KeyPages<V> {
         ensures value { option_copied result ≡ found key.now self.now }
         ensures ascending { IsAscending self.now }
     {
-        look_up::get(&self.pages, key)
+        look_up::get(&self.pages, &self.firsts, key)
     }
 
     /// Puts a key in with a first value where it is not there, and else adds to the value that it
@@ -65,7 +69,7 @@ impl<V> KeyPages<V> {
             ≡ put_in (G.grown growth.now) key.now (G.fresh growth.now) self.old) }
         ensures err { OnErr result (self.new ≡ self.old) }
     {
-        changes::put(&mut self.pages, self.alloc, key, growth)
+        changes::put(&mut self.pages, &mut self.firsts, self.alloc, key, growth)
     }
 
     /// Takes from the value of a key, in place, and the key out where nothing of it is left; where
@@ -76,7 +80,7 @@ impl<V> KeyPages<V> {
         ensures pairs { self.new ≡ cut_in (C.left cut.old) (C.is_spent cut.old) key.now self.old }
         ensures told { cut.new ≡ told_by (C.told cut.old) cut.old (found key.now self.old) }
     {
-        changes::cut(&mut self.pages, key, cut);
+        changes::cut(&mut self.pages, &mut self.firsts, key, cut);
     }
 
     /// All keys with their values, lent one after another. Takes no memory, and constant time.
@@ -93,6 +97,6 @@ impl<V> KeyPages<V> {
         ensures value { result ≡ from_key key.now self.now }
         ensures ascending { IsAscending self.now }
     {
-        look_up::walk_from(&self.pages, key)
+        look_up::walk_from(&self.pages, &self.firsts, key)
     }
 }

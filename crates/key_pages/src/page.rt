@@ -85,6 +85,14 @@ impl<V> Page<V> {
         }
     }
 
+    /// The bytes of the first key: none where there is no key.
+    pub(crate) fn first_key(&self) -> &[u8] {
+        match self.pairs.first() {
+            Some(pair) => pair.0.as_slice(),
+            None => &[],
+        }
+    }
+
     /// Whether the last key, if there is one, is below a key.
     pub(crate) fn ends_below(&self, key: &Bytes) -> bool
         ensures { result ≡ ends_below key.now self.now }
@@ -266,22 +274,33 @@ impl<V> Page<V> {
         ensures err { OnErr result (self.new ≡ self.old) }
     {
         if self.is_there(index, key) {
-            self.grow_at(index, growth)
+            self.grow_at(index, key, growth)
         } else {
             self.insert_at(index, key, growth.first())
         }
     }
 
-    /// Adds to the value at an index. The error is want of memory.
-    fn grow_at<G: Growth<V>>(&mut self, index: usize, growth: &G) -> Result<(), AllocError>
+    /// Adds to the value at an index, of a key that is there, and keeps this key in place of the equal one
+    /// that was there: its block may be that of what is put, and the former one goes with what was put
+    /// before. The error is want of memory.
+    fn grow_at<G: Growth<V>>(
+        &mut self,
+        index: usize,
+        key: &Bytes,
+        growth: &G,
+    ) -> Result<(), AllocError>
         requires inside { index < length self.old }
+        requires same { (d : List ℕ × V) → (get_or self.old index d).0 ≡ key.now }
         requires may { (d : List ℕ × V) → G.may_grow growth.now (get_or self.old index d).1 }
         ensures ok { (d : List ℕ × V) → OnOk result (self.new ≡ slice_set self.old index
             ((get_or self.old index d).0, G.grown growth.now (get_or self.old index d).1)) }
         ensures err { OnErr result (self.new ≡ self.old) }
     {
+        let owned = key.clone()?;
         let pair = &mut self.pairs[index];
-        growth.grow(&mut pair.1)
+        growth.grow(&mut pair.1)?;
+        pair.0 = owned;
+        Ok(())
     }
 
     /// Puts a key in at an index. The error is want of memory.

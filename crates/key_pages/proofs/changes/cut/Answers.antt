@@ -1,9 +1,9 @@
 -- The page changes on which the key stands, and goes where it was the last one there.
-use Rattle.std.proofs.Common.{◌≡◌, ◌<◌, ◌≤◌, [], get_or, length, refl, sym, ◌∙◌, ap, subst, arith, rules}
+use Rattle.std.proofs.Common.{◌≡◌, ◌<◌, [], get_or, length, refl, sym, ◌∙◌, ap, subst, arith, rules}
 use Rattle.key_pages.specs.Pairs.{cut_in, found, told_by}
 use Rattle.key_pages.specs.Paged.{ArePages, change_at, flat, freed, page_index}
 use Rattle.key_pages.proofs.Pages.{found-page, length-change, no-page}
-use Rattle.key_pages.proofs.PageChanges.{Changed, cut-page}
+use Rattle.key_pages.proofs.PageChanges.{cut-page}
 use Rattle.key_pages.proofs.changes.cut.Goals as goal
 
 pub returns-then-index-len-clause-pairs : goal.returns-then-index-len-clause-pairs

@@ -1,5 +1,5 @@
 -- On a new page behind all others, or on its page, which is split first.
-use Rattle.std.proofs.Common.{◌≡◌, ◌<◌, ◌≤◌, false, length, sym, ◌∙◌, ap, subst}
+use Rattle.std.proofs.Common.{◌<◌, length, sym, ◌∙◌, ap, subst}
 use Rattle.key_pages.specs.Paged.{is_behind, page_index}
 use Rattle.key_pages.proofs.Pages.{index-bound}
 use Rattle.key_pages.proofs.PageChanges.{behind-none, on-pushed, pages-pushed}

@@ -1,5 +1,5 @@
 -- Both halves stand where the page stood.
-use Rattle.std.proofs.Common.{◌≡◌, ◌+◌, suc, get_or, set, ◌∙◌, ap, sym, subst, arith}
+use Rattle.std.proofs.Common.{◌+◌, get_or, set, ◌∙◌, ap, arith}
 use Rattle.std.specs.List.{insert}
 use Rattle.key_pages.proofs.PageChanges.{split-pages}
 use Rattle.key_pages.proofs.changes.split_page.Goals as goal

@@ -1,7 +1,11 @@
 -- The key is there, and its value grows, or it goes in at its place.
 use Rattle.std.proofs.Common.{sym, ◌∙◌}
-use Rattle.key_pages.proofs.Places.{grown-ok, first-ok, place-value}
+use Rattle.key_pages.proofs.Places.{grown-ok, first-ok, place-value, there-key}
 use Rattle.key_pages.proofs.page.Page.put_at.Goals as goal
+
+pub grow_at-requires-clause-same : goal.grow_at-requires-clause-same
+grow_at-requires-clause-same g c = λ d.
+    there-key c.args.key.now c.args.index c.args.self.now d (sym c.is_there.ensures ∙ c.if-is_there.true)
 
 pub grow_at-requires-clause-may : goal.grow_at-requires-clause-may
 grow_at-requires-clause-may g c = λ d. c.requires.may _

@@ -4,7 +4,7 @@ use Rattle.std.proofs.lemmas.List.Sorted.{IsPartitionPoint-from_clause}
 use Rattle.store_laws.proofs.Rising.{count_while-point}
 use Rattle.key_pages.specs.Paged.{starts_up_to}
 use Rattle.key_pages.proofs.Pages.{starts-partitioned}
-use Rattle.key_pages.proofs.look_up.count_up_to.Goals as goal
+use Rattle.key_pages.proofs.look_up.halved.Goals as goal
 
 pub returns-clause-value : goal.returns-clause-value
 returns-clause-value g c =
