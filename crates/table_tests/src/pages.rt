@@ -43,3 +43,34 @@ fn takes_back_what_stands_on_several_pages(rt: HostRuntime) {
         None
     );
 }
+
+// Of ten versions on one page the first two go, one between others, and then, with one more behind them,
+// the first and the last of what is left.
+static FIRST_AND_OTHERS: [Row; 18] = [
+    Row::PushBelow(12),
+    Row::Remove(2, 0),
+    Row::Remove(3, 0),
+    Row::Remove(6, 0),
+    Row::Len(7),
+    Row::Walk(7, 1),
+    Row::Get(4, 0, Some((4, 0))),
+    Row::Get(6, 0, None),
+    Row::Get(7, 0, Some((7, 0))),
+    Row::NextFrom(2, 0, Some((4, 0))),
+    Row::NextFrom(6, 0, Some((7, 0))),
+    Row::Push(12, 0),
+    Row::Remove(4, 0),
+    Row::Remove(12, 0),
+    Row::Len(6),
+    Row::Walk(6, 1),
+    Row::WalkFrom(8, 4),
+    Row::NextFrom(12, 0, None),
+];
+
+#[test]
+fn takes_out_the_first_of_a_page_and_others(rt: HostRuntime) {
+    assert_eq!(rt;
+        first_wrong_of_fresh(rt.alloc(), FIRST_AND_OTHERS.as_slice()),
+        None
+    );
+}

@@ -104,7 +104,10 @@ fn is_so(table: &mut VersionTable, row: Row) -> bool {
 fn is_told(table: &VersionTable, row: Row) -> bool {
     match row {
         Row::Get(main, sub, expected) => place(table.get(Rev { main, sub })) == expected,
-        Row::NextFrom(main, sub, expected) => pair(table.next_from(Rev { main, sub })) == expected,
+        Row::NextFrom(main, sub, expected) => {
+            let rev = Rev { main, sub };
+            pair(table.next_from(rev)) == expected && place(table.first_from(rev)) == expected
+        }
         Row::Len(expected) => table.len() == expected,
         Row::Pages(expected) => table.pages() == expected,
         Row::Walk(all, most) => {

@@ -1,6 +1,6 @@
 -- A trimming step over versions that rise, and their index.
 use Rattle.std.proofs.Common.{◌≡◌, ℕ, List, [], ◌∷◌, ◌++◌, length, Bool, true, false, not, ◌&&◌, ◌||◌, cond}
-use Rattle.std.proofs.Common.{filter, find, Option, None, Some, option_map, refl, sym, ◌∙◌, ap, subst, arith}
+use Rattle.std.proofs.Common.{filter, find, Option, None, Some, refl, sym, ◌∙◌, ap, subst, arith}
 use Rattle.std.specs.Prelude.{nat_le, ◌≤◌}
 use Rattle.std.proofs.lemmas.Bool.Decides.{nat_tests}
 use Rattle.std.specs.List.{list_any}
@@ -12,7 +12,7 @@ use Rattle.kv_model.specs.Told.{Trimmed}
 use Rattle.store_laws.specs.Trimming.{TrimStep, is_trimmed}
 use Rattle.store_laws.specs.Trimming.{place_after, visited, finished, trimmed, trimmed_next}
 use Rattle.store_laws.proofs.PlaceSteps.{First, first-from}
-use Rattle.store_laws.proofs.RevOrder.{rev_lt-main, is_rev-self, is_rev-before}
+use Rattle.store_laws.proofs.RevOrder.{rev_lt-main}
 use Rattle.store_laws.proofs.Rising.{IsAbove, rising-parts}
 use Rattle.version_table.specs.Rising.{IsRising}
 use Rattle.version_table.proofs.Changes.{without_rev-middle}
@@ -25,40 +25,8 @@ use Rattle.trim_core.specs.Steps.{if_by, next_version, step_of}
 
 -- ---- the version to visit
 
-above-find : (q : Rev) (t : Version → Bool) (vs : List Version) (v : Version) → IsAbove (λ (u : Version). u.rev) q vs → find t vs ≡ Some v
-    → rev_lt q v.rev ≡ true
-above-find q t [] v a e = cc
-above-find q t (u ∷ us) v a e = by (t u) e (λ f. above-find q t us v a.1 f)
-  where
-    by : (b : Bool) → cond b (Some u) (find t us) ≡ Some v → (find t us ≡ Some v → rev_lt q v.rev ≡ true) → rev_lt q v.rev ≡ true
-    by true f rest = let same : u ≡ v = cc in subst (λ w. rev_lt q w.rev ≡ true) same a.0
-    by false f rest = rest f
-
--- the first version that passes a test is the one at its revision
-find-first : (t : Version → Bool) (vs : List Version) (v : Version) → IsRising vs → find t vs ≡ Some v → find (is_at v.rev) vs ≡ Some v
-find-first t [] v r e = cc
-find-first t (u ∷ us) v r e = by (t u) e (λ f. find-first t us v r.1 f)
-  where
-    by : (b : Bool) → cond b (Some u) (find t us) ≡ Some v → (find t us ≡ Some v → find (is_at v.rev) us ≡ Some v)
-        → cond (is_at v.rev u) (Some u) (find (is_at v.rev) us) ≡ Some v
-    by true f rest =
-        let same : u ≡ v = cc in
-        ap (λ b. cond b (Some u) (find (is_at v.rev) us)) (ap (is_at v.rev) same ∙ is_rev-self v.rev) ∙ ap Some same
-    by false f rest = ap (λ b. cond b (Some u) (find (is_at v.rev) us)) (is_rev-before v.rev u.rev (above-find u.rev t us v r.0 f)) ∙ rest f
-
-pub found : (vs : List Version) (p : Rev) (c : ℕ) (q : Rev) → IsRising vs
-    → Some q ≡ option_map (λ (v : Version). v.rev) (find (λ v. not (rev_lt v.rev p)) vs) → nat_le q.main c ≡ true
-    → find (is_at q) vs ≡ next_version vs p c
-found vs p c q r e h = by (find (λ v. not (rev_lt v.rev p)) vs) refl e
-  where
-    by : (o : Option Version) → find (λ v. not (rev_lt v.rev p)) vs ≡ o → Some q ≡ option_map (λ (v : Version). v.rev) o
-        → find (is_at q) vs ≡ if_by c o
-    by None f g = cc
-    by (Some v) f g =
-        let same : q ≡ v.rev = cc in
-        ap (λ (s : Rev). find (is_at s) vs) same
-        ∙ find-first (λ u. not (rev_lt u.rev p)) vs v r f
-        ∙ sym (ap (λ b. cond b (Some v) None) (ap (λ (s : Rev). nat_le s.main c) (sym same) ∙ h))
+pub some-by : (c : ℕ) (v : Version) → nat_le v.rev.main c ≡ true → Some v ≡ if_by c (Some v)
+some-by c v h = sym (ap (λ b. cond b (Some v) None) h)
 
 pub first-of : (vs : List Version) (p : Rev) (c : ℕ) (v : Version) → next_version vs p c ≡ Some v
     → find (λ u. not (rev_lt u.rev p)) vs ≡ Some v

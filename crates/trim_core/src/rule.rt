@@ -37,8 +37,8 @@ pub(crate) fn next_version(table: &VersionTable, place: Rev, compacted: u64) -> 
     ensures value { option_copied result ≡ next_version table.now place compacted }
     ensures rising { IsRising table.now }
 {
-    match table.next_from(place) {
-        Some(rev) if rev.main <= compacted => table.get(rev),
+    match table.first_from(place) {
+        Some(version) if version.rev.main <= compacted => Some(version),
         _ => None,
     }
 }

@@ -69,9 +69,9 @@ impl Trimmer {
     ///
     /// The index is that of the versions in the table, and is so again. Takes no memory.
     ///
-    /// The time is logarithmic in the number of versions and of keys, but for two things: the
-    /// versions behind the one that goes, on its page of 256 places, move one place, and where it
-    /// is not the oldest of its key, the revisions of that key are walked. It is the oldest where
+    /// The time is logarithmic in the number of versions and of keys, but for two things: where the
+    /// one that goes is not the first on its page of 256 places, the versions behind it there move one
+    /// place, and where it is not the oldest of its key, the revisions of that key are walked. It is the oldest where
     /// trimming began again at each compaction, and versions above it came since
     /// (`laws::removed_is_oldest`).
     pub fn step(&mut self, table: &mut VersionTable, index: &mut KeyIndex, compacted: u64) -> Trim

@@ -4,3 +4,4 @@ pub mod Retracting
 pub mod PageLookups
 pub mod PageChanges
 pub mod PageParts
+pub mod Gone

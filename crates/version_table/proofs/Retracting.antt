@@ -5,12 +5,11 @@ use Rattle.std.proofs.lemmas.Bool.Decides.{nat_tests}
 use Rattle.std.proofs.lemmas.List.{append-nil, length_push}
 use Rattle.std.proofs.lemmas.List.Elements.{filter-append}
 use Rattle.std.specs.List.{AllByRecursion}
-use Rattle.kv_model.specs.declared.version.Rev.{Rev}
 use Rattle.kv_model.specs.declared.version.Version.{Version}
 use Rattle.kv_model.specs.History.{is_at, without_rev}
 use Rattle.store_laws.specs.Rising.{is_of}
 use Rattle.store_laws.proofs.PlaceLaws.{each-map}
-use Rattle.store_laws.proofs.Rising.{newest-cons, newest-none, newest-push, rising-filter, rising-parts}
+use Rattle.store_laws.proofs.Rising.{newest-cons, newest-none, rising-filter}
 use Rattle.store_laws.proofs.StepLaws.{differs}
 use Rattle.version_table.specs.Rising.{IsRising, is_newest, newest, retracted, rev_of}
 use Rattle.version_table.proofs.Changes.{kept-others, without_rev-middle}

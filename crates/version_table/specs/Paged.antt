@@ -100,6 +100,10 @@ with_version v p = record { used = p.used + 1; versions = p.versions ++ v ∷ []
 abbrev pub without_version : Rev → Places → Places
 without_version r p = record p { versions = without_rev (Some r) p.versions }
 
+-- without the version at an index
+abbrev pub without_at : ℕ → Places → Places
+without_at i p = record p { versions = remove p.versions i }
+
 -- a page whose first place has a version, and the others none
 abbrev pub fresh : Version → Places
 fresh v = record { used = 1; versions = v ∷ [] }

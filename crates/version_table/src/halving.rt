@@ -1,7 +1,7 @@
 //! Rising slices of versions, as a page has one: what stands at a place, found by halving.
-ghost use Rattle.std.specs.Prelude.{◌≡◌, ◌<◌, ◌≤◌, ◌+◌, length, drop, filter, not, option_and_then};
+ghost use Rattle.std.specs.Prelude.{◌≡◌, ◌<◌, ◌≤◌, length, drop, filter, not, option_and_then};
 ghost use Rattle.std.specs.Prelude.{IfSome, option_map, option_copied, Some, vec_capacity};
-ghost use Rattle.std.specs.List.{find, slice_get};
+ghost use Rattle.std.specs.List.{find, remove, slice_get};
 ghost use Rattle.kv_model.specs.History.{rev_lt, is_at, without_rev};
 ghost use Rattle.version_table.specs.Rising.{IsRising, newest, count_before, without_index};
 
@@ -66,7 +66,7 @@ pub(crate) fn count_before(versions: &[Version], rev: Rev) -> usize
 }
 
 /// The index of the version at a revision. It halves.
-fn index_of(versions: &[Version], rev: Rev) -> Option<usize>
+pub(crate) fn index_of(versions: &[Version], rev: Rev) -> Option<usize>
     requires { IsRising versions.now }
     ensures bound { IfSome result (λ i. i < length versions.now) }
     ensures found { find (is_at rev) versions.now
@@ -80,24 +80,17 @@ fn index_of(versions: &[Version], rev: Rev) -> Option<usize>
     }
 }
 
-/// Takes out the version at a revision, and tells how many went. The room stays.
-pub(crate) fn remove_at(versions: &mut Vec<Version>, rev: Rev) -> usize
-    requires { IsRising versions.old.items }
-    ensures value { versions.new.items ≡ without_rev (Some rev) versions.old.items }
-    ensures count { result + length versions.new.items ≡ length versions.old.items }
+/// Takes out the version at an index. The room stays.
+pub(crate) fn remove_at(versions: &mut Vec<Version>, index: usize)
+    requires { index < length versions.old.items }
+    ensures value { versions.new.items ≡ remove versions.old.items index }
     ensures room { vec_capacity versions.new ≡ vec_capacity versions.old }
 {
-    match index_of(versions, rev) {
-        Some(index) => {
-            let _ = versions.remove(index);
-            1
-        }
-        None => 0,
-    }
+    let _ = versions.remove(index);
 }
 
 /// The versions from an index on.
-fn rest_from(versions: &[Version], index: usize) -> &[Version]
+pub(crate) fn rest_from(versions: &[Version], index: usize) -> &[Version]
     requires { index ≤ length versions.now }
     ensures { result.now ≡ drop index versions.now }
 {

@@ -7,8 +7,9 @@
 //! its keys, and `trim_core` takes versions out of both.
 //!
 //! The versions stand in pages of 256 places. What is taken out moves the versions behind it on its
-//! own page alone, its place is not used again, and a page that has no version left is freed. For
-//! example, with a revision written as main.sub, a page in brackets, and four places to a page:
+//! own page alone, and none where it is the first there; its place is not used again, and a page that
+//! has no version left is freed. For example, with a revision written as main.sub, a page in brackets,
+//! and four places to a page:
 //!
 //! ```text
 //! push 2.0, 3.0, 3.1, 5.0, 6.0, 7.0   [2.0 3.0 3.1 5.0] [6.0 7.0]    each is above those before it

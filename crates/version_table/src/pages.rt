@@ -127,15 +127,14 @@ pub(crate) fn get(pages: &[Page], rev: Rev) -> Option<&Version>
     }
 }
 
-/// The first revision that is not before the given one. It gallops, and halves within a page.
-pub(crate) fn next_from(pages: &[Page], rev: Rev) -> Option<Rev>
+/// The first version that is not before a revision. It gallops, and halves within a page.
+pub(crate) fn first_from(pages: &[Page], rev: Rev) -> Option<&Version>
     requires rising { IsRising (flat pages.now) }
     requires held { HaveVersions pages.now }
-    ensures { result ≡ option_map (λ v. v.rev)
-        (find (λ v. not (rev_lt v.rev rev)) (flat pages.now)) }
+    ensures { option_copied result ≡ find (λ v. not (rev_lt v.rev rev)) (flat pages.now) }
 {
     match versions_by(pages, rev) {
-        Some(versions) => halving::rev_at(versions, halving::count_before(versions, rev)),
+        Some(versions) => halving::version_at(versions, halving::count_before(versions, rev)),
         None => None,
     }
 }

@@ -113,6 +113,14 @@ impl VersionTable {
         pages::get(&self.pages, rev)
     }
 
+    /// The first version that is not before a revision. Takes no memory, and logarithmic time.
+    pub fn first_from(&self, rev: Rev) -> Option<&Version>
+        ensures value { option_copied result ≡ find (λ v. not (rev_lt v.rev rev)) self.now }
+        ensures rising { IsRising self.now }
+    {
+        pages::first_from(&self.pages, rev)
+    }
+
     /// The first revision in the table that is not before the given one. Takes no memory, and
     /// logarithmic time.
     pub fn next_from(&self, rev: Rev) -> Option<Rev>
@@ -120,13 +128,14 @@ impl VersionTable {
             (find (λ v. not (rev_lt v.rev rev)) self.now) }
         ensures rising { IsRising self.now }
     {
-        pages::next_from(&self.pages, rev)
+        self.first_from(rev).map(|version| version.rev)
     }
 
     /// Takes out the version at a revision, and nothing where there is none. Takes no memory.
     ///
-    /// It is found in logarithmic time; those behind it on its page move one place, and where the
-    /// page has no other version, the pages behind it move one place in the list of pages.
+    /// It is found in logarithmic time; where it is not the first on its page those behind it there move
+    /// one place, and where the page has no other version, the pages behind it move one place in the list
+    /// of pages.
     pub fn remove(&mut self, rev: Rev)
         ensures { self.new ≡ without_rev (Some rev) self.old }
     {

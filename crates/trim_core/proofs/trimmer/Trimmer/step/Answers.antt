@@ -1,7 +1,6 @@
 -- The version that is visited goes from both, or from none of the two.
-use Rattle.std.proofs.Common.{cond, sym, ◌∙◌, ap}
+use Rattle.std.proofs.Common.{sym, ◌∙◌, ap}
 use Rattle.store_laws.specs.Trimming.{trimmed}
-use Rattle.key_index.specs.Index.{without_revision}
 use Rattle.trim_core.proofs.Stepping.{removes, stays, ends, out-agrees}
 use Rattle.trim_core.proofs.trimmer.Trimmer.step.Goals as goal
 use Rattle.trim_core.proofs.trimmer.Trimmer.step.Goals.{then-unindex, else-unindex}
