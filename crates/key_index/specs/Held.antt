@@ -7,10 +7,10 @@ use Rattle.key_index.specs.declared.revisions.Held.TheVariants.{Nothing, One, Ma
 abbrev pub revisions_in : Held → List Rev
 revisions_in Nothing = []
 revisions_in (One p) = p ∷ []
-revisions_in (Many q) = q.items
+revisions_in (Many q) = q.value.items
 
 -- one revision stands in place: a list of their own have two or more
 abbrev pub IsSettled : Held → Type 0
 IsSettled Nothing = ⊤
 IsSettled (One p) = ⊤
-IsSettled (Many q) = 2 ≤ length q.items
+IsSettled (Many q) = 2 ≤ length q.value.items

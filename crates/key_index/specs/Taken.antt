@@ -1,5 +1,5 @@
 -- What is left of a key's revisions where some of them go.
-use Rattle.std.specs.Prelude.{List, drop, Bool, ◌||◌, if◌then◌else◌}
+use Rattle.std.specs.Prelude.{List, drop, ◌||◌, if◌then◌else◌}
 use Rattle.kv_model.specs.declared.version.Rev.{Rev}
 use Rattle.key_index.specs.declared.taken.Taken.{Taken}
 use Rattle.key_index.specs.declared.taken.Taken.TheVariants.{Oldest, At, Of}

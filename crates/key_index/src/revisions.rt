@@ -21,13 +21,14 @@ pub struct Revisions {
     held: Held,
 }
 
-/// What holds the revisions: most keys have just one, which takes no block of its own. A list has
-/// at least two, and goes where it falls below (the invariant of `Revisions`).
+/// What holds the revisions: most keys have just one, which takes no block of its own, so what is known
+/// of a list stands in a block, too. A list has at least two, and goes where it falls below (the
+/// invariant of `Revisions`).
 #[derive(Drop)]
 enum Held {
     Nothing,
     One(Rev),
-    Many(VecDeque<Rev>),
+    Many(Box<VecDeque<Rev>>),
 }
 
 impl Model for Revisions {
@@ -162,7 +163,7 @@ impl Revisions {
                 self.held = Held::One(rev);
             }
             Held::One(first) => {
-                let revisions = two(alloc, *first, rev)?;
+                let revisions = Box::new(alloc, two(alloc, *first, rev)?)?;
                 self.held = Held::Many(revisions);
             }
             Held::Many(revisions) => {

@@ -1,7 +1,6 @@
 -- The map takes the revision in its place.
-use Rattle.std.proofs.Common.{[], unwrap_or, subst, ◌∙◌}
+use Rattle.std.proofs.Common.{[], unwrap_or, subst}
 use Rattle.key_index.specs.KeyRevisions.{IsBehind}
-use Rattle.key_index.proofs.InPlace.{put-added}
 use Rattle.key_index.proofs.changes.add.Goals as goal
 
 pub put-requires : goal.put-requires

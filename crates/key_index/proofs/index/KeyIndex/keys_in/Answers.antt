@@ -1,5 +1,5 @@
 -- The walk of a range gives just its entries.
-use Rattle.std.proofs.Common.{map, sym, ◌∙◌, ap}
+use Rattle.std.proofs.Common.{map, ◌∙◌, ap}
 use Rattle.key_pages.specs.Pairs.{below_key}
 use Rattle.key_index.specs.Index.{first_same, in_interval}
 use Rattle.key_index.specs.Lent.{entry_of}

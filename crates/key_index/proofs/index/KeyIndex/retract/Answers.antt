@@ -1,7 +1,6 @@
 -- Where a later main revision is there nothing changes; else what the keys of the changes have of this one goes.
-use Rattle.std.proofs.Common.{◌≡◌, true, false, sym, ◌∙◌, subst}
+use Rattle.std.proofs.Common.{sym, ◌∙◌, subst}
 use Rattle.key_index.specs.Agrees.{Agrees}
-use Rattle.key_index.specs.Index.{is_up_to, retracted_newest}
 use Rattle.key_index.proofs.Bounds.{taken_back}
 use Rattle.key_index.proofs.Retracting.{other-retracted, whole-agrees}
 use Rattle.key_index.proofs.index.KeyIndex.retract.Goals as goal

@@ -1,6 +1,6 @@
 -- It stays an index, and bound.
-use Rattle.std.proofs.Common.{cond, sym, ◌∙◌, ap}
-use Rattle.key_index.specs.Index.{with_revisions, without_revision}
+use Rattle.std.proofs.Common.{cond, ◌∙◌, ap}
+use Rattle.key_index.specs.Index.{without_revision}
 use Rattle.key_index.proofs.Bounds.{bound-trimmed}
 use Rattle.key_index.proofs.InPlace.{same-revisions}
 use Rattle.key_index.proofs.index.KeyIndex.trim.Goals as goal
