@@ -2,6 +2,7 @@
 use Rattle.std.proofs.Common.{◌≡◌, ℕ, ℤ, List, [], ◌∷◌, map, Bool, true, false, cond, Option, None, Some, is_some, Ok, Err, refl, sym, ap, ◌∙◌}
 use Rattle.std.specs.Prelude.{codes, option_map}
 use Rattle.serde_json.specs.Data.{Members}
+use Rattle.kv_model.specs.declared.call.PutRequest.{PutRequest}
 use Rattle.kv_model.specs.declared.call.RangeQuery.{RangeQuery}
 use Rattle.kv_model.specs.declared.call.SortOrder.{SortOrder}
 use Rattle.kv_model.specs.declared.call.SortOrder.TheVariants.{Unsorted}
@@ -10,14 +11,14 @@ use Rattle.kv_model.specs.declared.call.SortTarget.TheVariants.{ByKey}
 use Rattle.kv_model.specs.Requests as requests
 use Rattle.kv_model.specs.Keys.{same_key}
 use Rattle.kv_model.specs.Ranges.{plain_range}
-use Rattle.kv_model.specs.Requests.{Read, ◌>>=◌, truth_field, integer_field}
+use Rattle.kv_model.specs.Requests.{Read, ◌>>=◌, bytes_field, truth_field, integer_field}
 use Rattle.gateway_read.specs.declared.requests.Request.{Request}
 use Rattle.gateway_read.specs.declared.requests.Request.TheVariants.{Range, Put, Delete, Txn, Compact, Watch, Grant, Revoke}
 use Rattle.gateway_read.specs.declared.requests.Request.TheVariants.{KeepAlive, TimeToLive, Leases}
 use Rattle.gateway_read.specs.declared.requests.Flags.{Flags}
 use Rattle.gateway_read.specs.declared.requests.Bounds.{Bounds}
 use Rattle.gateway_read.specs.Options.{flags_of, bounds_of, with_options}
-use Rattle.gateway_read.specs.Parts.{completed, call_read}
+use Rattle.gateway_read.specs.Parts.{completed, call_read, key_and_value}
 
 -- a query of the first six fields, before the others are read
 abbrev pub begun : List ℕ → List ℕ → ℤ → ℤ → SortOrder → SortTarget → RangeQuery
@@ -58,6 +59,21 @@ range_query-completed ms {key} {end} {limit} {revision} {order} {target} k e l r
     apart (Ok a) (Ok b) (Ok c) (Ok d) (Ok e) (Err x) g = refl
     apart (Ok a) (Ok b) (Ok c) (Ok d) (Ok e) (Ok f) (Err x) = refl
     apart (Ok a) (Ok b) (Ok c) (Ok d) (Ok e) (Ok f) (Ok g) = refl
+
+-- what is read of a Put behind its key and its value
+abbrev pub put_rest : List ℕ × List ℕ → Members → Read PutRequest
+put_rest p ms = integer_field (codes "lease") ms >>= λ l. truth_field (codes "prev_kv") ms >>= λ b. truth_field (codes "ignore_value") ms >>= λ v.
+    truth_field (codes "ignore_lease") ms >>= λ i.
+    Ok (record { key = p.0; value = p.1; lease = l; prev_kv = b; ignore_value = v; ignore_lease = i })
+
+pub put_request-parts : (ms : Members) → requests.put_request ms ≡ (key_and_value ms >>= λ p. put_rest p ms)
+unfolding requests.put_request key_and_value
+put_request-parts ms = over (bytes_field (codes "key") ms) (bytes_field (codes "value") ms)
+  where
+    over : (rk rv : Read (List ℕ)) → (rk >>= λ k. rv >>= λ v. put_rest (k, v) ms) ≡ ((rk >>= λ k. rv >>= λ v. Ok (k, v)) >>= λ p. put_rest p ms)
+    over (Err x) rv = refl
+    over (Ok k) (Err x) = refl
+    over (Ok k) (Ok v) = refl
 
 option_map-cond : {A B : Type 0} (f : A → B) (b : Bool) (x : A) (r : Option A)
     → cond b (Some (f x)) (option_map f r) ≡ option_map f (cond b (Some x) r)

@@ -1,9 +1,9 @@
 -- Parts of the model's readings, for the functions that read them.
-use Rattle.std.specs.Prelude.{ℕ, List, Ok, Bool, true, false}
+use Rattle.std.specs.Prelude.{ℕ, List, Ok, Bool, true, false, codes}
 use Rattle.serde_json.specs.Data.{Members}
 use Rattle.kv_model.specs.declared.call.RangeQuery.{RangeQuery}
 use Rattle.kv_model.specs.Calls.{Call, as_call}
-use Rattle.kv_model.specs.Requests.{Read, ◌>>=◌, range_query, put_request, delete_request, txn_request}
+use Rattle.kv_model.specs.Requests.{Read, ◌>>=◌, bytes_field, range_query, put_request, delete_request, txn_request}
 use Rattle.kv_model.specs.Requests.{most_nested, compact_request, watch_request, grant_request, id_request}
 use Rattle.kv_model.specs.Requests.{time_to_live_request, object_of}
 use Rattle.gateway_read.specs.Options.{flags_of, bounds_of, with_options}
@@ -14,6 +14,10 @@ use Rattle.gateway_read.specs.declared.requests.Request.TheVariants.{Grant, Revo
 -- a query with what is left to read of a Range
 unfoldable pub completed : RangeQuery → Members → Read RangeQuery
 completed q ms = flags_of ms >>= λ f. bounds_of ms >>= λ b. Ok (with_options q f b)
+
+-- the key and the value of a Put
+unfoldable pub key_and_value : Members → Read (List ℕ × List ℕ)
+key_and_value ms = bytes_field (codes "key") ms >>= λ k. bytes_field (codes "value") ms >>= λ v. Ok (k, v)
 
 -- how the fields of a request are read
 abbrev pub call_read : Request → Members → Read Call

@@ -48,6 +48,7 @@ mod leasing;
 mod members;
 mod number;
 mod object;
+mod pair;
 mod requests;
 mod sorting;
 mod symbols;

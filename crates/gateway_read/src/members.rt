@@ -1,10 +1,10 @@
 //! The fields of an object, each by its kind. An absent field is at its kind's default, and so is
 //! one that is null.
-ghost use Rattle.std.specs.Prelude.{◌≡◌, false, map, option_map};
+ghost use Rattle.std.specs.Prelude.{◌≡◌, false, length, take, drop, map, option_map, OnOk};
 ghost use Rattle.gateway_read.specs.Values.{view, items_view};
 ghost use Rattle.kv_model.specs.Requests as requests;
 ghost use Rattle.gateway_read.specs.Decoding as decoding;
-ghost use Rattle.gateway_read.specs.Decoding.{is_text};
+ghost use Rattle.gateway_read.specs.Decoding.{bytes_given, is_text};
 ghost use Rattle.gateway_read.specs.Fields.{snake_of};
 ghost use Rattle.gateway_read.specs.Objects.{seen};
 ghost use Rattle.gateway_read.specs.Reading.{Gives, Tells};
@@ -46,23 +46,43 @@ pub(crate) fn bytes_field(
         → Tells (λ bytes. bytes) result
         (requests.bytes_field (snake_of field) (seen object.now)) }
 {
-    let Some(value) = given(object, field) else {
-        return Ok(Bytes::new());
+    let mut bytes = Vec::new(alloc);
+    append_bytes(alloc, given(object, field), field, &mut bytes)?;
+    Ok(Bytes::from_vec(bytes)?)
+}
+
+/// Appends the bytes in base64 that a field has to others. The default is no bytes. Memory is taken
+/// only where the value is a text.
+pub(crate) fn append_bytes(
+    alloc: Global,
+    given: Option<&Value>,
+    field: Field,
+    into: &mut Vec<u8>,
+) -> Result<(), Bad>
+    ensures gives { Gives (λ _. drop (length into.old.items) into.new.items) result
+        (bytes_given (snake_of field) (option_map (λ v. view v.now) given.entry)) }
+    ensures front { OnOk result (take (length into.old.items) into.new.items ≡ into.old.items) }
+    ensures free { is_text (option_map (λ v. view v.now) given.entry) ≡ false
+        → Tells (λ _. drop (length into.old.items) into.new.items) result
+        (bytes_given (snake_of field) (option_map (λ v. view v.now) given.entry)) }
+{
+    let Some(value) = given else {
+        return Ok(());
     };
     let Some(text) = value::as_str(value) else {
         return Err(Bad::BadField(field));
     };
-    told_as(field, symbols::decoded(alloc, text))
+    told_as(field, symbols::append_decoded(alloc, text, into))
 }
 
 /// What a field's text was decoded to: a text that is no base64 is told as that, and want of memory
 /// only where decoding wanted it. Takes no memory.
-fn told_as(field: Field, made: Result<Option<Bytes>, AllocError>) -> Result<Bytes, Bad>
+fn told_as(field: Field, made: Result<bool, AllocError>) -> Result<(), Bad>
     ensures { result ≡ decoding.told_as field made }
 {
     match made {
-        Ok(Some(bytes)) => Ok(bytes),
-        Ok(None) => Err(Bad::BadBase64(field)),
+        Ok(true) => Ok(()),
+        Ok(false) => Err(Bad::BadBase64(field)),
         Err(_) => Err(Bad::Memory),
     }
 }

@@ -14,6 +14,7 @@ use crate::field::Field;
 use crate::leasing::{grant_request, keep_alive_request, revoke_request, time_to_live_request};
 use crate::members::{bytes_field, integer_field, truth_field};
 use crate::object::Object;
+use crate::pair::key_and_value;
 use crate::sorting::{sort_order, sort_target};
 use crate::transacting::txn_request;
 use crate::watching::watch_request;
@@ -149,14 +150,15 @@ fn bounds_of(object: &Object<'_, '_>) -> Result<Bounds, Bad>
     })
 }
 
-#[tactic(auto, unfolding(kv_model::specs::Requests::put_request, crate::specs::Fields::snake_of))]
+#[tactic(auto, unfolding(crate::specs::Fields::snake_of))]
 pub(crate) fn put_request(alloc: Global, object: &Object<'_, '_>) -> Result<PutRequest, Bad>
     ensures { Gives (λ request. request) result
         (requests.put_request (seen object.now)) }
 {
+    let (key, value) = key_and_value(alloc, object)?;
     Ok(PutRequest {
-        key: bytes_field(alloc, object, Field::Key)?,
-        value: bytes_field(alloc, object, Field::Value)?,
+        key,
+        value,
         lease: integer_field(object, Field::Lease)?,
         prev_kv: truth_field(object, Field::PrevKv)?,
         ignore_value: truth_field(object, Field::IgnoreValue)?,

@@ -1,15 +1,14 @@
 //! Bytes in base64 (RFC 4648).
-ghost use Rattle.std.specs.Prelude.{◌≡◌, if◌then◌else◌, map, IfOk};
+ghost use Rattle.std.specs.Prelude.{◌≡◌, if◌then◌else◌, length, take, drop, map, IfOk, OnOk};
 ghost use Rattle.std.specs.List.{list_any};
 ghost use Rattle.base64.specs.Engines.{standard, standard_no_pad};
 ghost use Rattle.base64.specs.GeneralPurpose.{decoded_of};
 ghost use Rattle.kv_model.specs.Requests as requests;
-ghost use Rattle.gateway_read.specs.Decoding.{IsDecoded};
+ghost use Rattle.gateway_read.specs.Decoding.{IsDecoded, appended};
 ghost use Rattle.gateway_read.specs.Signs.{is_url, is_padding};
 
 use base64::DecodeAllocError;
 use base64::engine::general_purpose::{GeneralPurpose, STANDARD, STANDARD_NO_PAD};
-use bytes::Bytes;
 use memchr::{memchr2, memrchr};
 use std::alloc::{AllocError, Global};
 
@@ -30,43 +29,45 @@ fn standard_symbols(alloc: Global, text: &str) -> Result<Vec<u8>, AllocError>
     text.bytes().map(standard_symbol).collect(alloc)
 }
 
+/// Appends what symbols stand for to other bytes, and tells whether they stand for any: else nothing is
+/// appended.
 #[tactic(auto, unfolding(base64::specs::GeneralPurpose::decoded_of))]
-fn decoded_by(
-    alloc: Global,
+fn append_by(
     engine: &GeneralPurpose,
     symbols: &[u8],
-) -> Result<Option<Bytes>, AllocError>
-    ensures { IfOk result (λ found. found ≡ decoded_of engine.now symbols.now) }
+    into: &mut Vec<u8>,
+) -> Result<bool, AllocError>
+    ensures value { IfOk result (λ done. decoded_of engine.now symbols.now
+        ≡ appended done (length into.old.items) into.new.items) }
+    ensures front { OnOk result (take (length into.old.items) into.new.items ≡ into.old.items) }
 {
-    match by_form(engine.decode(alloc, symbols)) {
-        Ok(Some(bytes)) => Ok(Some(Bytes::from_vec(bytes)?)),
-        Ok(None) => Ok(None),
-        Err(error) => Err(error),
-    }
+    by_form(engine.decode_vec(symbols, into))
 }
 
-/// What decoding came to: nothing where the symbols are no base64, and want of memory where the
-/// decoder says so. Takes no memory.
-fn by_form(made: Result<Vec<u8>, DecodeAllocError>) -> Result<Option<Vec<u8>>, AllocError>
+/// What decoding came to: false where the symbols are no base64, and want of memory where the decoder
+/// says so. Takes no memory.
+fn by_form(made: Result<(), DecodeAllocError>) -> Result<bool, AllocError>
     ensures { IsDecoded made result }
 {
     match made {
-        Ok(bytes) => Ok(Some(bytes)),
-        Err(DecodeAllocError::DecodeError(_)) => Ok(None),
+        Ok(()) => Ok(true),
+        Err(DecodeAllocError::DecodeError(_)) => Ok(false),
         Err(DecodeAllocError::OutOfMemory) => Err(AllocError),
     }
 }
 
-/// The bytes that symbols of the standard alphabet stand for, which have their exact padding or
-/// none.
-fn decoded_with(alloc: Global, symbols: &[u8], padding: bool) -> Result<Option<Bytes>, AllocError>
-    ensures { IfOk result (λ found. found
-        ≡ decoded_of (if padding then standard else standard_no_pad) symbols.now) }
+/// Appends the bytes that symbols of the standard alphabet stand for, which have their exact padding
+/// or none.
+fn append_with(symbols: &[u8], padding: bool, into: &mut Vec<u8>) -> Result<bool, AllocError>
+    ensures value { IfOk result (λ done.
+        decoded_of (if padding then standard else standard_no_pad) symbols.now
+        ≡ appended done (length into.old.items) into.new.items) }
+    ensures front { OnOk result (take (length into.old.items) into.new.items ≡ into.old.items) }
 {
     if padding {
-        decoded_by(alloc, &STANDARD, symbols)
+        append_by(&STANDARD, symbols, into)
     } else {
-        decoded_by(alloc, &STANDARD_NO_PAD, symbols)
+        append_by(&STANDARD_NO_PAD, symbols, into)
     }
 }
 
@@ -90,16 +91,23 @@ fn signs_of(text: &[u8]) -> Signs
     }
 }
 
-/// The bytes that a text of either alphabet stands for: one with `=` has its exact padding, and one
-/// with none has no padding. No text stands for bytes where the bits left over are not zero. The
-/// cost is linear in the text, which is copied only where it has symbols of the URL alphabet.
-pub(crate) fn decoded(alloc: Global, text: &str) -> Result<Option<Bytes>, AllocError>
-    ensures { IfOk result (λ found. found ≡ requests.decoded text.now) }
+/// Appends the bytes that a text of either alphabet stands for to others, and tells whether it stands
+/// for any: else nothing is appended. A text with `=` has its exact padding, and one with none has no
+/// padding. No text stands for bytes where the bits left over are not zero. The cost is linear in the
+/// text, which is copied only where it has symbols of the URL alphabet.
+pub(crate) fn append_decoded(
+    alloc: Global,
+    text: &str,
+    into: &mut Vec<u8>,
+) -> Result<bool, AllocError>
+    ensures value { IfOk result (λ done. requests.decoded text.now
+        ≡ appended done (length into.old.items) into.new.items) }
+    ensures front { OnOk result (take (length into.old.items) into.new.items ≡ into.old.items) }
 {
     let signs = signs_of(text.as_bytes());
     if signs.url {
-        decoded_with(alloc, &standard_symbols(alloc, text)?, signs.padding)
+        append_with(&standard_symbols(alloc, text)?, signs.padding, into)
     } else {
-        decoded_with(alloc, text.as_bytes(), signs.padding)
+        append_with(text.as_bytes(), signs.padding, into)
     }
 }
