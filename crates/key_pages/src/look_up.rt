@@ -1,5 +1,5 @@
 //! Look-ups over pages.
-ghost use Rattle.std.specs.Prelude.{◌≡◌, ◌≤◌, length, option_copied, drop, IsTrue};
+ghost use Rattle.std.specs.Prelude.{◌≡◌, ◌≤◌, ◌&&◌, not, length, option_copied, drop, IsTrue};
 ghost use Rattle.std.specs.List.{slice_get};
 ghost use Rattle.store_laws.specs.Rising.{count_while};
 ghost use Rattle.key_pages.specs.Pairs.{IsAscending, found, from_key};
@@ -43,6 +43,8 @@ fn hint<V>(pages: &[Page<V>], firsts: &Heads, key: &Bytes) -> usize {
 fn is_count<V>(pages: &[Page<V>], count: usize, key: &Bytes) -> bool
     requires ascending { IsAscending (flat pages.now) }
     requires held { HavePairs pages.now }
+    ensures told { result ≡ (starts_behind key.now count pages.now
+        && not (starts_at key.now count pages.now)) }
     ensures value { IsTrue result → count ≡ count_while (starts_up_to key.now) pages.now }
     ensures bound { IsTrue result → count ≤ length pages.now }
 {
