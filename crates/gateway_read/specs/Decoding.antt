@@ -1,10 +1,9 @@
 -- What decoding base64 came to, as it is told: what is no base64 is never told as want of memory.
-use Rattle.std.specs.Prelude.{◌≡◌, ℕ, List, [], Bool, true, false, Option, None, Some, Result, Ok, Err, is_ok, drop, ⊤, if◌then◌else◌}
+use Rattle.std.specs.Prelude.{◌≡◌, ℕ, List, Bool, true, false, Option, None, Some, Result, Ok, Err, is_ok, drop, ⊤, if◌then◌else◌}
 use Rattle.std.specs.declared.alloc.AllocError.{AllocError}
 use Rattle.base64.specs.declared.decode.DecodeAllocError.{DecodeAllocError}
 use Rattle.base64.specs.declared.decode.DecodeAllocError.TheVariants as failure
 use Rattle.serde_json.specs.Data.{Data}
-use Rattle.kv_model.specs.Requests.{Read, or_default, bytes_from}
 use Rattle.gateway_read.specs.declared.bad.Bad.{Bad}
 use Rattle.gateway_read.specs.declared.bad.Bad.TheVariants.{BadBase64, Memory}
 use Rattle.gateway_read.specs.declared.field.Field.{Field}
@@ -23,10 +22,6 @@ appended done n bytes = if done then Some (drop n bytes) else None
 abbrev pub told_as : {E : Type 0} → Field → Result Bool E → Result ⊤ Bad
 told_as f (Ok done) = if done then Ok tt else Err (BadBase64 f)
 told_as f (Err e) = Err Memory
-
--- the bytes of a field whose value is this
-abbrev pub bytes_given : List ℕ → Option Data → Read (List ℕ)
-bytes_given name d = or_default [] (bytes_from name) d
 
 -- a field's value is a text: no other value is decoded
 abbrev pub is_text : Option Data → Bool

@@ -1,10 +1,10 @@
 //! The fields of an object, each by its kind. An absent field is at its kind's default, and so is
 //! one that is null.
-ghost use Rattle.std.specs.Prelude.{◌≡◌, false, length, take, drop, map, option_map, OnOk};
+ghost use Rattle.std.specs.Prelude.{◌≡◌, [], false, length, take, drop, map, option_map, OnErr, OnOk};
 ghost use Rattle.gateway_read.specs.Values.{view, items_view};
 ghost use Rattle.kv_model.specs.Requests as requests;
 ghost use Rattle.gateway_read.specs.Decoding as decoding;
-ghost use Rattle.gateway_read.specs.Decoding.{bytes_given, is_text};
+ghost use Rattle.gateway_read.specs.Decoding.{is_text};
 ghost use Rattle.gateway_read.specs.Fields.{snake_of};
 ghost use Rattle.gateway_read.specs.Objects.{seen};
 ghost use Rattle.gateway_read.specs.Reading.{Gives, Tells};
@@ -52,7 +52,8 @@ pub(crate) fn bytes_field(
 }
 
 /// Appends the bytes in base64 that a field has to others. The default is no bytes. Memory is taken
-/// only where the value is a text.
+/// only where the value is a text. The errors are a value that is no text, a text that is no base64,
+/// and want of memory: nothing is appended then.
 pub(crate) fn append_bytes(
     alloc: Global,
     given: Option<&Value>,
@@ -60,11 +61,14 @@ pub(crate) fn append_bytes(
     into: &mut Vec<u8>,
 ) -> Result<(), Bad>
     ensures gives { Gives (λ _. drop (length into.old.items) into.new.items) result
-        (bytes_given (snake_of field) (option_map (λ v. view v.now) given.entry)) }
+        (requests.or_default [] (requests.bytes_from (snake_of field))
+        (option_map (λ v. view v.now) given.entry)) }
     ensures front { OnOk result (take (length into.old.items) into.new.items ≡ into.old.items) }
+    ensures err { OnErr result (into.new.items ≡ into.old.items) }
     ensures free { is_text (option_map (λ v. view v.now) given.entry) ≡ false
         → Tells (λ _. drop (length into.old.items) into.new.items) result
-        (bytes_given (snake_of field) (option_map (λ v. view v.now) given.entry)) }
+        (requests.or_default [] (requests.bytes_from (snake_of field))
+        (option_map (λ v. view v.now) given.entry)) }
 {
     let Some(value) = given else {
         return Ok(());

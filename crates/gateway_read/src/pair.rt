@@ -20,7 +20,8 @@ use std::alloc::{AllocError, Global};
 const SHARING: usize = 256;
 
 /// The key and the value. They are parts of one block, which goes when the last of them does: a block
-/// has 64 bytes beside what is in it. Linear in their texts.
+/// has 64 bytes beside what is in it. The errors are those of either field, the key's first, and want of
+/// memory. Linear in their texts.
 #[tactic(auto, unfolding(crate::specs::Parts::key_and_value, crate::specs::Fields::snake_of))]
 pub(crate) fn key_and_value(alloc: Global, object: &Object<'_, '_>) -> Result<(Bytes, Bytes), Bad>
     ensures { Gives (λ pair. pair) result (key_and_value (seen object.now)) }

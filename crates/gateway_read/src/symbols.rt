@@ -1,5 +1,5 @@
 //! Bytes in base64 (RFC 4648).
-ghost use Rattle.std.specs.Prelude.{◌≡◌, if◌then◌else◌, length, take, drop, map, IfOk, OnOk};
+ghost use Rattle.std.specs.Prelude.{◌≡◌, if◌then◌else◌, false, length, take, map, IfOk, MatchResult, OnOk};
 ghost use Rattle.std.specs.List.{list_any};
 ghost use Rattle.base64.specs.Engines.{standard, standard_no_pad};
 ghost use Rattle.base64.specs.GeneralPurpose.{decoded_of};
@@ -40,6 +40,8 @@ fn append_by(
     ensures value { IfOk result (λ done. decoded_of engine.now symbols.now
         ≡ appended done (length into.old.items) into.new.items) }
     ensures front { OnOk result (take (length into.old.items) into.new.items ≡ into.old.items) }
+    ensures same { MatchResult result (λ done. done ≡ false → into.new.items ≡ into.old.items)
+        (λ _. into.new.items ≡ into.old.items) }
 {
     by_form(engine.decode_vec(symbols, into))
 }
@@ -63,6 +65,8 @@ fn append_with(symbols: &[u8], padding: bool, into: &mut Vec<u8>) -> Result<bool
         decoded_of (if padding then standard else standard_no_pad) symbols.now
         ≡ appended done (length into.old.items) into.new.items) }
     ensures front { OnOk result (take (length into.old.items) into.new.items ≡ into.old.items) }
+    ensures same { MatchResult result (λ done. done ≡ false → into.new.items ≡ into.old.items)
+        (λ _. into.new.items ≡ into.old.items) }
 {
     if padding {
         append_by(&STANDARD, symbols, into)
@@ -103,6 +107,8 @@ pub(crate) fn append_decoded(
     ensures value { IfOk result (λ done. requests.decoded text.now
         ≡ appended done (length into.old.items) into.new.items) }
     ensures front { OnOk result (take (length into.old.items) into.new.items ≡ into.old.items) }
+    ensures same { MatchResult result (λ done. done ≡ false → into.new.items ≡ into.old.items)
+        (λ _. into.new.items ≡ into.old.items) }
 {
     let signs = signs_of(text.as_bytes());
     if signs.url {

@@ -60,7 +60,8 @@ impl KeyIndex {
     }
 
     /// Adds a revision of a key, that of a put or of a tombstone: which of its revisions are
-    /// tombstones the versions say, and not the index. It is above each one that the key has.
+    /// tombstones the versions say, and not the index. It is above each one that the key has. Of
+    /// equal keys the index keeps the one that came last, with the block in which it stands.
     ///
     /// The error is want of memory, and the index is then as it was. The time is logarithmic in the
     /// number of keys.

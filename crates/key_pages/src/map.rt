@@ -16,7 +16,9 @@ use std::marker::Model;
 /// A look-up halves, first over the pages and then within one, so its time is logarithmic in the
 /// number of keys. A key that goes in or out moves those behind it on its page, at most 63, and
 /// where a page comes or goes, which for a page among others is at most once in 32 such keys, the
-/// pages behind it move one place in the list of pages.
+/// pages behind it move one place in the list of pages. Hints tell where to halve; those of the
+/// pages are made anew, which takes time linear in their number, where a page comes whose first key
+/// begins otherwise than those of all others.
 #[derive(Drop)]
 pub struct KeyPages<V> {
     alloc: Global,
@@ -58,7 +60,7 @@ impl<V> KeyPages<V> {
     }
 
     /// Puts a key in with a first value where it is not there, and else adds to the value that it
-    /// has, in place. It is one look-up.
+    /// has, in place, and keeps this key for the equal one that was there. It is one look-up.
     ///
     /// The error is want of memory, and the map is then as it was.
     pub fn put<G: Growth<V>>(&mut self, key: &Bytes, growth: &G) -> Result<(), AllocError>
