@@ -297,7 +297,7 @@ impl Tables {
     /// answer is `Done` with the number of versions that are kept.
     ///
     /// Takes no memory. The time is logarithmic in the number of versions and of keys, but for the
-    /// versions behind the one that goes on its page, which move one place.
+    /// versions behind the one that goes on its page, which move one place unless it is the first there.
     pub fn trim_step(&mut self) -> Trim
         ensures stored { IsStored self.old }
         ensures told { told_of result ≡ (trim_of self.old).told }
