@@ -1,6 +1,6 @@
 //! The calls of an engine, with ample memory and more than one thread: what no clause can say of
-//! them. They stand in a crate above, for the tests of a crate have it proved once more. It has
-//! nothing but tests.
+//! them. They stand in a crate above, for the tests of a crate have it proved once more. What readers
+//! beside writers meet is judged on the program, by `tests/linear`. It has nothing but tests.
 #![tactic(auto)]
 
 #[cfg(test)]
@@ -10,16 +10,10 @@ mod lock_replies;
 #[cfg(test)]
 mod many_clients;
 #[cfg(test)]
-mod one_list;
-#[cfg(test)]
 mod read_back;
-#[cfg(test)]
-mod readers;
 #[cfg(test)]
 mod rows;
 #[cfg(test)]
 mod texts;
-#[cfg(test)]
-mod threads;
 #[cfg(test)]
 mod written;

@@ -154,7 +154,7 @@ where
 }
 
 /// So many clients of an engine.
-pub(super) fn made_clients<L: EngineName, R: Wait>(
+fn made_clients<L: EngineName, R: Wait>(
     rt: &R,
     alloc: Global,
     engine: &mut Engine<L>,
@@ -170,7 +170,7 @@ pub(super) fn made_clients<L: EngineName, R: Wait>(
 }
 
 /// What all of some threads hand back.
-pub(super) fn joined<T: Drop + Send, R: Threads>(
+fn joined<T: Drop + Send, R: Threads>(
     rt: &R,
     alloc: Global,
     handles: Vec<JoinHandle<T>>,
@@ -237,7 +237,7 @@ fn is_certified(alloc: Global, core: &Core, count: u64) -> bool {
 }
 
 /// The sum of the shares.
-pub(super) fn sum_of<L: EngineName>(clients: &[Client<L>]) -> u64 {
+fn sum_of<L: EngineName>(clients: &[Client<L>]) -> u64 {
     let mut sum = 0u64;
     for client in clients {
         sum = sum.saturating_add(client.share());

@@ -1,8 +1,8 @@
 //! Peers that cut, stall or lie: what comes of one connection over a core by itself and over an
 //! engine, where its bytes are cut, fail or are split at each place, where its replies are taken in
 //! part, where it sends what is no request, or no end of it, and where a thousand watches are left
-//! by their clients; and each call of the streams of `watch_streams`. Readers and writers are of
-//! memory, and are counted. It has nothing but tests.
+//! by their clients. Readers and writers are of memory, and are counted. How streams stand and end is
+//! seen on the program, by `tests/streams` and `tests/stream_ends`. It has nothing but tests.
 #![tactic(auto)]
 
 #[cfg(test)]
@@ -19,8 +19,6 @@ mod peers;
 mod replies;
 #[cfg(test)]
 mod sides;
-#[cfg(test)]
-mod standing;
 #[cfg(test)]
 mod texts;
 #[cfg(test)]

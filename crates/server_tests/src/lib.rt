@@ -2,20 +2,16 @@
 //! no clause can say of `http_front`, `commands` and `command_line`, that they succeed
 //! with ample memory, that two connections are answered side by side, and the bytes of requests and
 //! replies from outside. They stand in a crate above, for the tests of a crate have it proved once
-//! more. The worked rows of scripts and certificates are run over memory here (`scripts`,
-//! `long_rows`), and with more of them on the program by `tests/rows`. It has nothing but tests.
+//! more. The worked rows of scripts and certificates are run over memory here (`scripts`), and with
+//! more of them on the program by `tests/rows`. It has nothing but tests.
 #![tactic(auto)]
 
-#[cfg(test)]
-mod connections;
 #[cfg(test)]
 mod controlled;
 #[cfg(test)]
 mod ends;
 #[cfg(test)]
 mod held;
-#[cfg(test)]
-mod long_rows;
 #[cfg(test)]
 mod recorded;
 #[cfg(test)]
