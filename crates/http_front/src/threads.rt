@@ -174,14 +174,13 @@ pub(crate) fn lines_of<L: EngineName, R: Net + Threads>(
     }
 }
 
-/// How many of so many threads look out for connections at once: one for each core but one, and two at
-/// least.
+/// How many of so many threads look out for connections at once: one for each core, and two at least.
 fn at_once<R: Threads>(rt: &R, workers: u64) -> u64 {
     let cores = match thread::available_parallelism(rt) {
         Ok(cores) => cores.get() as u64,
         Err(_) => 2,
     };
-    workers.min(cores.saturating_sub(1).max(2))
+    workers.min(cores.max(2))
 }
 
 /// Why a server ends before its connections do.
