@@ -29,8 +29,6 @@ mod gate;
 mod peer;
 mod set;
 mod socket;
-#[cfg(test)]
-mod tests;
 mod unsent;
 
 pub use door::{Door, MOST_CONNECTIONS};

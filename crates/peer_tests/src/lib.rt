@@ -22,6 +22,8 @@ mod sides;
 #[cfg(test)]
 mod texts;
 #[cfg(test)]
+mod unwaited;
+#[cfg(test)]
 mod visits;
 #[cfg(test)]
 mod wanted;

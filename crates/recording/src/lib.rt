@@ -18,7 +18,7 @@
 //! ```
 //!
 //! `engine_lock` notes the events under its lock, and says there that the core stands for the world
-//! which they lead to. The tests stand in the crate `server_tests`, in `src/recorded.rt`.
+//! which they lead to. `tests/recorded` plays what a server has written down again.
 #![tactic(auto)]
 
 mod lines;

@@ -7,13 +7,9 @@
 #![tactic(auto)]
 
 #[cfg(test)]
-mod controlled;
-#[cfg(test)]
 mod ends;
 #[cfg(test)]
 mod held;
-#[cfg(test)]
-mod recorded;
 #[cfg(test)]
 mod rows;
 #[cfg(test)]

@@ -1,6 +1,6 @@
-//! Peers in memory.
-use crate::peer::{Coming, Going};
-use crate::unsent::Unsent;
+//! A reader and a writer that do not wait, of memory: when a reader is dry, what a writer takes in parts,
+//! and how often a signal is passed over.
+use http_peer::{Coming, Going, Unsent};
 use std::alloc::Global;
 use std::io;
 use std::io::{ErrorKind, Read, Write};
