@@ -60,8 +60,8 @@ pub(crate) struct Seat {
 /// that does it, and a connection waits for some milliseconds at most while another thread stands by.
 ///
 /// More threads than cores take each other's core away, and that of the one that has the engine's lock.
-/// With one fewer a Put would cost as much or a little less, but Ranges of 100 keys would have three
-/// quarters of the rate: they are read beside the lock, so each further core brings its part.
+/// One fewer, on four cores, would cost a Put as much or a little less, but leave Ranges of 100 keys three
+/// quarters to nine tenths of their rate: they are read beside the lock, so each core brings its part.
 ///
 /// Which threads these are no clause says, nor which thread is told of a connection.
 #[derive(Drop)]
