@@ -1,4 +1,4 @@
--- A request that was done but for the trimming that its answer waits for, and that trimming.
+-- A request that was done but for the trimming that its answer waits for: what it asks for.
 use Rattle.std.proofs.Common.{◌≡◌, ◌⊎◌, inl, inr, ℕ, List, Bool, false, None, Ok, refl, sym, ◌∙◌, subst}
 use Rattle.kv_model.specs.declared.ids.Ids.{Ids}
 use Rattle.kv_model.specs.declared.call.Command.{Command}
@@ -13,51 +13,23 @@ use Rattle.json_gateway.specs.declared.outcome.Outcome.{Outcome}
 use Rattle.event_book.specs.Asking.{Asking}
 use Rattle.engine_lock.specs.Locked.{Caller}
 use Rattle.engine_lock.specs.declared.engine.Submitted.{Submitted}
-use Rattle.http_connections.specs.Engines.{Answers, AnswersFirst, Awaits, Looks, Refused, Submits, SubmitsFirst, asking_by}
-
-module _ (ids : Ids) (recorded : Bool) (At : ℕ → Type 0) (c d later : Caller) (s : Submitted) where
-  module _ (asking : Asking) (command : Command) where
-    done : (o : Outcome) (e : Caller) → SubmitsFirst ids At c asking s d ⊎ (Looks ids recorded At c command s.outcome d × (s.outcome.waits ≡ false)) → Awaits ids s o d e
-        → Submits ids At c asking o e ⊎ Looks ids recorded At c command o e
-    done o e (inl b) w = inl (record {
-      from = b.from;
-      starts = b.starts;
-      does = record { now = b.now; at = b.at; submitted = s; told = d; submits = b.submits; awaits = w };
-    })
-    done _ _ (inr l) (Awaits.at_once h) = inr l.0
-    done _ e (inr l) (Awaits.behind h t) = absurd (cc)
-    done _ e (inr l) (Awaits.lost h t) = absurd (cc)
-
-  refused : (path body : List ℕ) (o : Outcome) (e : Caller) → Refused path body c s.outcome d × (s.outcome.waits ≡ false) → Awaits ids s o d e → Refused path body c o e
-  refused path body _ _ r (Awaits.at_once h) = r.0
-  refused path body _ e r (Awaits.behind h t) = absurd (cc)
-  refused path body _ e r (Awaits.lost h t) = absurd (cc)
-
-  pub answered : (a : Asked) (o : Outcome) → AnswersFirst ids recorded At c a s d → Awaits ids s o d later → Answers ids recorded At c a o later
-  answered a o (inl b) w = inl (record { command = b.command; is = b.is; does = done _ b.command o later b.does w })
-  answered a o (inr r) w = inr (refused _ _ o later r w)
-
--- ---- what a request asks for
+use Rattle.http_connections.specs.Engines.{AnswersFirst, Looks, Refused, SubmitsFirst, asking_by}
 
 module _ (ids : Ids) (recorded : Bool) (At : ℕ → Type 0) (c : Caller) (a : Asked) (path : List ℕ) (asks : path ≡ path_asked a) (s : Submitted) where
   pub came : (d : Caller) (command : Command) (asking : Asking) → request_of path a.body ≡ Ok (call_of command) → asking ≡ asking_by path a.body command
-      → SubmitsFirst ids At c asking s d ⊎ (Looks ids recorded At c asking.command s.outcome d × (s.outcome.waits ≡ false)) → AnswersFirst ids recorded At c a s d
+      → SubmitsFirst ids At c asking s d ⊎ Looks ids recorded At c asking.command s.outcome d → AnswersFirst ids recorded At c a s d
   came d command asking is e h = inl (record {
     command = command;
     is = subst (λ (p : List ℕ). request_of p a.body ≡ Ok (call_of command)) asks is;
-    does = subst (λ (x : Asking). SubmitsFirst ids At c x s d ⊎ (Looks ids recorded At c x.command s.outcome d × (s.outcome.waits ≡ false)))
-        (e ∙ (λ i. asking_by (asks i) a.body command)) h;
+    does = subst (λ (x : Asking). SubmitsFirst ids At c x s d ⊎ Looks ids recorded At c x.command s.outcome d) (e ∙ (λ i. asking_by (asks i) a.body command)) h;
   })
 
-  pub came_bad : (bad : Bad) (o : Outcome) → Fails bad (request_of path a.body) → Refuses o.settled (is_want bad) (fault_of_reading bad) → o.watch ≡ None → o.waits ≡ false
-      → s.outcome ≡ o → AnswersFirst ids recorded At c a s c
-  came_bad bad o fails refuses unwatched ready e = inr (subst (λ (o : Outcome). Refused (path_asked a) a.body c o c × (o.waits ≡ false)) (sym e) (
-    record {
-      bad = bad;
-      fails = subst (λ (p : List ℕ). Fails bad (request_of p a.body)) asks fails;
-      refuses = refuses;
-      unwatched = unwatched;
-      same = refl;
-    },
-    ready,
-  ))
+  pub came_bad : (bad : Bad) (o : Outcome) → Fails bad (request_of path a.body) → Refuses o.settled (is_want bad) (fault_of_reading bad)
+      → (o.raised ≡ None) × (o.watch ≡ None) × (o.waits ≡ false) → s.outcome ≡ o → AnswersFirst ids recorded At c a s c
+  came_bad bad o fails refuses bare e = inr (subst (λ (o : Outcome). Refused (path_asked a) a.body c o c) (sym e) (record {
+    bad = bad;
+    fails = subst (λ (p : List ℕ). Fails bad (request_of p a.body)) asks fails;
+    refuses = refuses;
+    bare = bare;
+    same = refl;
+  }))

@@ -1,5 +1,5 @@
 -- What is made for a client by what answers a connection, in order.
-use Rattle.std.proofs.Common.{◌≡◌, ◌⊎◌, inl, inr, ℕ, List, [], ◌∷◌, ◌++◌, All, Bool, true, false, Option, None, Some, Result, Ok, Err, refl, sym, ◌∙◌, ap, subst}
+use Rattle.std.proofs.Common.{◌≡◌, ◌⊎◌, inl, inr, ℕ, List, [], ◌∷◌, ◌++◌, All, Bool, true, false, Option, None, Some, Result, Ok, refl, sym, ◌∙◌, ap, subst}
 use Rattle.std.proofs.lemmas.List.{append-nil, append_cancel_left}
 use Rattle.std.proofs.lemmas.List.Elements.{All-append, All-cons, All-nil}
 use Rattle.kv_model.specs.declared.ids.Ids.{Ids}
@@ -18,11 +18,12 @@ use Rattle.engine_lock.specs.Locked.{Caller, left}
 use Rattle.engine_lock.specs.declared.engine.Submitted.{Submitted}
 use Rattle.http_loop.specs.declared.answering.Told.{Told}
 use Rattle.http_loop.specs.declared.answering.Told.TheVariants as told
-use Rattle.http_loop.specs.Answered.{AreMessages, Conn, IsAnswered, IsStream, IsStreamOf, IsTold, streamed}
+use Rattle.http_loop.specs.Answered.{AreMessages, Conn, IsAnswered, IsStream, IsStreamOf, IsTold, IsTurn, streamed}
 use Rattle.http_loop.specs.declared.writing.Turn.{Turn}
+use Rattle.http_loop.specs.declared.writing.Turn.TheVariants as turn
 use Rattle.http_loop.specs.Stepped.{EndsWith}
-use Rattle.http_loop.specs.Turned.{IsTurn, NotBegun, Serves, progress}
-use Rattle.http_connections.specs.Engines.{Answers, AnswersFirst, AreMadeBehind, AreQuiet, Awaits, Begins, CatchesUp, Does, Finishes, Gets, Looks, ReadsOn, Says, Starts, Stays, Submits, SubmitsFirst, Tells}
+use Rattle.http_loop.specs.Turned.{NotBegun, Serves, progress}
+use Rattle.http_connections.specs.Engines.{Answers, AnswersFirst, AreMadeBehind, AreQuiet, AreTrimmed, Awaits, Begins, CatchesUp, Finishes, Gets, Looks, ReadsOn, Says, Starts, Stays, SubmitsFirst, Tells}
 
 -- ---- of any calls
 
@@ -115,13 +116,10 @@ module _ (ids : Ids) (recorded : Bool) (At : ℕ → Type 0) (Left : Type 0) whe
   made b c d _ (AreMadeBehind.more {n} {d = m} t before h) = both c m d (made b c m n before) (enters ids m d _ _ h.enters)
   made b c d _ (AreMadeBehind.again {n} {d = m} before h) = both c m d (made b c m n before) (shown m d h.0 (ap (λ (c : Caller). c.about) h.1))
 
-  awaits : (s : Submitted) (o : Outcome) (c d : Caller) → Awaits ids s o c d → Gets c d
+  awaits : (s : Submitted) (o : Outcome) (c d : Caller) → Awaits Caller (AreTrimmed ids 0) s o c d → Gets c d
   awaits s _ c _ (Awaits.at_once h) = rests c c refl
-  awaits s _ c d (Awaits.behind h t) = both c t.from d (made 0 c t.from t.refusals t.made) (enters ids t.from d _ _ t.ends.trims.enters)
+  awaits s _ c d (Awaits.behind h t) = both c t.0 d (made 0 c t.0 t.1 t.2) (enters ids t.0 d _ _ t.3.trims.enters)
   awaits s _ c d (Awaits.lost h t) = made 0 c d 1000 t
-
-  does : (c d : Caller) (asking : Asking) (o : Outcome) → Does ids At c asking o d → Gets c d
-  does c d asking o h = both c h.told d (enters ids c h.told _ _ h.submits.enters) (awaits h.submitted o h.told d h.awaits)
 
   caught : (c d : Caller) → (left d ≡ left c) ⊎ ((told : Bool) × CatchesUp ids At told c d) → Gets c d
   caught c d (inl h) = rests c d (ap seen h)
@@ -145,22 +143,17 @@ module _ (ids : Ids) (recorded : Bool) (At : ℕ → Type 0) (Left : Type 0) whe
   begins true c d h = rests c d (ap seen h)
   begins false c d h = enters ids c d _ _ h.1.2.enters
 
-  done : (c d : Caller) (asking : Asking) (command : Command) (o : Outcome) → Submits ids At c asking o d ⊎ Looks ids recorded At c command o d → Gets c d
-  done c d asking command o (inl s) = both c s.from d (starts asking.command c s.from s.starts) (does s.from d asking o s.does)
-  done c d asking command o (inr l) = both c l.looks.from d (begins l.query.serializable c l.looks.from l.looks.begins) (reads_on l.looks.from d l.looks.reads.front l.looks.reads.client)
-
-  answers : (c d : Caller) (a : Asked) (o : Outcome) → Answers ids recorded At c a o d → Gets c d
-  answers c d a o (inl h) = done c d _ h.command o h.does
-  answers c d a o (inr h) = rests c d (ap seen h.same)
-
-  first : (c d : Caller) (asking : Asking) (command : Command) (s : Submitted)
-      → SubmitsFirst ids At c asking s d ⊎ (Looks ids recorded At c command s.outcome d × (s.outcome.waits ≡ false)) → Gets c d
+  first : (c d : Caller) (asking : Asking) (command : Command) (s : Submitted) → SubmitsFirst ids At c asking s d ⊎ Looks ids recorded At c command s.outcome d → Gets c d
   first c d asking command s (inl b) = both c b.from d (starts asking.command c b.from b.starts) (enters ids b.from d _ _ b.submits.enters)
-  first c d asking command s (inr l) = done c d asking command s.outcome (inr l.0)
+  first c d asking command s (inr l) =
+      both c l.2.from d (begins l.0.serializable c l.2.from l.2.begins) (reads_on l.2.from d l.2.reads.front l.2.reads.client)
 
   pub firsts : (c d : Caller) (a : Asked) (s : Submitted) → AnswersFirst ids recorded At c a s d → Gets c d
   firsts c d a s (inl h) = first c d _ h.command s h.does
-  firsts c d a s (inr h) = rests c d (ap seen h.0.same)
+  firsts c d a s (inr h) = rests c d (ap seen h.same)
+
+  answers : (c d : Caller) (a : Asked) (o : Outcome) → Answers ids recorded At c a o d → Gets c d
+  answers c d a o h = both c h.told d (firsts c h.told a h.submitted h.first) (awaits h.submitted o h.told d h.awaits)
 
   quiet : (n : ℕ) (c d : Caller) → AreQuiet ids n c d → Gets c d
   quiet n c _ AreQuiet.none = rests c c refl
@@ -181,26 +174,20 @@ module _ (ids : Ids) (recorded : Bool) (At : ℕ → Type 0) (Left : Type 0) whe
   finishes c d None h = rests c d (ap seen h)
   finishes c d (Some n) h = enters ids c d _ _ h.1.0
 
-  -- ---- a request
+  -- ---- a turn
 
   abbrev Is : Caller → Asked → List ℕ → Caller → Result Bool Front → Type 0
   Is = IsAnswered Caller (Answers ids recorded At) (Tells ids Left) (Finishes ids)
 
-  answered : (s t : Caller) (a : Asked) (out : List ℕ) (r : Result Bool Front) → Is s a out t r → Gets s t
-  answered = request Caller (λ c. c) (Tells ids Left) tells (Finishes ids) finishes (Answers ids recorded At) answers
+  turned : (s t : Caller) (bytes left : List ℕ) (x : Result Turn Front) (out : List ℕ) → IsTurn Caller Is s bytes left t x out → Gets s t
+  turned = turn_gets Caller (λ c. c) (Tells ids Left) tells (Finishes ids) finishes (Answers ids recorded At) answers
 
   -- ---- a connection
 
   conns : (s t : Caller) (bytes : List ℕ) (limit : ℕ) (out : List ℕ) (r : Result ℕ Front) → Conn Caller Is s bytes limit out t r → Gets s t
   conns s _ bytes _ _ _ Conn.at_limit = rests s s refl
-  conns s _ _ _ _ _ (Conn.at_end l) = rests s s refl
-  conns s _ bytes _ _ _ (Conn.within l x) = rests s s refl
-  conns s _ bytes _ out _ (Conn.unanswered l f r n x) = rests s s refl
-  conns s _ bytes _ _ _ (Conn.unread l) = rests s s refl
-  conns s _ bytes _ _ _ (Conn.unheld l x) = rests s s refl
-  conns s t bytes _ _ _ (Conn.more {t = u} {rest} {text} {out} {r} l a x is later) = both s u t (answered s u a text (Ok false) is) (conns u t rest l out r later)
-  conns s t bytes _ out _ (Conn.closing l a left x is) = answered s t a out (Ok true) is
-  conns s t bytes _ out _ (Conn.broken {f} l a left x is) = answered s t a out (Err f) is
+  conns s t bytes _ _ _ (Conn.more {t = u} {rest} {text} {out} {r} l x later) = both s u t (turned s u bytes rest (Ok turn.More) text x) (conns u t rest l out r later)
+  conns s t bytes _ out _ (Conn.last {rest} l x is e) = turned s t bytes rest x out is
 
   pub served : (left : Option (List ℕ)) (p : List ℕ) (limit : ℕ) (w v : Option (List ℕ)) (s t : Caller) (r : Result ℕ Front)
       → NotBegun s t w v r ⊎ Serves Caller Is limit (progress s left p w) v t r → Gets s t

@@ -1,6 +1,6 @@
 -- What is made for a client that serves connections whose streams go on elsewhere.
 use Rattle.std.proofs.Common.{◌≡◌, ℕ, List, All, Bool, Option, None, Some, Result, Ok, Err, refl, sym, ◌∙◌, ap, subst}
-use Rattle.std.specs.Prelude.{⊤}
+use Rattle.std.specs.Prelude.{MatchOption, ⊤}
 use Rattle.kv_model.specs.declared.ids.Ids.{Ids}
 use Rattle.http_head.specs.Requests.{Asked}
 use Rattle.http_reply.specs.declared.front.Front.{Front}
@@ -17,6 +17,7 @@ use Rattle.http_loop.specs.Answered.{IsAnswered}
 use Rattle.http_loop.specs.Stepped.{AtOnce, EndsWith, Steps}
 use Rattle.http_loop.specs.Turned.{TurnsOnce, progress}
 use Rattle.http_loop.proofs.Conns.{may_end, rest_of}
+use Rattle.http_connections.specs.Engines as engines
 use Rattle.http_connections.specs.Engines.{Gets}
 use Rattle.http_connections.specs.Handing as handing
 use Rattle.http_connections.specs.Handing.{Hands}
@@ -54,7 +55,7 @@ module _ (ids : Ids) (recorded : Bool) (At : ℕ → Type 0) where
   pub finishes : (s t : Hands) (w : Option ℕ) → handing.Finishes ids s w t → Gets s.client t.client
   finishes s t w f = by s.handed f
     where
-      by : (h : Option ℕ) → handing.FinishesBy ids h s w t → Gets s.client t.client
+      by : (h : Option ℕ) → MatchOption h (engines.Finishes ids s.client w t.client × (t.handed ≡ None)) (λ n. t ≡ s) → Gets s.client t.client
       by None f = giving.finishes ids recorded At ⊤ s.client t.client w f.0
       by (Some n) f = rests s.client t.client (ap (λ (s : Hands). seen s.client) f)
 

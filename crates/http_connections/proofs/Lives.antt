@@ -27,7 +27,7 @@ use Rattle.http_connections.specs.Handing as handing
 use Rattle.http_connections.specs.Handing.{Hands}
 use Rattle.http_connections.specs.Lines as lines
 use Rattle.http_connections.specs.Engines.{Gets}
-use Rattle.http_connections.specs.Lines.{Ended, Goes, Hangs, IsBehind, Known, Lives, Waiting, sight, stage_behind, stage_of}
+use Rattle.http_connections.specs.Lines.{Ended, Goes, Hangs, IsBehind, Known, Lives, Waiting, sight, stage_of}
 use Rattle.http_connections.specs.declared.awaiting.Trimming.{Trimming}
 use Rattle.http_connections.specs.declared.life.Stage.{Stage}
 use Rattle.http_connections.specs.declared.life.Stage.TheVariants as stage
@@ -132,7 +132,7 @@ module _ (ids : Ids) (recorded : Bool) (At : ℕ → Type 0) (call : ℕ) (begun
     ends_by x r s = record { count = n; knows = l; all = all; end = r; serves = s }
 
     pub by_turn : (known : List Entry) (x : Result Turn Front) → IsPrefix l.front known → (x ≡ Ok turn.More → l.away ≡ None)
-        → TurnsOnce Known Is (progress k left p c) (progress l left' q c') x → Lives ids recorded At call begun known made left' q c' (stage_behind x l.away)
+        → TurnsOnce Known Is (progress k left p c) (progress l left' q c') x → Lives ids recorded At call begun known made left' q c' (stage_of x l.away)
     by_turn known (Ok turn.More) within here y = record {
       count = n + 1;
       knows = l;
@@ -146,7 +146,7 @@ module _ (ids : Ids) (recorded : Bool) (At : ℕ → Type 0) (call : ℕ) (begun
         served : (most : ℕ) → n < most → Serves Known Is most begun c' l (Ok (n + 1))
         served most m = last Known Is begun.left left begun.pending p n begun.wrote c begun.state k f left' q c' l most turn.Last refl m (turns Known Is _ _ (Ok turn.Last) y)
 
-        by : (a : Option ℕ) → l.away ≡ a → Lives ids recorded At call begun known made left' q c' (stage_of turn.Last a)
+        by : (a : Option ℕ) → l.away ≡ a → Lives ids recorded At call begun known made left' q c' (stage_of (Ok turn.Last) a)
         by None e = record { count = n; knows = l; all = all; end = Ok (n + 1); serves = served }
         by (Some m) e = (record { count = n; knows = l; all = all; end = Ok (n + 1); serves = served }, e)
     by_turn known (Ok turn.End) within here y = ends_by (Ok turn.End) (Ok n)
@@ -176,7 +176,7 @@ module _ (ids : Ids) (recorded : Bool) (At : ℕ → Type 0) (call : ℕ) (begun
 
     -- a request was answered, or none is to come
     pub turned : (x : Result Turn Front) → TurnsOnce Hands (ByHands ids recorded At call) (progress s left p c) (progress t left' q c') x
-        → Lives ids recorded At call begun t.client.reader.known (made ++ g.own) left' q c' (stage_behind x t.handed)
+        → Lives ids recorded At call begun t.client.reader.known (made ++ g.own) left' q c' (stage_of x t.handed)
     turned (Ok turn.More) y = by_turn h.count h.knows (known_of (h.knows.made ++ g.own) t) left left' p q c c' h.so_far (made ++ g.own) all t.client.reader.known (Ok turn.More)
         ([], append-nil _)
         (λ e. open_here ids recorded At call h.knows s h.within here about left left' p q c c' t g (Ok turn.More) none refl y)
@@ -212,13 +212,11 @@ module _ (ids : Ids) (recorded : Bool) (At : ℕ → Type 0) (call : ℕ) (begun
               record {
                 client = s.client;
                 then = t.client;
-                answers = y.answers.answers;
-                serves = record {
-                  knows = h.within;
-                  about = about;
-                  gets = g;
-                  then = λ i. record { front = t.client.reader.known; away = (y.answers.handed ∙ sym here) i; made = h.knows.made ++ g.own };
-                };
+                does = y.answers.answers;
+                knows = h.within;
+                about = about;
+                gets = g;
+                learns = λ i. record { front = t.client.reader.known; away = (y.answers.handed ∙ sym here) i; made = h.knows.made ++ g.own };
               },
               y.answers.outcome,
             );

@@ -75,7 +75,7 @@ stays ids recorded At s c d e b r = record { from = d; caught = begun s b; reads
 pub looks_as : (ids : Ids) (recorded : Bool) (At : ℕ → Type 0) (c d : Caller) (q : RangeQuery) (command : Command) (r : Option Outcome) → command ≡ commands.Range q
     → IfSome r (λ o. LooksUp ids recorded At c q o d) → IfSome r (λ o. Looks ids recorded At c command o d)
 looks_as ids recorded At c d q command None is h = tt
-looks_as ids recorded At c d q command (Some o) is h = record { query = q; is = is; looks = h }
+looks_as ids recorded At c d q command (Some o) is h = (q, is, h)
 
 -- so a Range that has to be submitted
 pub starts_as : (ids : Ids) (At : ℕ → Type 0) (command : Command) (q : RangeQuery) (c d : Caller) (r : Option Outcome) → command ≡ commands.Range q
@@ -142,7 +142,7 @@ reads_after ids c m d q o p h b r = record {
 -- a Range that was read whole
 pub reads_whole : (ids : Ids) (c m d : Caller) (q : RangeQuery) (o : Outcome) → IsPrefix c.reader.known m.reader.known → m ≡ record c { reader = m.reader }
     → m.reader.book ≡ c.reader.book → d ≡ left m → SettlesAs (response_over ids (answer_over (untrimmed (led_to m.reader.known)) q)) o.settled
-    → (o.raised ≡ None) × (o.watch ≡ None) → Reads ids c q o d
+    → (o.raised ≡ None) × (o.watch ≡ None) × (o.waits ≡ false) → Reads ids c q o d
 reads_whole ids c m d q o p h b l s bare = record {
   front = m.reader.known;
   begins = p;
@@ -176,7 +176,7 @@ reads_in_parts ids c m d q text s o p h b r k e is out = record {
   begins = prefix_trans c.reader.known m.reader.known r.front p r.begins;
   settles = subst (λ (x : Outcome). SettlesAs (response_over ids (answer_over (untrimmed (led_to r.front)) q)) x.settled) (sym out)
       (subst (SettlesAs (response_over ids (answer_over (untrimmed (led_to r.front)) q))) (sym is) (parts_settle ids m q text.items d r));
-  bare = (ap (λ (x : Outcome). x.raised) out, ap (λ (x : Outcome). x.watch) out);
+  bare = (ap (λ (x : Outcome). x.raised) out, ap (λ (x : Outcome). x.watch) out, ap (λ (x : Outcome). x.waits) out);
   client = reads_on c d r.front r.goes_on (k ∙ ap (λ (x : Caller). left (record x { reader = d.reader })) h) (e ∙ b);
 }
 

@@ -1,6 +1,6 @@
 -- A connection, as what it knows of, by the clients that answer it.
 use Rattle.std.proofs.Common.{◌≡◌, ℕ, List, [], ◌++◌, Bool, true, false, Option, None, Some, Result, Ok, Err, refl, sym, ◌∙◌, ap, subst, append_assoc}
-use Rattle.std.specs.Prelude.{⊤}
+use Rattle.std.specs.Prelude.{MatchOption, ⊤}
 use mathlib.Core.List.{IsPrefix}
 use Rattle.kv_model.specs.declared.ids.Ids.{Ids}
 use Rattle.http_head.specs.Requests.{Asked}
@@ -15,18 +15,19 @@ use Rattle.engine_lock.specs.Locked.{Caller}
 use Rattle.http_loop.specs.declared.answering.Told.{Told}
 use Rattle.http_loop.specs.declared.writing.Turn.{Turn}
 use Rattle.http_loop.specs.declared.writing.Turn.TheVariants as turn
-use Rattle.http_loop.specs.Answered.{AreMessages, IsAnswered, IsStream, IsStreamOf, IsTold, streamed}
+use Rattle.http_loop.specs.Answered.{AreMessages, IsAnswered, IsStream, IsStreamOf, IsTold, IsTurn, streamed}
 use Rattle.http_loop.specs.Stepped.{AtOnce, EndsWith}
 use Rattle.http_loop.specs.Texts.{IsSent, turn_of}
-use Rattle.http_loop.specs.Turned.{IsTurn, MayHaveAfter, TurnsOnce, progress}
+use Rattle.http_loop.specs.Turned.{MayHaveAfter, TurnsOnce, progress}
 use Rattle.http_loop.proofs.Conns.{may_end, rest_of}
 use Rattle.http_loop.proofs.Texts.{seen_as}
 use Rattle.http_loop.proofs.Turns.{IsLastTurn}
 use Rattle.http_connections.specs.Handing as handing
 use Rattle.http_connections.specs.Handing.{Hands}
 use Rattle.http_connections.specs.Lines as lines
-use Rattle.http_connections.specs.Engines.{Gets}
-use Rattle.http_connections.specs.Lines.{Known}
+use Rattle.http_connections.specs.Engines as engines
+use Rattle.http_connections.specs.Engines.{Awaits, Gets}
+use Rattle.http_connections.specs.Lines.{ByAClient, Known}
 use Rattle.http_connections.proofs.Giving.{firsts, own_both, own_none, seen}
 use Rattle.http_connections.proofs.Handed.{ended, from_same}
 
@@ -109,20 +110,19 @@ module _ (ids : Ids) (recorded : Bool) (At : ℕ → Type 0) (call : ℕ) where
         by t _ r (IsStreamOf.whole {out} later) = IsStreamOf.whole (messages n _ s t out r later)
 
     finishes : (s t : Hands) (w : Option ℕ) → s.client.about ≡ call → handing.Finishes ids s w t → (g : Gets s.client t.client)
-        → lines.FinishesBy ids recorded At call s.handed (known_of m s) w (known_of (m ++ g.own) t)
+        → lines.Finishes ids recorded At call (known_of m s) w (known_of (m ++ g.own) t)
     finishes s t w about f g = by s.handed refl f
       where
-        by : (h : Option ℕ) → h ≡ s.handed → handing.FinishesBy ids h s w t → lines.FinishesBy ids recorded At call h (known_of m s) w (known_of (m ++ g.own) t)
+        by : (h : Option ℕ) → h ≡ s.handed → MatchOption h (engines.Finishes ids s.client w t.client × (t.handed ≡ None)) (λ n. t ≡ s)
+            → MatchOption h (ByAClient call (λ c d. engines.Finishes ids c w d) (known_of m s) (known_of (m ++ g.own) t)) (λ n. known_of (m ++ g.own) t ≡ known_of m s)
         by None e f = record {
           client = s.client;
           then = t.client;
-          finishes = f.0;
-          serves = record {
-            knows = ([], append-nil s.client.reader.known);
-            about = about;
-            gets = g;
-            then = λ i. record { front = t.client.reader.known; away = (f.1 ∙ e) i; made = m ++ g.own };
-          };
+          does = f.0;
+          knows = ([], append-nil s.client.reader.known);
+          about = about;
+          gets = g;
+          learns = λ i. record { front = t.client.reader.known; away = (f.1 ∙ e) i; made = m ++ g.own };
         }
         by (Some n) e f =
             let none : m ++ g.own ≡ m = ap (λ (o : List Entry). m ++ o) (own_none s.client t.client g (ap (λ (s : Hands). seen s.client) f)) ∙ append-nil m in
@@ -131,7 +131,7 @@ module _ (ids : Ids) (recorded : Bool) (At : ℕ → Type 0) (call : ℕ) where
     -- what is left behind an outcome
     pub ends : (o : Outcome) (close : Bool) (s t : Hands) (out : List ℕ) (r : Result Bool Front) → s.client.about ≡ call
         → EndsWith Hands handing.Tells (handing.Finishes ids) o close s out t r → (g : Gets s.client t.client)
-        → EndsWith Known Tells (λ k w later. lines.FinishesBy ids recorded At call k.away k w later) o close (known_of m s) out (known_of (m ++ g.own) t) r
+        → EndsWith Known Tells (lines.Finishes ids recorded At call) o close (known_of m s) out (known_of (m ++ g.own) t) r
     ends o close s t out r about e g =
         let same = told_client (streamed o.settled o.watch) o.settled close s e.written out r e.told in
         record {
@@ -144,7 +144,7 @@ module _ (ids : Ids) (recorded : Bool) (At : ℕ → Type 0) (call : ℕ) where
   pub finishes_here : (s t : Hands) (w : Option ℕ) → s.handed ≡ None → handing.Finishes ids s w t → t.handed ≡ None
   finishes_here s t w here f = by s.handed f
     where
-      by : (h : Option ℕ) → handing.FinishesBy ids h s w t → t.handed ≡ None
+      by : (h : Option ℕ) → MatchOption h (engines.Finishes ids s.client w t.client × (t.handed ≡ None)) (λ n. t ≡ s) → t.handed ≡ None
       by None f = f.1
       by (Some n) f = ap (λ (s : Hands). s.handed) f ∙ here
 
@@ -174,20 +174,18 @@ module _ (ids : Ids) (recorded : Bool) (At : ℕ → Type 0) (call : ℕ) where
           written = left.written;
           answers = record {
             submitted = h.submitted;
-            first = known_of made d.done;
-            answers = record {
+            told = known_of made d.done;
+            first = record {
               client = s.client;
               then = d.done.client;
-              answers = h.answers;
-              serves = record {
-                knows = knows;
-                about = about;
-                gets = first;
-                then = λ i. record { front = d.done.client.reader.known; away = (h.handed ∙ sym here) i; made = made };
-              };
+              does = h.answers;
+              knows = knows;
+              about = about;
+              gets = first;
+              learns = λ i. record { front = d.done.client.reader.known; away = (h.handed ∙ sym here) i; made = made };
             };
-            awaits = subst (λ (o : Outcome). lines.Awaits ids recorded At call h.submitted o (known_of made d.done) (known_of made d.done)) (sym h.outcome)
-                (lines.Awaits.at_once (ap (λ (o : Outcome). o.waits) (sym h.outcome) ∙ d.answers.1));
+            awaits = subst (λ (o : Outcome). Awaits Known (lines.AreTrimmed ids recorded At call) h.submitted o (known_of made d.done) (known_of made d.done)) (sym h.outcome)
+                (Awaits.at_once (ap (λ (o : Outcome). o.waits) (sym h.outcome) ∙ d.answers.1));
           };
           told = left.told;
           finishes = left.finishes;

@@ -12,13 +12,13 @@ use Rattle.engine_lock.specs.Locked.{Caller, naming}
 use Rattle.http_loop.specs.declared.stepping.Waiting.{Waiting as Pending}
 use Rattle.http_loop.specs.declared.writing.Turn.{Turn}
 use Rattle.http_loop.specs.declared.writing.Turn.TheVariants as turn
-use Rattle.http_loop.specs.Answered.{IsTold, streamed}
+use Rattle.http_loop.specs.Answered.{IsTold, IsTurn, streamed}
 use Rattle.http_loop.specs.Stepped.{EndsWith, Waits}
 use Rattle.http_loop.specs.Texts.{turn_of}
-use Rattle.http_loop.specs.Turned.{IsTurn, MayHaveAfter, Progress, TurnsOnce, progress}
+use Rattle.http_loop.specs.Turned.{MayHaveAfter, Progress, TurnsOnce, progress}
 use Rattle.http_loop.proofs.Texts.{by_both}
 use Rattle.http_connections.specs.Engines as engines
-use Rattle.http_connections.specs.Engines.{Gets, lost_answer}
+use Rattle.http_connections.specs.Engines.{Awaits, Gets, lost_answer}
 use Rattle.http_connections.specs.Handing as handing
 use Rattle.http_connections.specs.Handing.{Hands}
 use Rattle.http_connections.specs.Lines as lines
@@ -61,7 +61,7 @@ module _ (ids : Ids) (recorded : Bool) (At : ℕ → Type 0) (call : ℕ) (begun
       revision = f ∙ h.revision;
       knows = learnt h.knows g.own d;
       steps = subst (λ (k : ℕ). lines.AreMade ids recorded At call h.first k (learnt h.knows g.own d)) (sym z)
-          (lines.AreMade.more c d h.steps m (record { knows = h.within; about = about; gets = g; then = refl }));
+          (lines.AreMade.more h.steps (record { client = c; then = d; does = m; knows = h.within; about = about; gets = g; learns = refl }));
       here = h.here;
       within = ([], append-nil d.reader.known);
       all = ap (λ (m : List Entry). m ++ g.own) h.all;
@@ -77,28 +77,29 @@ module _ (ids : Ids) (recorded : Bool) (At : ℕ → Type 0) (call : ℕ) (begun
 
     -- trimming is done
     pub done : (s : Hands) → s.client ≡ d → s.handed ≡ None → (from : Caller) (n : ℕ) → engines.AreMadeBehind ids c x.refusals n from → engines.Last ids from d
-        → (g : Gets c from) (l : Gets from d) → lines.Awaits ids recorded At call h.submitted h.submitted.outcome h.first (known_of ((h.knows.made ++ g.own) ++ l.own) s)
-    done s e none from n m last g l = lines.Awaits.behind waited (record {
-      refusals = n;
-      from = learnt h.knows g.own from;
-      made = lines.AreMade.more c from h.steps m (record { knows = h.within; about = about; gets = g; then = refl });
-      client = from;
-      then = d;
-      ends = last;
-      serves = record {
+        → (g : Gets c from) (l : Gets from d)
+        → Awaits Known (lines.AreTrimmed ids recorded At call) h.submitted h.submitted.outcome h.first (known_of ((h.knows.made ++ g.own) ++ l.own) s)
+    done s e none from n m last g l = Awaits.behind waited (
+      learnt h.knows g.own from,
+      n,
+      lines.AreMade.more h.steps (record { client = c; then = from; does = m; knows = h.within; about = about; gets = g; learns = refl }),
+      record {
+        client = from;
+        then = d;
+        does = last;
         knows = ([], append-nil from.reader.known);
         about = g.about ∙ about;
         gets = l;
-        then = knows_then ((h.knows.made ++ g.own) ++ l.own) s e none (learnt h.knows g.own from) h.here l.own refl;
-      };
-    })
+        learns = knows_then ((h.knows.made ++ g.own) ++ l.own) s e none (learnt h.knows g.own from) h.here l.own refl;
+      },
+    )
 
     -- or it was given up
     pub given_up : (s : Hands) → s.client ≡ d → s.handed ≡ None → engines.AreMadeBehind ids c x.refusals 1000 d → (g : Gets c d)
-        → lines.Awaits ids recorded At call h.submitted (lost_answer h.submitted) h.first (known_of (h.knows.made ++ g.own) s)
-    given_up s e none m g = lines.Awaits.lost waited (subst (λ (k : Known). lines.AreMade ids recorded At call h.first 1000 k)
+        → Awaits Known (lines.AreTrimmed ids recorded At call) h.submitted (lost_answer h.submitted) h.first (known_of (h.knows.made ++ g.own) s)
+    given_up s e none m g = Awaits.lost waited (subst (λ (k : Known). lines.AreMade ids recorded At call h.first 1000 k)
         (sym (knows_then (h.knows.made ++ g.own) s e none h.knows h.here g.own refl))
-        (lines.AreMade.more c d h.steps m (record { knows = h.within; about = about; gets = g; then = refl })))
+        (lines.AreMade.more h.steps (record { client = c; then = d; does = m; knows = h.within; about = about; gets = g; learns = refl })))
 
     pub lost_is : (lost_wait x.waiting x.revision).outcome ≡ lost_answer h.submitted
     lost_is = λ i. record (h.waits.answers.1 i) { settled = settled.Lost (h.revision i); waits = false }
@@ -106,7 +107,7 @@ module _ (ids : Ids) (recorded : Bool) (At : ℕ → Type 0) (call : ℕ) (begun
   -- ---- and the reply
 
   module _ (known made : List Entry) (h : Hangs ids recorded At call begun known made left p w x) (s t : Hands) (about : s.client.about ≡ call) (none : s.handed ≡ None)
-      (o : Outcome) (m : List Entry) (awaits : lines.Awaits ids recorded At call h.submitted o h.first (known_of m s)) (c : Option (List ℕ)) (v : Pending) (outcome : v.outcome ≡ o)
+      (o : Outcome) (m : List Entry) (awaits : Awaits Known (lines.AreTrimmed ids recorded At call) h.submitted o h.first (known_of m s)) (c : Option (List ℕ)) (v : Pending) (outcome : v.outcome ≡ o)
       (close : v.close ≡ x.waiting.close) (g : Gets s.client t.client) (all : List Entry) (is_all : m ++ g.own ≡ all) where
     abbrev Is : Known → Asked → List ℕ → Known → Result Bool Front → Type 0
     Is = ByAny ids recorded At call
@@ -121,9 +122,9 @@ module _ (ids : Ids) (recorded : Bool) (At : ℕ → Type 0) (call : ℕ) (begun
           written = z.written;
           answers = record {
             submitted = h.submitted;
-            first = h.first;
-            answers = h.waits.answers.0;
-            awaits = subst (λ (o : Outcome). lines.Awaits ids recorded At call h.submitted o h.first (known_of m s)) (sym outcome) awaits;
+            told = h.first;
+            first = h.waits.answers.0;
+            awaits = subst (λ (o : Outcome). Awaits Known (lines.AreTrimmed ids recorded At call) h.submitted o h.first (known_of m s)) (sym outcome) awaits;
           };
           told = subst (λ (b : Bool). IsTold Known (lines.Tells ids recorded At call) (streamed v.outcome.settled v.outcome.watch) v.outcome.settled b (known_of m s) out z.written r)
               (close ∙ h.waits.close) z.told;

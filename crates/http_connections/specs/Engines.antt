@@ -52,48 +52,36 @@ pub data AreMadeBehind (ids : Ids) (c : Caller) (before : ℕ) : ℕ → Caller 
   again : {n : ℕ} {d later : Caller} → AreMadeBehind ids c before n d → ShowsTo d later
       → AreMadeBehind ids c before (n + 1) later
 
-abbrev pub AreMade : Ids → Caller → ℕ → Caller → Type 0
-AreMade ids c = AreMadeBehind ids c 0
-
 -- the last of them said that trimming is done
 pub record Last (ids : Ids) (from later : Caller) : Type 0 where
   pub last : Trim
   pub trims : TrimsFor ids from last later
   pub ends : is_done (told_of last) ≡ true
 
--- they ended with one that says that trimming is done
-pub record Trims (ids : Ids) (c later : Caller) : Type 0 where
-  pub refusals : ℕ
-  pub from : Caller
-  pub made : AreMade ids c refusals from
-  pub ends : Last ids from later
-
--- so, or it was given up, after 1,000 refusals in a row
-abbrev pub AreTrimmed : Ids → Bool → Caller → Caller → Type 0
-AreTrimmed ids true c later = Trims ids c later
-AreTrimmed ids false c later = AreMade ids c 1000 later
+-- they ended with one that says that trimming is done; or it was given up, after 1,000 refusals in a row
+abbrev pub AreTrimmed : Ids → ℕ → Bool → Caller → Caller → Type 0
+AreTrimmed ids before true c later = (from : Caller) × (n : ℕ) × AreMadeBehind ids c before n from × Last ids from later
+AreTrimmed ids before false c later = AreMadeBehind ids c before 1000 later
 
 -- the store was changed, and the answer is lost
 abbrev pub lost_answer : Submitted → Outcome
 lost_answer s = record s.outcome { settled = settled.Lost s.revision; waits = false }
 
--- the outcome of a command, once the trimming that its answer waits for is done; where that was given up it is lost
-pub data Awaits (ids : Ids) (s : Submitted) : Outcome → Caller → Caller → Type 0 where
-  at_once : {c : Caller} → s.outcome.waits ≡ false → Awaits ids s s.outcome c c
-  behind : {c later : Caller} → s.outcome.waits ≡ true → AreTrimmed ids true c later → Awaits ids s s.outcome c later
-  lost : {c later : Caller} → s.outcome.waits ≡ true → AreTrimmed ids false c later → Awaits ids s (lost_answer s) c later
+-- The outcome of a command, once the trimming that its answer waits for is done; where that was given up it is lost. What
+-- stands before and after is a value of S: a client, or what a connection knows of.
+pub data Awaits (S : Type 0) (Trims : Bool → S → S → Type 0) (s : Submitted) : Outcome → S → S → Type 0 where
+  at_once : {c : S} → s.outcome.waits ≡ false → Awaits S Trims s s.outcome c c
+  behind : {c later : S} → s.outcome.waits ≡ true → Trims true c later → Awaits S Trims s s.outcome c later
+  lost : {c later : S} → s.outcome.waits ≡ true → Trims false c later → Awaits S Trims s (lost_answer s) c later
 
--- ---- a command
-
--- It was submitted once, for that client, at a moment that was told (`At`), with the request for it; where its answer waits
--- for trimming, that was done behind it.
-pub record Does (ids : Ids) (At : ℕ → Type 0) (c : Caller) (asking : Asking) (o : Outcome) (later : Caller) : Type 0 where
-  pub now : ℕ
-  pub at : At now
+-- what a request comes to: this first, and then the trimming that its answer waits for
+pub record ComesTo (S : Type 0) (First : S → Submitted → S → Type 0) (Trims : Bool → S → S → Type 0) (s : S) (o : Outcome) (later : S) : Type 0 where
   pub submitted : Submitted
-  pub told : Caller
-  pub submits : lock.Submits ids c now asking submitted told
-  pub awaits : Awaits ids submitted o told later
+  pub told : S
+  pub first : First s submitted told
+  pub awaits : Awaits S Trims submitted o told later
+
+-- ---- a Range that is read beside the engine
 
 -- the model's answer to a Range over a whole history, and its response
 abbrev pub answer_over : Untrimmed → RangeQuery → Result ranges.RangeReply Refusal
@@ -128,7 +116,7 @@ pub record Reads (ids : Ids) (c : Caller) (q : RangeQuery) (o : Outcome) (later 
   pub front : List Entry
   pub begins : IsPrefix c.reader.known front
   pub settles : SettlesAs (response_over ids (answer_over (untrimmed (led_to front)) q)) o.settled
-  pub bare : (o.raised ≡ None) × (o.watch ≡ None)
+  pub bare : (o.raised ≡ None) × (o.watch ≡ None) × (o.waits ≡ false)
   pub client : ReadsOn c front later
 
 -- At a moment that was told, handed in as an event of its own, the client was told of all that the engine had done; or of
@@ -147,7 +135,7 @@ pub record Stays (ids : Ids) (At : ℕ → Type 0) (c later : Caller) : Type 0 w
   pub caught : (left from ≡ left c) ⊎ ((told : Bool) × CatchesUp ids At told c from)
   pub reads : (later ≡ from) ⊎ ReadsOn from from.reader.known later
 
--- a Range was read so
+-- It was read beside the engine.
 pub record LooksUp (ids : Ids) (recorded : Bool) (At : ℕ → Type 0) (c : Caller) (query : RangeQuery) (o : Outcome) (later : Caller) : Type 0 where
   pub from : Caller
   pub begins : Begins ids recorded At query.serializable c from
@@ -157,13 +145,10 @@ pub record LooksUp (ids : Ids) (recorded : Bool) (At : ℕ → Type 0) (c : Call
 abbrev pub Starts : Ids → (ℕ → Type 0) → Command → Caller → Caller → Type 0
 Starts ids At command c from = (left from ≡ left c) ⊎ ((query : RangeQuery) × (command ≡ commands.Range query) × Stays ids At c from)
 
--- It was submitted.
-pub record Submits (ids : Ids) (At : ℕ → Type 0) (c : Caller) (asking : Asking) (o : Outcome) (later : Caller) : Type 0 where
-  pub from : Caller
-  pub starts : Starts ids At asking.command c from
-  pub does : Does ids At from asking o later
+-- ---- a command
 
--- It was submitted so, and the trimming that its answer waits for is not done yet.
+-- It was submitted once, for that client, at a moment that was told (`At`), with the request for it; the trimming that its
+-- answer waits for is not done yet.
 pub record SubmitsFirst (ids : Ids) (At : ℕ → Type 0) (c : Caller) (asking : Asking) (s : Submitted) (later : Caller) : Type 0 where
   pub from : Caller
   pub starts : Starts ids At asking.command c from
@@ -171,11 +156,9 @@ pub record SubmitsFirst (ids : Ids) (At : ℕ → Type 0) (c : Caller) (asking :
   pub at : At now
   pub submits : lock.Submits ids from now asking s later
 
--- It is a Range, and it was read beside the engine.
-pub record Looks (ids : Ids) (recorded : Bool) (At : ℕ → Type 0) (c : Caller) (command : Command) (o : Outcome) (later : Caller) : Type 0 where
-  pub query : RangeQuery
-  pub is : command ≡ commands.Range query
-  pub looks : LooksUp ids recorded At c query o later
+-- It is a Range, and it was read so.
+abbrev pub Looks : Ids → Bool → (ℕ → Type 0) → Caller → Command → Outcome → Caller → Type 0
+Looks ids recorded At c command o later = (query : RangeQuery) × (command ≡ commands.Range query) × LooksUp ids recorded At c query o later
 
 -- ---- a request
 
@@ -194,24 +177,25 @@ pub record Refused (path body : List ℕ) (c : Caller) (o : Outcome) (later : Ca
   pub bad : Bad
   pub fails : Fails bad (request_of path body)
   pub refuses : Refuses o.settled (is_want bad) (fault_of_reading bad)
-  pub unwatched : o.watch ≡ None
+  pub bare : (o.raised ≡ None) × (o.watch ≡ None) × (o.waits ≡ false)
   pub same : later ≡ c
 
--- of a connection: the command was submitted, or a Range read beside the engine, by whether events are written down, and at a
--- moment that was told
-abbrev pub Answers : Ids → Bool → (ℕ → Type 0) → Caller → Asked → Outcome → Caller → Type 0
-Answers ids recorded At c a o later = Did (path_asked a) a.body (λ command. Submits ids At c (asking_by (path_asked a) a.body command) o later
-    ⊎ Looks ids recorded At c command o later) ⊎ Refused (path_asked a) a.body c o later
-
--- the same, but for the trimming that its answer waits for
+-- Of a connection: the command was submitted, or a Range read beside the engine, by whether events are written down, and at a
+-- moment that was told; but for the trimming that its answer waits for.
 abbrev pub AnswersFirst : Ids → Bool → (ℕ → Type 0) → Caller → Asked → Submitted → Caller → Type 0
 AnswersFirst ids recorded At c a s later = Did (path_asked a) a.body (λ command. SubmitsFirst ids At c (asking_by (path_asked a) a.body command) s later
-    ⊎ (Looks ids recorded At c command s.outcome later × (s.outcome.waits ≡ false)))
-    ⊎ (Refused (path_asked a) a.body c s.outcome later × (s.outcome.waits ≡ false))
+    ⊎ Looks ids recorded At c command s.outcome later) ⊎ Refused (path_asked a) a.body c s.outcome later
 
--- of a script: it was submitted, at the engine's clock, as the moment 0 leaves that
+-- and with that
+abbrev pub Answers : Ids → Bool → (ℕ → Type 0) → Caller → Asked → Outcome → Caller → Type 0
+Answers ids recorded At c a = ComesTo Caller (λ c s later. AnswersFirst ids recorded At c a s later) (AreTrimmed ids 0) c
+
+-- of a script: it was submitted once, at the engine's clock, as the moment 0 leaves that, and the trimming was done
+abbrev pub SubmitsAlone : Ids → Caller → Asking → Outcome → Caller → Type 0
+SubmitsAlone ids c asking = ComesTo Caller (λ c s later. lock.Submits ids c 0 asking s later) (AreTrimmed ids 0) c
+
 abbrev pub Posts : Ids → Caller → List ℕ → List ℕ → Outcome → Caller → Type 0
-Posts ids c path body o later = Did path body (λ command. Does ids (λ now. now ≡ 0) c (asking_by path body command) o later)
+Posts ids c path body o later = Did path body (λ command. SubmitsAlone ids c (asking_by path body command) o later)
     ⊎ Refused path body c o later
 
 -- ---- a stream
@@ -225,8 +209,7 @@ IsQuiet ids n c later = EntersAlone ids c (Event.delivery n) (said WireTold.noth
 abbrev pub Says : Ids → ℕ → Caller → Told → Caller → Type 0
 Says ids n c (told.Text x) later = EntersAlone ids c (Event.delivery n) (said (WireTold.message x.items)) later
 Says ids n c told.End later = EntersAlone ids c (Event.delivery n) (said WireTold.no_watch) later
-Says ids n c told.Memory later = ⊥
-Says ids n c told.Away later = ⊥
+Says ids n c _ later = ⊥
 
 -- deliveries that told nothing were made, one after the other
 pub data AreQuiet (ids : Ids) (n : ℕ) (c : Caller) : Caller → Type 0 where

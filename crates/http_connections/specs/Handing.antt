@@ -1,9 +1,8 @@
 -- What an engine answers a connection whose streams go on elsewhere.
-use Rattle.std.specs.Prelude.{◌≡◌, ℕ, Bool, Option, None, Some}
+use Rattle.std.specs.Prelude.{◌≡◌, ℕ, Bool, Option, None, Some, MatchOption}
 use Rattle.kv_model.specs.declared.ids.Ids.{Ids}
 use Rattle.http_head.specs.Requests.{Asked}
 use Rattle.json_gateway.specs.declared.outcome.Outcome.{Outcome}
-use Rattle.engine_lock.specs.Locked as locked
 use Rattle.engine_lock.specs.Locked.{Caller}
 use Rattle.engine_lock.specs.declared.engine.Submitted.{Submitted}
 use Rattle.http_loop.specs.declared.answering.Told.{Told}
@@ -30,13 +29,5 @@ Tells s n told.Away t = t ≡ record s { handed = Some n }
 Tells s n _ t = ⊥
 
 -- behind a reply the watch that its request made is ended, unless its stream goes on elsewhere
-abbrev pub FinishesBy : Ids → Option ℕ → Hands → Option ℕ → Hands → Type 0
-FinishesBy ids None s w t = engines.Finishes ids s.client w t.client × (t.handed ≡ None)
-FinishesBy ids (Some n) s w t = t ≡ s
-
 abbrev pub Finishes : Ids → Hands → Option ℕ → Hands → Type 0
-Finishes ids s w t = FinishesBy ids s.handed s w t
-
--- one whose next events are about this
-abbrev pub naming : Hands → ℕ → Hands
-naming s about = record s { client = locked.naming s.client about }
+Finishes ids s w t = MatchOption s.handed (engines.Finishes ids s.client w t.client × (t.handed ≡ None)) (λ n. t ≡ s)

@@ -1,5 +1,5 @@
 -- What a connection is answered over its whole life, by whichever clients of an engine.
-use Rattle.std.specs.Prelude.{◌≡◌, ◌⊎◌, ◌<◌, ℕ, ◌++◌, Bool, true, false, List, Option, None, Some, Result, Ok, Err, ⊤}
+use Rattle.std.specs.Prelude.{◌≡◌, ◌⊎◌, ◌<◌, ℕ, ◌++◌, Bool, true, false, List, Option, None, Some, MatchOption, Result, Ok, Err, ⊤}
 use mathlib.Core.List.{IsPrefix}
 use Rattle.kv_model.specs.declared.ids.Ids.{Ids}
 use Rattle.http_head.specs.Requests.{Asked}
@@ -21,7 +21,7 @@ use Rattle.http_loop.specs.declared.writing.Turn.{Turn}
 use Rattle.http_loop.specs.declared.writing.Turn.TheVariants as turn
 use Rattle.http_loop.specs.Turned.{Progress, Serves, SoFar, progress}
 use Rattle.http_connections.specs.Engines as engines
-use Rattle.http_connections.specs.Engines.{Gets, lost_answer}
+use Rattle.http_connections.specs.Engines.{Gets}
 use Rattle.http_connections.specs.declared.life.Stage.{Stage}
 use Rattle.http_connections.specs.declared.life.Stage.TheVariants as stage
 use Rattle.http_connections.specs.declared.awaiting.Trimming.{Trimming}
@@ -43,49 +43,34 @@ pub record Known : Type 0 where
 abbrev pub learnt : Known → List Entry → Caller → Known
 learnt k own c = record k { front = c.reader.known; made = k.made ++ own }
 
--- A client served a connection meanwhile: it knew of all that this knows of, and all events that were made for the client are
--- about the connection, and are the connection's own from then on.
-pub record ServesFor (call : ℕ) (k : Known) (c d : Caller) (later : Known) : Type 0 where
-  pub knows : IsPrefix k.front c.reader.known
-  pub about : c.about ≡ call
-  pub gets : Gets c d
-  pub then : later ≡ learnt k gets.own d
+-- Some client did this for a connection: it knew of all that the connection knows of, and all events that were made for the
+-- client meanwhile are about the connection, and are the connection's own from then on.
+pub record ByAClient (call : ℕ) (Does : Caller → Caller → Type 0) (k later : Known) : Type 0 where
+  pub client : Caller
+  pub then : Caller
+  pub does : Does client then
+  pub knows : IsPrefix k.front client.reader.known
+  pub about : client.about ≡ call
+  pub gets : Gets client then
+  pub learns : later ≡ learnt k gets.own then
 
 module _ (ids : Ids) (recorded : Bool) (At : ℕ → Type 0) (call : ℕ) where
-  -- a request came to this first, by some client
-  pub record AnswersFirst (k : Known) (a : Asked) (s : Submitted) (later : Known) : Type 0 where
-    pub client : Caller
-    pub then : Caller
-    pub answers : engines.AnswersFirst ids recorded At client a s then
-    pub serves : ServesFor call k client then later
+  -- a request came to this first
+  abbrev pub AnswersFirst : Known → Asked → Submitted → Known → Type 0
+  AnswersFirst k a s = ByAClient call (λ c d. engines.AnswersFirst ids recorded At c a s d) k
 
   -- trimming steps were made for it, by one client and then another, of which the last so many were refused
   pub data AreMade (k : Known) : ℕ → Known → Type 0 where
     none : AreMade k 0 k
-    more : {n m : ℕ} {j later : Known} (c d : Caller) → AreMade k n j → engines.AreMadeBehind ids c n m d
-        → ServesFor call j c d later → AreMade k m later
+    more : {n m : ℕ} {j later : Known} → AreMade k n j → ByAClient call (λ c d. engines.AreMadeBehind ids c n m d) j later → AreMade k m later
 
-  -- and one of them said that trimming is done
-  pub record Trims (k later : Known) : Type 0 where
-    pub refusals : ℕ
-    pub from : Known
-    pub made : AreMade k refusals from
-    pub client : Caller
-    pub then : Caller
-    pub ends : engines.Last ids client then
-    pub serves : ServesFor call from client then later
+  -- and one more said that trimming is done; or it was given up, after 1,000 refusals in a row
+  abbrev pub AreTrimmed : Bool → Known → Known → Type 0
+  AreTrimmed true k later = (from : Known) × (n : ℕ) × AreMade k n from × ByAClient call (engines.Last ids) from later
+  AreTrimmed false k later = AreMade k 1000 later
 
-  -- the outcome of a command, once the trimming that its answer waits for is done; where that was given up it is lost
-  pub data Awaits (s : Submitted) : Outcome → Known → Known → Type 0 where
-    at_once : {k : Known} → s.outcome.waits ≡ false → Awaits s s.outcome k k
-    behind : {k later : Known} → s.outcome.waits ≡ true → Trims k later → Awaits s s.outcome k later
-    lost : {k later : Known} → s.outcome.waits ≡ true → AreMade k 1000 later → Awaits s (lost_answer s) k later
-
-  pub record Answers (k : Known) (a : Asked) (o : Outcome) (later : Known) : Type 0 where
-    pub submitted : Submitted
-    pub first : Known
-    pub answers : AnswersFirst k a submitted first
-    pub awaits : Awaits submitted o first later
+  abbrev pub Answers : Known → Asked → Outcome → Known → Type 0
+  Answers k a = engines.ComesTo Known (λ k s later. AnswersFirst k a s later) AreTrimmed k
 
   -- a stream goes on elsewhere at once
   abbrev pub Tells : Known → ℕ → Told → Known → Type 0
@@ -93,19 +78,12 @@ module _ (ids : Ids) (recorded : Bool) (At : ℕ → Type 0) (call : ℕ) where
   Tells k n _ later = ⊥
 
   -- behind a reply the watch that its request made is ended, unless its stream goes on elsewhere
-  pub record Finishes (k : Known) (w : Option ℕ) (later : Known) : Type 0 where
-    pub client : Caller
-    pub then : Caller
-    pub finishes : engines.Finishes ids client w then
-    pub serves : ServesFor call k client then later
-
-  abbrev pub FinishesBy : Option ℕ → Known → Option ℕ → Known → Type 0
-  FinishesBy None k w later = Finishes k w later
-  FinishesBy (Some n) k w later = later ≡ k
+  abbrev pub Finishes : Known → Option ℕ → Known → Type 0
+  Finishes k w later = MatchOption k.away (ByAClient call (λ c d. engines.Finishes ids c w d) k later) (λ n. later ≡ k)
 
   -- what a request of the connection is answered
   abbrev pub Is : Known → Asked → List ℕ → Known → Result Bool Front → Type 0
-  Is = IsAnswered Known Answers Tells (λ k w later. FinishesBy k.away k w later)
+  Is = IsAnswered Known Answers Tells Finishes
 
   -- ---- how far a connection has come since it began: its client knew of no more than this, and these events were made for it
 
@@ -152,13 +130,10 @@ module _ (ids : Ids) (recorded : Bool) (At : ℕ → Type 0) (call : ℕ) where
 -- not answered, and what has gone out with what is to
 pub record Sight : Type 0 where
   pub stage : Stage
-  pub known : List Entry
-  pub left : Option (List ℕ)
-  pub pending : List ℕ
-  pub wrote : Option (List ℕ)
+  pub far : Progress (List Entry)
 
 abbrev pub sight : Stage → List Entry → Option (List ℕ) → List ℕ → Option (List ℕ) → Sight
-sight s known left pending wrote = record { stage = s; known = known; left = left; pending = pending; wrote = wrote }
+sight s known left pending wrote = record { stage = s; far = progress known left pending wrote }
 
 -- However it came as far as the one, it has come as far as the other: nothing that it was asked or answered is lost, nor
 -- what is still to be asked or written, and nothing is added. All events that were made for the client meanwhile are about it,
@@ -166,8 +141,8 @@ sight s known left pending wrote = record { stage = s; known = known; left = lef
 pub record Goes (ids : Ids) (recorded : Bool) (At : ℕ → Type 0) (call : ℕ) (c d : Caller) (x y : Sight) : Type 0 where
   pub gets : Gets (naming c call) (naming d call)
   pub goes : (begun : Progress Known) (made : List Entry)
-      → Lives ids recorded At call begun x.known made x.left x.pending x.wrote x.stage
-      → Lives ids recorded At call begun y.known (made ++ gets.own) y.left y.pending y.wrote y.stage
+      → Lives ids recorded At call begun x.far.state made x.far.left x.far.pending x.far.wrote x.stage
+      → Lives ids recorded At call begun y.far.state (made ++ gets.own) y.far.left y.far.pending y.far.wrote y.stage
 
 -- ---- turns
 
@@ -177,16 +152,10 @@ IsAway (after.Away n) s = s ≡ stage.Streaming n
 IsAway _ s = ⊤
 
 -- how far a connection is behind a turn, by which the stream of this watch goes on elsewhere
-abbrev pub stage_of : Turn → Option ℕ → Stage
-stage_of turn.More away = stage.Reading
-stage_of turn.Last None = stage.Closing
-stage_of turn.Last (Some n) = stage.Streaming n
-stage_of turn.End away = stage.Closing
-
--- or one that fails
-abbrev pub stage_behind : Result Turn Front → Option ℕ → Stage
-stage_behind (Ok t) away = stage_of t away
-stage_behind (Err f) away = stage.Closing
+abbrev pub stage_of : Result Turn Front → Option ℕ → Stage
+stage_of (Ok turn.More) away = stage.Reading
+stage_of (Ok turn.Last) (Some n) = stage.Streaming n
+stage_of _ away = stage.Closing
 
 -- an answer waits for trimming, of which nothing was done
 abbrev pub IsHeld : Pending → ℕ → Stage → Type 0
@@ -195,7 +164,7 @@ IsHeld w revision _ = ⊥
 
 -- or a step: a request was done whose answer waits; or a read failed since nothing more is there, which ends nothing
 abbrev pub IsBehind : Result Step Front → Bool → Option ℕ → ℕ → Stage → Type 0
-IsBehind (Ok (step.Turned t)) dry away revision x = x ≡ stage_of t away
+IsBehind (Ok (step.Turned t)) dry away revision x = x ≡ stage_of (Ok t) away
 IsBehind (Ok (step.Waits w)) dry away revision x = IsHeld w revision x
 IsBehind (Err f) dry away revision x = (x ≡ stage.Closing) ⊎ ((f ≡ front.Read) × (dry ≡ true) × (x ≡ stage.Reading))
 
@@ -203,12 +172,12 @@ IsBehind (Err f) dry away revision x = (x ≡ stage.Closing) ⊎ ((f ≡ front.R
 pub record EndsWait (ids : Ids) (w : Pending) (s : Hands) (c : Option (List ℕ)) (t : Hands) (c' : Option (List ℕ)) (x : Stage) : Type 0 where
   pub turned : Result Turn Front
   pub finished : Finished c c' (λ out r. EndsWith Hands handing.Tells (handing.Finishes ids) w.outcome w.close s out t r) turned
-  pub stage : x ≡ stage_behind turned t.handed
+  pub stage : x ≡ stage_of turned t.handed
 
 -- some trimming steps were made for a client, of which so many before them were refused in a row
 abbrev pub TrimsSome : Ids → Caller → ℕ → Trimmed → Caller → Type 0
-TrimsSome ids c before trimmed.Done d = (from : Caller) × (n : ℕ) × engines.AreMadeBehind ids c before n from × engines.Last ids from d
-TrimsSome ids c before trimmed.Lost d = engines.AreMadeBehind ids c before 1000 d
+TrimsSome ids c before trimmed.Done d = engines.AreTrimmed ids before true c d
+TrimsSome ids c before trimmed.Lost d = engines.AreTrimmed ids before false c d
 TrimsSome ids c before (trimmed.Left n) d = engines.AreMadeBehind ids c before n d × (n < 1000)
 
 -- what waits is lost, and the store was changed

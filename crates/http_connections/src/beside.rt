@@ -44,7 +44,6 @@ pub(crate) fn looked<L: EngineName, G: Gate, C: Clock, R: Wait>(
     requires { C.Tells clock.now now }
     ensures looks { IfSome result (λ o. Looks events.now.engine.now.ids L.recorded (C.Tells clock.now)
         client.old command.now o client.new) }
-    ensures ready { IfSome result (λ o. o.waits ≡ false) }
     ensures none { IfNone result (Starts events.now.engine.now.ids (C.Tells clock.now) command.now
         client.old client.new) }
 {
@@ -76,7 +75,6 @@ fn looked_up<L: EngineName, G: Gate, C: Clock, R: Wait>(
     requires { C.Tells clock.now now }
     ensures looks { IfSome result (λ o. LooksUp events.now.engine.now.ids L.recorded (C.Tells clock.now)
         client.old query.now o client.new) }
-    ensures ready { IfSome result (λ o. o.waits ≡ false) }
     ensures none { IfNone result
         (Stays events.now.engine.now.ids (C.Tells clock.now) client.old client.new) }
 {
@@ -133,7 +131,6 @@ fn read_beside<L: EngineName>(
     ids: &Ids,
 ) -> Option<Outcome>
     ensures reads { IfSome result (λ o. Reads ids.now client.old query.now o client.new) }
-    ensures ready { IfSome result (λ o. o.waits ≡ false) }
     ensures none { IfNone result (ReadsOn client.old client.old.reader.known client.new) }
 {
     if client.enter().is_err() {
@@ -157,7 +154,6 @@ fn read_again<L: EngineName>(
     ids: &Ids,
 ) -> Option<Outcome>
     ensures reads { IfSome result (λ o. Reads ids.now client.old query.now o client.new) }
-    ensures ready { IfSome result (λ o. o.waits ≡ false) }
     ensures none { IfNone result (ReadsOn client.old client.old.reader.known client.new) }
 {
     if client.enter().is_err() {
@@ -176,8 +172,7 @@ fn read_whole<L: EngineName>(
     requires { client.old.reader.inside ≡ true }
     ensures settles { SettlesAs (response_over ids.now
         (answer_over (untrimmed (led_to client.old.reader.known)) query.now)) result.settled }
-    ensures ready { result.waits ≡ false }
-    ensures bare { (result.raised ≡ None) × (result.watch ≡ None) }
+    ensures bare { (result.raised ≡ None) × (result.watch ≡ None) × (result.waits ≡ false) }
     ensures client { client.new ≡ left client.old }
 {
     let settled = settled(alloc, client.range(alloc, query), ids);

@@ -3,11 +3,11 @@ ghost use Rattle.std.specs.Prelude.{◌≡◌, ◌⊎◌, None, false, MatchOpti
 ghost use Rattle.json_gateway.specs.Endings.{Refuses, fault_of_reading, is_want};
 ghost use Rattle.http_connections.specs.Engines as engines;
 ghost use Rattle.http_input.specs.Inputs.{request_view};
-ghost use Rattle.http_connections.specs.Engines.{AnswersFirst, AreTrimmed, Awaits, Does, IsQuiet, Looks, Posts, Says};
-ghost use Rattle.http_connections.specs.Engines.{SubmitsFirst, lost_answer};
+ghost use Rattle.engine_lock.specs.Locked.{Caller};
+ghost use Rattle.http_connections.specs.Engines.{AnswersFirst, AreTrimmed, Awaits, IsQuiet, Looks, Posts, Says};
+ghost use Rattle.http_connections.specs.Engines.{SubmitsAlone, SubmitsFirst, lost_answer};
 
 use crate::beside::looked;
-use crate::stopped_clock::StoppedClock;
 use engine_lock::{Asked, Client, EngineName, Submitted};
 use gateway_read::Reading;
 use http_input::Request;
@@ -128,8 +128,8 @@ fn begun<L: EngineName, G: Gate, C: Clock, R: Wait>(
 ) -> Submitted
     requires { C.Tells clock.now now }
     ensures { SubmitsFirst events.now.engine.now.ids (C.Tells clock.now) client.old asked.now result client.new
-        ⊎ (Looks events.now.engine.now.ids L.recorded (C.Tells clock.now) client.old asked.now.command
-        result.outcome client.new × (result.outcome.waits ≡ false)) }
+        ⊎ Looks events.now.engine.now.ids L.recorded (C.Tells clock.now) client.old asked.now.command
+        result.outcome client.new }
 {
     match looked(events, clock, alloc, client, now, asked.command()) {
         Some(outcome) => at_once(outcome),
@@ -168,9 +168,7 @@ fn told_next<L: EngineName, G: Gate, R: Wait>(
 /// The outcome of a request that asks for no command.
 fn refused(alloc: Global, bad: Bad) -> Outcome
     ensures refuses { Refuses result.settled (is_want bad) (fault_of_reading bad) }
-    ensures watch { result.watch ≡ None }
-    ensures raised { result.raised ≡ None }
-    ensures ready { result.waits ≡ false }
+    ensures bare { (result.raised ≡ None) × (result.watch ≡ None) × (result.waits ≡ false) }
 {
     Outcome {
         settled: dismissed(alloc, bad),
@@ -195,26 +193,22 @@ pub fn post<L: EngineName, G: Gate, R: Wait>(
     match read(alloc, path, body) {
         Ok(command) => {
             let asked = Asked::by(&command, path, body);
-            performed(events, &StoppedClock, client, 0, &asked)
+            submit_alone(events, client, &asked)
         }
         Err(bad) => refused(alloc, bad),
     }
 }
 
-/// Submits a command at the moment `now`, which the clock told, and does the trimming that its answer
-/// waits for.
-fn performed<L: EngineName, G: Gate, C: Clock, R: Wait>(
+/// Submits a command at the engine's clock, as the moment 0 leaves that, and does the trimming that its
+/// answer waits for.
+fn submit_alone<L: EngineName, G: Gate, R: Wait>(
     events: &Recorded<'_, L, G, R>,
-    clock: &C,
     client: &mut Client<L>,
-    now: u64,
     asked: &Asked<'_>,
 ) -> Outcome
-    requires { C.Tells clock.now now }
-    ensures { Does events.now.engine.now.ids (C.Tells clock.now) client.old asked.now result client.new }
+    ensures { SubmitsAlone events.now.engine.now.ids client.old asked.now result client.new }
 {
-    let _ = clock;
-    let submitted = events.submit(client, now, asked);
+    let submitted = events.submit(client, 0, asked);
     awaited(events, client, submitted)
 }
 
@@ -224,7 +218,7 @@ fn awaited<L: EngineName, G: Gate, R: Wait>(
     client: &mut Client<L>,
     submitted: Submitted,
 ) -> Outcome
-    ensures { Awaits events.now.engine.now.ids submitted result client.old client.new }
+    ensures { Awaits Caller (AreTrimmed events.now.engine.now.ids 0) submitted result client.old client.new }
 {
     if submitted.outcome.waits {
         if trim_all(events, client) {
@@ -254,7 +248,7 @@ fn trim_all<L: EngineName, G: Gate, R: Wait>(
     events: &Recorded<'_, L, G, R>,
     client: &mut Client<L>,
 ) -> bool
-    ensures { AreTrimmed events.now.engine.now.ids result client.old client.new }
+    ensures { AreTrimmed events.now.engine.now.ids 0 result client.old client.new }
 {
     let mut refusals = 0;
     for _ in events.rt.forever() {

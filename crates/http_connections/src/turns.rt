@@ -1,5 +1,5 @@
 //! The turns of a connection: what a thread does once it has it.
-ghost use Rattle.std.specs.Prelude.{◌≡◌, ◌⊎◌, ℕ, List, [], Option, IfSome};
+ghost use Rattle.std.specs.Prelude.{◌≡◌, ◌⊎◌, ℕ, List, [], Option, Ok, IfSome};
 ghost use Rattle.std.specs.Io.KnownBytes.{Appends, append_known};
 ghost use Rattle.http_connections.specs.declared.life.Stage.TheVariants as stage;
 ghost use Rattle.http_connections.specs.declared.turns.After.TheVariants as after;
@@ -402,7 +402,7 @@ fn held(waiting: Waiting, revision: u64) -> Stage
 /// How far a connection is behind a request that was answered, whose watch's stream goes on elsewhere
 /// where there is one.
 fn stage_after(turn: Turn, handed: Option<u64>) -> Stage
-    ensures { result ≡ stage_of turn handed }
+    ensures { result ≡ stage_of (Ok turn) handed }
 {
     match (turn, handed) {
         (Turn::More, _) => Stage::Reading,

@@ -10,7 +10,8 @@ use Rattle.http_loop.specs.declared.writing.Turn.TheVariants as turn
 use Rattle.http_loop.specs.Answered.{Conn}
 use Rattle.http_loop.specs.Stepped.{ReadsOn}
 use Rattle.http_loop.specs.Texts.{Grows, replies_more}
-use Rattle.http_loop.specs.Turned.{Begins, Ends, Gave, MayHaveAfter, NotBegun, Serves, SoFar, Turned, Turns, progress}
+use Rattle.http_loop.specs.Turned.{Begins, Gave, MayHaveAfter, NotBegun, Serves, SoFar, progress}
+use Rattle.http_loop.proofs.Runs.{Ends, Turned, Turns}
 use Rattle.http_loop.proofs.Texts.{by_both, by_none, seen_as, wrote_none}
 
 -- ---- numbers of replies

@@ -2,6 +2,7 @@ pub mod Chunks
 pub mod Conns
 pub mod OneWay
 pub mod Rests
+pub mod Runs
 pub mod Steps
 pub mod Texts
 pub mod Turns

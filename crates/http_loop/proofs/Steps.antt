@@ -1,5 +1,5 @@
 -- A request that was read and done, and the step that it makes.
-use Rattle.std.proofs.Common.{◌≡◌, ℕ, ◌+◌, List, [], ◌++◌, drop, Bool, true, Option, None, Some, Result, Ok, Err, refl, sym, ◌∙◌, ap, subst}
+use Rattle.std.proofs.Common.{◌≡◌, ℕ, ◌+◌, List, [], drop, Bool, true, Option, Some, Result, Ok, Err, refl, sym, ◌∙◌, ap, subst}
 use Rattle.std.specs.Io.KnownBytes.{Appends}
 use Rattle.http_head.specs.declared.head.Head.{Head}
 use Rattle.http_head.specs.Requests.{Asked}
@@ -70,5 +70,5 @@ module _ (S : Type 0) (s : S) (left left' : Option (List ℕ)) (p q : List ℕ) 
     gave = gave left left' p q k took;
     pending = k.is;
     state = refl;
-    quiet = subst (Appends c c') (silent (refusal_bytes x) d.out x d.sending (unsaid x (of_reading x d.out d.sending d.sent (sym d.ends ∙ e))) d.sent).0 d.wrote;
+    quiet = subst (Appends c c') (silent (refusal_bytes x) d.wrote.out x d.sending (unsaid x (of_reading x d.wrote.out d.sending d.wrote.are (sym d.ends ∙ e))) d.wrote.are).0 d.wrote.wrote;
   }

@@ -72,7 +72,7 @@ silent text out x (Err front.Unclosed) e h = absurd h
 
 pub by_writing : (f : Front) (c c' : Option (List ℕ)) (m m' : ℕ) (r : Result Bool Front) → Writes true (refusal_bytes f) c c' r → m' ≡ failures_after r m
     → Declines f c c' m m' (end_of f r)
-by_writing f c c' m m' r w e = record { out = w.out; sending = r; wrote = w.wrote; sent = w.are; failed = e; ends = refl }
+by_writing f c c' m m' r w e = record { sending = r; wrote = w; failed = e; ends = refl }
 
 -- ---- what writing ends with
 

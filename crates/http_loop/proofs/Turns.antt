@@ -1,5 +1,5 @@
 -- A request that was read, or why there is none, and the turn that it makes.
-use Rattle.std.proofs.Common.{◌≡◌, ◌≤◌, ℕ, ◌+◌, List, [], ◌++◌, length, drop, Bool, true, false, Option, None, Some, Result, Ok, Err, refl, sym, ◌∙◌, ap, subst, append_assoc}
+use Rattle.std.proofs.Common.{◌≡◌, ◌≤◌, ℕ, ◌+◌, List, [], ◌++◌, length, drop, Bool, true, Option, None, Some, Result, Ok, Err, refl, sym, ◌∙◌, ap, subst, append_assoc}
 use Rattle.std.specs.Prelude.{⊤}
 use Rattle.std.proofs.lemmas.List.{append_cancel_left}
 use Rattle.std.specs.Io.KnownBytes.{Appends}
@@ -14,9 +14,10 @@ use Rattle.http_reply.specs.Replies.{refusal_bytes}
 use Rattle.http_reply.specs.Sends.{failures_after}
 use Rattle.http_loop.specs.declared.writing.Turn.{Turn}
 use Rattle.http_loop.specs.declared.writing.Turn.TheVariants as turn
-use Rattle.http_loop.specs.Answered.{Conn}
+use Rattle.http_loop.specs.Answered.{Conn, IsTurn}
 use Rattle.http_loop.specs.Texts.{Declines, Grows, IsSent, end_of, front_of, turn_of}
-use Rattle.http_loop.specs.Turned.{Gave, IsTurn, MayHaveAfter, Progress, Turned, Turns, TurnsOnce, progress}
+use Rattle.http_loop.specs.Turned.{Gave, MayHaveAfter, Progress, TurnsOnce, progress}
+use Rattle.http_loop.proofs.Runs.{Turned, Turns}
 use Rattle.http_loop.proofs.Texts.{by_none, seen_as, silent}
 
 -- ---- what was read
@@ -65,14 +66,10 @@ came_some None q later r (Err f) l m h = nothing q later r m h
 module _ (S : Type 0) (Is : S → Asked → List ℕ → S → Result Bool Front → Type 0) where
   -- whatever follows it, it is the first of
   turned : (s t : S) (bytes left : List ℕ) (y : Result Turn Front) (out : List ℕ) → IsTurn S Is s bytes left t y out → Turned S Is s bytes left t y out
-  turned s t bytes left y out (IsTurn.answered a (Ok true) h i) = λ l. Conn.closing l a left h i
-  turned s t bytes left y out (IsTurn.answered a (Ok false) h i) = λ k more u r m. Conn.more k a h i m
-  turned s t bytes left y out (IsTurn.answered a (Err f) h i) = λ l. Conn.broken l a left h i
-  turned s t bytes left y out (IsTurn.ended e) = λ l. subst (λ (bytes : List ℕ). Conn S Is s bytes (1 + l) [] s (Ok 0)) (sym e) (Conn.at_end l)
-  turned s t bytes left y out (IsTurn.within h) = λ l. Conn.within l h
-  turned s t bytes left y out (IsTurn.unanswered f r n i) = λ l. Conn.unanswered l f r n i
-  turned s t bytes left y out (IsTurn.unread) = λ l. Conn.unread l
-  turned s t bytes left y out (IsTurn.unheld h) = λ l. Conn.unheld l h
+  turned s t bytes left (Ok turn.More) out i = λ k more u r m. Conn.more k i m
+  turned s t bytes left (Ok turn.Last) out i = λ l. Conn.last l (Ok turn.Last) i refl
+  turned s t bytes left (Ok turn.End) out i = λ l. Conn.last l (Ok turn.End) i refl
+  turned s t bytes left (Err f) out i = λ l. Conn.last l (Err f) i refl
 
   pub turns : (old new : Progress S) (y : Result Turn Front) → TurnsOnce S Is old new y → Turns S Is old new y
   turns old new y k = record {
@@ -128,19 +125,19 @@ module _ (S : Type 0) (Is : S → Asked → List ℕ → S → Result Bool Front
     -- a fault that is told of
     refused : (f : Fault) → Declines (front_of f) c c' m m' end → Refused (λ bytes. Names f (window bytes))
     refused f d = record {
-      out = d.out;
-      wrote = d.wrote;
-      are = λ bytes later n. subst (λ (e : Front). IsTurn S Is s bytes later s (Err e) d.out) (sym d.ends) (IsTurn.unanswered f d.sending n d.sent);
+      out = d.wrote.out;
+      wrote = d.wrote.wrote;
+      are = λ bytes later n. subst (λ (e : Front). IsTurn S Is s bytes later s (Err e) d.wrote.out) (sym d.ends) (IsTurn.unanswered f d.sending n d.wrote.are);
     }
 
     -- an end without words
     unsaid : (x : Front) (Are : List ℕ → Type 0) → refusal_bytes x ≡ [] → ((bytes later : List ℕ) → Are bytes → IsTurn S Is s bytes later s (Err x) [])
         → Declines x c c' m m' end → Refused Are
     unsaid x Are none k d =
-        let quiet = silent (refusal_bytes x) d.out x d.sending none d.sent in
+        let quiet = silent (refusal_bytes x) d.wrote.out x d.sending none d.wrote.are in
         record {
           out = [];
-          wrote = subst (Appends c c') quiet.0 d.wrote;
+          wrote = subst (Appends c c') quiet.0 d.wrote.wrote;
           are = λ bytes later i. subst (λ (e : Front). IsTurn S Is s bytes later s (Err e) []) (sym (d.ends ∙ quiet.1)) (k bytes later i);
         }
 
@@ -225,7 +222,7 @@ module _ (T U : Type 0) where
 
   pub reads_told : (x end : Front) (c c' : Option (List ℕ)) (m m' n : ℕ) → Declines x c c' m m' end
       → failures_after_read {T = T} (Err end) n ≡ failures_after_read {T = U} (Err x) n
-  reads_told x end c c' m m' n d = ap (λ (e : Front). failures_after_read {T = T} (Err e) n) d.ends ∙ reads_by x d.sending d.out n d.sent
+  reads_told x end c c' m m' n d = ap (λ (e : Front). failures_after_read {T = T} (Err e) n) d.ends ∙ reads_by x d.sending d.wrote.out n d.wrote.are
 
   -- the writer's failures go by what it ended with, where that came of no write before
   writes_by : (x : Front) (r : Result Bool Front) (left : Option (List ℕ)) (q : List ℕ) (n : ℕ) → Came left q (Err x)

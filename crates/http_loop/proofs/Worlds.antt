@@ -1,5 +1,5 @@
 -- A connection that a core by itself answers is one of the worlds that it stands for.
-use Rattle.std.proofs.Common.{◌≡◌, ◌≤◌, ◌<◌, ◌⊎◌, inl, inr, ℕ, ◌^◌, arith, List, ◌++◌, Bool, true, false, Option, None, Some, Result, Ok, Err, refl, sym, subst}
+use Rattle.std.proofs.Common.{◌≡◌, ◌≤◌, ◌<◌, ◌⊎◌, inl, inr, ℕ, ◌^◌, arith, List, ◌++◌, Bool, false, Option, None, Some, Result, Ok, refl, sym, subst}
 use Rattle.kv_model.specs.Follows as follows
 use Rattle.kv_model.specs.Headline.{Keeping, Keeps}
 use Rattle.kv_model.specs.Watches.{deliver}
@@ -15,6 +15,8 @@ use Rattle.json_gateway.specs.declared.outcome.Settled.TheVariants as settled
 use Rattle.json_gateway.specs.Outcomes.{IsBare, body_of, is_accepted}
 use Rattle.json_gateway.specs.Runs.{command_view, ending_view}
 use Rattle.json_gateway.specs.Steps.{Steps}
+use Rattle.http_loop.specs.declared.writing.Turn.{Turn}
+use Rattle.http_loop.specs.declared.writing.Turn.TheVariants as turn
 use Rattle.http_loop.specs.Served.{Answers, Finishes, Leaves, Stands, Tells, ids_alone}
 use Rattle.http_loop.specs.Answered as any
 use Rattle.http_loop.specs.Answered.{IsTold, most_messages, streamed}
@@ -101,25 +103,31 @@ answered old new a out r d s h =
     ended s o.after a d.done d.written new d.outcome.settled d.outcome.raised d.outcome.watch out r o.stands o.is (λ e. (d.answers.bare e).1)
     (λ n. let m = rest_most o.after.world n in omega (arith, m, o.stands.world.revision_is, d.answers.fits)) d.told d.finishes
 
+-- ---- a turn
+
+turned : (old new : CoreState) (bytes left : List ℕ) (x : Result Turn Front) (out : List ℕ)
+    → any.IsTurn CoreState (any.IsAnswered CoreState Answers Tells Finishes) old bytes left new x out → (s : Standing) → Stands old s
+    → Leaves new (λ t. any.IsTurn Standing (IsAnswered ids_alone) s bytes left t x out)
+turned old new bytes left _ out (any.IsTurn.answered a r x is) s h =
+    let d = answered old new a out r is s h in record { after = d.after; stands = d.stands; is = any.IsTurn.answered a r x d.is }
+turned old _ bytes left _ _ (any.IsTurn.ended x) s h = record { after = s; stands = h; is = any.IsTurn.ended x }
+turned old _ bytes left _ _ (any.IsTurn.within x) s h = record { after = s; stands = h; is = any.IsTurn.within x }
+turned old _ bytes left _ out (any.IsTurn.unanswered f r n x) s h = record { after = s; stands = h; is = any.IsTurn.unanswered f r n x }
+turned old _ bytes left _ _ any.IsTurn.unread s h = record { after = s; stands = h; is = any.IsTurn.unread }
+turned old _ bytes left _ _ (any.IsTurn.unheld x) s h = record { after = s; stands = h; is = any.IsTurn.unheld x }
+
 -- ---- a connection
 
 conns : (old new : CoreState) (bytes : List ℕ) (limit : ℕ) (out : List ℕ) (r : Result ℕ Front)
     → any.Conn CoreState (any.IsAnswered CoreState Answers Tells Finishes) old bytes limit out new r → (s : Standing) → Stands old s
     → Leaves new (λ t. any.Conn Standing (IsAnswered ids_alone) s bytes limit out t r)
 conns old _ bytes _ _ _ any.Conn.at_limit s h = record { after = s; stands = h; is = any.Conn.at_limit }
-conns old _ _ _ _ _ (any.Conn.at_end l) s h = record { after = s; stands = h; is = any.Conn.at_end l }
-conns old _ bytes _ _ _ (any.Conn.within l x) s h = record { after = s; stands = h; is = any.Conn.within l x }
-conns old _ bytes _ out _ (any.Conn.unanswered l f r n x) s h = record { after = s; stands = h; is = any.Conn.unanswered l f r n x }
-conns old _ bytes _ _ _ (any.Conn.unread l) s h = record { after = s; stands = h; is = any.Conn.unread l }
-conns old _ bytes _ _ _ (any.Conn.unheld l x) s h = record { after = s; stands = h; is = any.Conn.unheld l x }
-conns old new bytes _ _ _ (any.Conn.more {t} {rest} {text} {out} {r} l a x is later) s h =
-    let d = answered old t a text (Ok false) is s h in
+conns old new bytes _ _ _ (any.Conn.more {t} {rest} {text} {out} {r} l x later) s h =
+    let d = turned old t bytes rest (Ok turn.More) text x s h in
     let m = conns t new rest l out r later d.after d.stands in
-    record { after = m.after; stands = m.stands; is = any.Conn.more l a x d.is m.is }
-conns old new bytes _ out _ (any.Conn.closing l a left x is) s h =
-    let d = answered old new a out (Ok true) is s h in record { after = d.after; stands = d.stands; is = any.Conn.closing l a left x d.is }
-conns old new bytes _ out _ (any.Conn.broken {f} l a left x is) s h =
-    let d = answered old new a out (Err f) is s h in record { after = d.after; stands = d.stands; is = any.Conn.broken l a left x d.is }
+    record { after = m.after; stands = m.stands; is = any.Conn.more l d.is m.is }
+conns old new bytes _ out _ (any.Conn.last {rest} l x is e) s h =
+    let d = turned old new bytes rest x out is s h in record { after = d.after; stands = d.stands; is = any.Conn.last l x d.is e }
 
 pub serves : (left : Option (List ℕ)) (p : List ℕ) (limit : ℕ) (c c' : Option (List ℕ)) (old new : CoreState) (r : Result ℕ Front)
     → NotBegun old new c c' r ⊎ turns.Serves CoreState (any.IsAnswered CoreState Answers Tells Finishes) limit (progress old left p c) c' new r

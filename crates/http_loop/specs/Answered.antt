@@ -1,6 +1,6 @@
 -- What the requests of a connection are answered, by whoever answers them (RFC 9112). What stands before and after is a
 -- value of S: of the one who answers, or the world that it stands for.
-use Rattle.std.specs.Prelude.{◌≡◌, ℕ, ◌+◌, ◌^◌, ◌≤◌, List, [], ◌++◌, length, Bool, true, false, Option, None, Some}
+use Rattle.std.specs.Prelude.{◌≡◌, ℕ, ◌+◌, ◌^◌, ◌≤◌, List, [], ◌++◌, length, Bool, true, Option, None, Some}
 use Rattle.std.specs.Prelude.{Result, Ok, Err, Vec}
 use Rattle.std.specs.Global.{Global}
 use Rattle.http_head.specs.Heads.{Fault, Names, window}
@@ -14,7 +14,9 @@ use Rattle.json_gateway.specs.declared.outcome.Settled.TheVariants as settled
 use Rattle.json_gateway.specs.Outcomes.{wire_response}
 use Rattle.http_loop.specs.declared.answering.Told.{Told}
 use Rattle.http_loop.specs.declared.answering.Told.TheVariants as told
-use Rattle.http_loop.specs.Texts.{IsSent, end_of, front_of, replies_more}
+use Rattle.http_loop.specs.declared.writing.Turn.{Turn}
+use Rattle.http_loop.specs.declared.writing.Turn.TheVariants as turn
+use Rattle.http_loop.specs.Texts.{IsSent, end_of, front_of, replies_more, turn_of}
 
 -- the most messages of a stream, beside its first
 abbrev pub most_messages : ℕ
@@ -57,8 +59,7 @@ IsStream S Tells n = IsStreamOf S (AreMessages S Tells n most_messages)
 -- the watch whose messages answer a request: it was made, and its answer was not lost
 abbrev pub streamed : Settled → Option ℕ → Option ℕ
 streamed (settled.Reply r) watch = watch
-streamed settled.Memory watch = None
-streamed (settled.Lost at) watch = None
+streamed _ watch = None
 
 -- an outcome is told by its reply, or by the stream of the watch that it made
 abbrev pub IsTold : (S : Type 0) → (S → ℕ → Told → S → Type 0) → Option ℕ → Settled → Bool → S → List ℕ → S
@@ -78,32 +79,42 @@ pub record IsAnswered (S : Type 0) (Answers : S → Asked → Outcome → S → 
   pub told : IsTold S Tells (streamed outcome.settled outcome.watch) outcome.settled a.close done out written r
   pub finishes : Finishes written outcome.watch u
 
+-- what answering one request does: what stood, the request, what was written, what stands then, and how it ended
+abbrev pub Way : Type 0 → Type 1
+Way S = S → Asked → List ℕ → S → Result Bool Front → Type 0
+
+-- one turn, of all the bytes that were to come: a request was answered, or none is there, and it is told why
+pub data IsTurn (S : Type 0) (Is : Way S) (s : S) (bytes left : List ℕ) : S → Result Turn Front → List ℕ → Type 0 where
+  -- the bytes begin with a request, which was answered
+  answered : {t : S} {out : List ℕ} (a : Asked) (r : Result Bool Front) → ReadsAsked bytes a left → Is s a out t r
+      → IsTurn S Is s bytes left t (turn_of r) out
+  -- the input ends before a first byte
+  ended : bytes ≡ [] → IsTurn S Is s bytes left s (Ok turn.End) []
+  -- the input ends within a request
+  within : IsCut bytes → IsTurn S Is s bytes left s (Err front.End) []
+  -- the bytes begin with no request that is answered
+  unanswered : {out : List ℕ} (f : Fault) (r : Result Bool Front) → Names f (window bytes)
+      → IsSent true (refusal_bytes (front_of f)) out r → IsTurn S Is s bytes left s (Err (end_of (front_of f) r)) out
+  -- a read failed
+  unread : IsTurn S Is s bytes left s (Err front.Read) []
+  -- no memory was found for as many bytes as wait
+  unheld : 16384 ≤ length bytes → IsTurn S Is s bytes left s (Err front.Memory) []
+
+-- how a turn ends a connection: with so many replies of its own, or why; one that others follow does not
+abbrev pub last_of : Result Turn Front → Option (Result ℕ Front)
+last_of (Ok turn.More) = None
+last_of (Ok turn.Last) = Some (Ok 1)
+last_of (Ok turn.End) = Some (Ok 0)
+last_of (Err f) = Some (Err f)
+
 -- From what stands, these bytes and so many requests at most: what is written, what stands then, and the number of
 -- replies, or why there are no more.
-pub data Conn (S : Type 0) (Is : S → Asked → List ℕ → S → Result Bool Front → Type 0)
-    : S → List ℕ → ℕ → List ℕ → S → Result ℕ Front → Type 0 where
+pub data Conn (S : Type 0) (Is : Way S) : S → List ℕ → ℕ → List ℕ → S → Result ℕ Front → Type 0 where
   -- no more requests are to be answered
   at_limit : {s : S} {bytes : List ℕ} → Conn S Is s bytes 0 [] s (Ok 0)
-  -- the input ends before a first byte
-  at_end : {s : S} (limit : ℕ) → Conn S Is s [] (1 + limit) [] s (Ok 0)
-  -- the input ends within a request
-  within : {s : S} {bytes : List ℕ} (limit : ℕ) → IsCut bytes → Conn S Is s bytes (1 + limit) [] s (Err front.End)
-  -- the bytes begin with no request that is answered
-  unanswered : {s : S} {bytes out : List ℕ} (limit : ℕ) (f : Fault) (r : Result Bool Front) → Names f (window bytes)
-      → IsSent true (refusal_bytes (front_of f)) out r
-      → Conn S Is s bytes (1 + limit) out s (Err (end_of (front_of f) r))
-  -- a read failed
-  unread : {s : S} {bytes : List ℕ} (limit : ℕ) → Conn S Is s bytes (1 + limit) [] s (Err front.Read)
-  -- no memory was found for as many bytes as wait
-  unheld : {s : S} {bytes : List ℕ} (limit : ℕ) → 16384 ≤ length bytes
-      → Conn S Is s bytes (1 + limit) [] s (Err front.Memory)
-  -- a request, and then the others
-  more : {s t u : S} {bytes rest text out : List ℕ} {r : Result ℕ Front} (limit : ℕ) (a : Asked)
-      → ReadsAsked bytes a rest → Is s a text t (Ok false) → Conn S Is t rest limit out u r
-      → Conn S Is s bytes (1 + limit) (text ++ out) u (replies_more 1 r)
-  -- a request that closes the connection
-  closing : {s t : S} {bytes text : List ℕ} (limit : ℕ) (a : Asked) (rest : List ℕ) → ReadsAsked bytes a rest
-      → Is s a text t (Ok true) → Conn S Is s bytes (1 + limit) text t (Ok 1)
-  -- a request that was done, and whose reply was not written to its end
-  broken : {s t : S} {bytes text : List ℕ} {f : Front} (limit : ℕ) (a : Asked) (rest : List ℕ)
-      → ReadsAsked bytes a rest → Is s a text t (Err f) → Conn S Is s bytes (1 + limit) text t (Err f)
+  -- a request was answered, and then the others
+  more : {s t u : S} {bytes rest text out : List ℕ} {r : Result ℕ Front} (limit : ℕ) → IsTurn S Is s bytes rest t (Ok turn.More) text
+      → Conn S Is t rest limit out u r → Conn S Is s bytes (1 + limit) (text ++ out) u (replies_more 1 r)
+  -- a turn that ends the connection
+  last : {s t : S} {bytes rest text : List ℕ} {r : Result ℕ Front} (limit : ℕ) (x : Result Turn Front) → IsTurn S Is s bytes rest t x text
+      → last_of x ≡ Some r → Conn S Is s bytes (1 + limit) text t r

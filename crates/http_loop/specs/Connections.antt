@@ -35,16 +35,14 @@ event_of a = WireEvent.post (path_asked a) a.body
 -- the response that an outcome is told by
 abbrev pub response_of : WireOutcome → Response
 response_of Outcome.memory = refused (fault_of refusal.Memory)
-response_of (Outcome.lost l) = refused lost_fault
 response_of (Outcome.said (WireTold.reply r raised watch)) = r
-response_of (Outcome.said _) = refused lost_fault
+response_of _ = refused lost_fault
 
 -- the watch that it made
 abbrev pub watch_of : WireOutcome → Option ℕ
-watch_of Outcome.memory = None
 watch_of (Outcome.lost l) = l.watch
 watch_of (Outcome.said (WireTold.reply r raised watch)) = watch
-watch_of (Outcome.said _) = None
+watch_of _ = None
 
 -- the watch whose messages answer the request: it was made, and its answer was not lost
 abbrev pub streamed : WireOutcome → Option ℕ
@@ -70,13 +68,11 @@ dropped (Some n) s = with_world s (record s.world { watches = without_watch n s.
 -- ended. A delivery that found no memory ends them, and is not made.
 pub data AreMessages (ids : Ids) (n : ℕ) : Standing → List ℕ → Standing → Result Bool Front → Type 0 where
   quiet : {s : Standing} {out : List ℕ} {r : Result Bool Front} → message_to ids s.world n ≡ None
-      → IsSent true last_chunk out r
-      → AreMessages ids n s out s r
+      → IsSent true last_chunk out r → AreMessages ids n s out s r
   told : {s t : Standing} {text out : List ℕ} {r : Result Bool Front} → message_to ids s.world n ≡ Some text
       → AreMessages ids n (with_world s (deliver s.world n).1) out t r → AreMessages ids n s (chunk text ++ out) t r
   unsent : {s : Standing} {text out : List ℕ} {f : Front} → message_to ids s.world n ≡ Some text
-      → IsSent true (chunk text) out (Err f)
-      → AreMessages ids n s out (with_world s (deliver s.world n).1) (Err f)
+      → IsSent true (chunk text) out (Err f) → AreMessages ids n s out (with_world s (deliver s.world n).1) (Err f)
   untold : {s : Standing} → AreMessages ids n s [] s (Err front.Memory)
 
 -- What is written for a request, what stands after it, and whether the connection ends with it, or why its reply was

@@ -41,10 +41,8 @@ end_of f (Err e) = e
 
 -- the reply that tells why a request is not read was written, as far as it was, and the connection ends so
 pub record Declines (f : Front) (c c' : Option (List ℕ)) (failures failures' : ℕ) (end : Front) : Type 0 where
-  pub out : List ℕ
   pub sending : Result Bool Front
-  pub wrote : Appends c c' out
-  pub sent : IsSent true (refusal_bytes f) out sending
+  pub wrote : Writes true (refusal_bytes f) c c' sending
   pub failed : failures' ≡ failures_after sending failures
   pub ends : end ≡ end_of f sending
 

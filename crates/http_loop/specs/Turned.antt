@@ -1,46 +1,17 @@
 -- What turns of a connection come to: Is says what answering one request does.
-use Rattle.std.specs.Prelude.{◌≡◌, ◌≤◌, ℕ, ◌+◌, List, [], ◌++◌, length, Bool, true, Option, None, Some, Result, Ok, Err, ⊤}
+use Rattle.std.specs.Prelude.{◌≡◌, ℕ, ◌+◌, List, [], ◌++◌, Option, None, Some, Result, Ok, Err, ⊤}
 use Rattle.std.specs.Io.KnownBytes.{Appends}
-use Rattle.http_head.specs.Heads.{Fault, Names, window}
-use Rattle.http_head.specs.Requests.{Asked, IsCut, ReadsAsked}
 use Rattle.http_reply.specs.declared.front.Front.{Front}
 use Rattle.http_reply.specs.declared.front.Front.TheVariants as front
-use Rattle.http_reply.specs.Replies.{refusal_bytes}
 use Rattle.http_loop.specs.declared.writing.Turn.{Turn}
 use Rattle.http_loop.specs.declared.writing.Turn.TheVariants as turn
-use Rattle.http_loop.specs.Answered.{Conn}
-use Rattle.http_loop.specs.Texts.{Grows, IsSent, end_of, front_of, replies_more, turn_of}
-
--- what answering one request does: what stood, the request, what was written, what stands then, and how it ended
-abbrev pub Way : Type 0 → Type 1
-Way S = S → Asked → List ℕ → S → Result Bool Front → Type 0
+use Rattle.http_loop.specs.Answered.{Conn, IsTurn, Way}
+use Rattle.http_loop.specs.Texts.{Grows, replies_more}
 
 -- n requests were answered: whatever answers the bytes that are left, from what stands now, ends the answering of all
 abbrev pub Begins : (S : Type 0) → Way S → S → List ℕ → ℕ → List ℕ → S → List ℕ → Type 0
 Begins S Is s bytes n left t out = (k : ℕ) (more : List ℕ) (u : S) (r : Result ℕ Front) → Conn S Is t left k more u r
     → Conn S Is s bytes (n + k) (out ++ more) u (replies_more n r)
-
--- it ends so with the next request, wherever the limit allows one
-abbrev pub Ends : (S : Type 0) → Way S → S → List ℕ → S → Result ℕ Front → List ℕ → Type 0
-Ends S Is s bytes t r out = (limit : ℕ) → Conn S Is s bytes (1 + limit) out t r
-
--- what one turn comes to
-abbrev pub Turned : (S : Type 0) → Way S → S → List ℕ → List ℕ → S → Result Turn Front → List ℕ → Type 0
-Turned S Is s bytes left t (Ok turn.More) out = Begins S Is s bytes 1 left t out
-Turned S Is s bytes left t (Ok turn.Last) out = Ends S Is s bytes t (Ok 1) out
-Turned S Is s bytes left t (Ok turn.End) out = Ends S Is s bytes t (Ok 0) out
-Turned S Is s bytes left t (Err f) out = Ends S Is s bytes t (Err f) out
-
--- one turn, of all the bytes that were to come: a request was answered, or none is there, and it is told why
-pub data IsTurn (S : Type 0) (Is : Way S) (s : S) (bytes left : List ℕ) : S → Result Turn Front → List ℕ → Type 0 where
-  answered : {t : S} {out : List ℕ} (a : Asked) (r : Result Bool Front) → ReadsAsked bytes a left → Is s a out t r
-      → IsTurn S Is s bytes left t (turn_of r) out
-  ended : bytes ≡ [] → IsTurn S Is s bytes left s (Ok turn.End) []
-  within : IsCut bytes → IsTurn S Is s bytes left s (Err front.End) []
-  unanswered : {out : List ℕ} (f : Fault) (r : Result Bool Front) → Names f (window bytes)
-      → IsSent true (refusal_bytes (front_of f)) out r → IsTurn S Is s bytes left s (Err (end_of (front_of f) r)) out
-  unread : IsTurn S Is s bytes left s (Err front.Read) []
-  unheld : 16384 ≤ length bytes → IsTurn S Is s bytes left s (Err front.Memory) []
 
 -- ---- the bytes of a reader
 
@@ -71,13 +42,6 @@ abbrev pub progress : {S : Type 0} → S → Option (List ℕ) → List ℕ → 
 progress s left pending wrote = record { state = s; left = left; pending = pending; wrote = wrote }
 
 -- one turn led from the one to the other, and ended so
-pub record Turns (S : Type 0) (Is : Way S) (old new : Progress S) (r : Result Turn Front) : Type 0 where
-  pub came : List ℕ
-  pub gave : Gave old.left came new.left
-  pub turned : Grows old.wrote new.wrote (λ out. (later : List ℕ) → MayHaveAfter new.left r later
-      → Turned S Is old.state (old.pending ++ (came ++ later)) (new.pending ++ later) new.state r out)
-
--- the same, told of the turn by itself
 pub record TurnsOnce (S : Type 0) (Is : Way S) (old new : Progress S) (r : Result Turn Front) : Type 0 where
   pub came : List ℕ
   pub gave : Gave old.left came new.left

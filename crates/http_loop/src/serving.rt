@@ -5,7 +5,7 @@ ghost use Rattle.http_reply.specs.Counts.{failures_of, inner_of};
 ghost use Rattle.http_reply.specs.Sends.{failures_after};
 ghost use Rattle.http_loop.specs.Answered.{IsAnswered, IsTold, streamed};
 ghost use Rattle.http_loop.specs.Texts.{Grows, IsOfConnection, IsOfWriting};
-ghost use Rattle.http_loop.specs.Turned.{NotBegun, Serves, Turns, progress};
+ghost use Rattle.http_loop.specs.Turned.{NotBegun, Serves, TurnsOnce, progress};
 
 use crate::answering::Answering;
 use crate::streaming::stream;
@@ -104,7 +104,7 @@ fn take_turn<S, A: Answering<S>, R: Read, W: Write>(
     r: &mut Counted<R>,
     w: &mut Counted<W>,
 ) -> Result<Turn, Front>
-    ensures turns { Turns S (IsAnswered S (A.Answers by.now) (A.Tells by.now) (A.Finishes by.now))
+    ensures turns { TurnsOnce S (IsAnswered S (A.Answers by.now) (A.Tells by.now) (A.Finishes by.now))
         (progress state.old (R.remaining (inner_of r.old)) input.old (W.contents (inner_of w.old)))
         (progress state.new (R.remaining (inner_of r.new)) input.new (W.contents (inner_of w.new))) result }
     ensures ends { IfErr result IsOfConnection }

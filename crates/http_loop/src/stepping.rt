@@ -100,10 +100,8 @@ fn begin<S, A: Answering<S>, W: Write>(
     if waiting.outcome.waits {
         return Ok(Step::Waits(waiting));
     }
-    match end_wait(alloc, by, state, &waiting, buffer, w) {
-        Ok(turn) => Ok(Step::Turned(turn)),
-        Err(front) => Err(front),
-    }
+    let turn = end_wait(alloc, by, state, &waiting, buffer, w)?;
+    Ok(Step::Turned(turn))
 }
 
 /// Writes the reply of a request that was done before, and tells whoever answers of its end: what is

@@ -77,10 +77,8 @@ fn write_head<W: Write>(buffer: &mut ReplyBuffer, w: &mut Counted<W>) -> Result<
         (W.contents (inner_of w.old)) (W.contents (inner_of w.new)) result }
     ensures failures { failures_of w.new ≡ failures_after result (failures_of w.old) }
 {
-    match write_stream_head(buffer, w) {
-        Ok(()) => Ok(true),
-        Err(front) => Err(front),
-    }
+    write_stream_head(buffer, w)?;
+    Ok(true)
 }
 
 /// Writes a message of a stream.
@@ -93,10 +91,8 @@ fn write_message<W: Write>(
         (W.contents (inner_of w.old)) (W.contents (inner_of w.new)) result }
     ensures failures { failures_of w.new ≡ failures_after result (failures_of w.old) }
 {
-    match write_chunk(buffer, w, text) {
-        Ok(()) => Ok(true),
-        Err(front) => Err(front),
-    }
+    write_chunk(buffer, w, text)?;
+    Ok(true)
 }
 
 /// Writes the end of a stream.
@@ -105,8 +101,6 @@ fn write_end<W: Write>(buffer: &mut ReplyBuffer, w: &mut Counted<W>) -> Result<b
         (W.contents (inner_of w.old)) (W.contents (inner_of w.new)) result }
     ensures failures { failures_of w.new ≡ failures_after result (failures_of w.old) }
 {
-    match write_last_chunk(buffer, w) {
-        Ok(()) => Ok(true),
-        Err(front) => Err(front),
-    }
+    write_last_chunk(buffer, w)?;
+    Ok(true)
 }

@@ -57,10 +57,8 @@ pub fn write_settled<W: Write>(
     ensures failures { failures_of w.new ≡ failures_after result (failures_of w.old) }
 {
     let (status, body) = settled.wire();
-    match write_reply(buffer, w, status, body, close) {
-        Ok(()) => Ok(close),
-        Err(front) => Err(front),
-    }
+    write_reply(buffer, w, status, body, close)?;
+    Ok(close)
 }
 
 /// Writes the reply that tells why a request is not read, where there is one, and gives why the
@@ -85,10 +83,8 @@ fn refuse<W: Write>(
         (W.contents (inner_of w.old)) (W.contents (inner_of w.new)) result }
     ensures failures { failures_of w.new ≡ failures_after result (failures_of w.old) }
 {
-    match write_refusal(buffer, w, front) {
-        Ok(()) => Ok(true),
-        Err(front) => Err(front),
-    }
+    write_refusal(buffer, w, front)?;
+    Ok(true)
 }
 
 /// Where a connection stands after a request that was answered so: `true` tells that it is closed.

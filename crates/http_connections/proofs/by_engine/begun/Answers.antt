@@ -1,4 +1,4 @@
-use Rattle.std.proofs.Common.{◌≡◌, false, inl, inr, sym, subst}
+use Rattle.std.proofs.Common.{inl, inr, sym, subst}
 use Rattle.kv_model.specs.declared.call.Command.{Command}
 use Rattle.json_gateway.specs.declared.outcome.Outcome.{Outcome}
 use Rattle.http_connections.specs.Engines.{Looks, Starts}
@@ -6,11 +6,9 @@ use Rattle.http_connections.proofs.by_engine.begun.Goals as goal
 
 pub returns-in-Some : goal.returns-in-Some
 returns-in-Some g c = inr (subst (λ (o : Outcome). Looks c.args.events.now.engine.now.ids g.L.EngineName.recorded (g.C.Clock.Tells c.args.clock.now) c.args.client.now
-    c.args.asked.now.command o c.looked.new.client × (o.waits ≡ false)) (sym c.at_once.ensures) (
-      subst (λ (x : Command). Looks c.args.events.now.engine.now.ids g.L.EngineName.recorded (g.C.Clock.Tells c.args.clock.now) c.args.client.now x c.in-Some.outcome c.looked.new.client)
-          c.command.ensures.command c.in-Some.ensures.looks,
-      c.in-Some.ensures.ready,
-    ))
+    c.args.asked.now.command o c.looked.new.client) (sym c.at_once.ensures)
+    (subst (λ (x : Command). Looks c.args.events.now.engine.now.ids g.L.EngineName.recorded (g.C.Clock.Tells c.args.clock.now) c.args.client.now x c.in-Some.outcome c.looked.new.client)
+    c.command.ensures.command c.in-Some.ensures.looks))
 
 pub returns-in-None : goal.returns-in-None
 returns-in-None g c = inl (record {

@@ -1,6 +1,6 @@
 use Rattle.std.specs.Prelude.{◌<◌}
-use Rattle.http_connections.specs.Engines.{AreMade}
+use Rattle.http_connections.specs.Engines.{AreMadeBehind}
 use Rattle.http_connections.proofs.by_engine.trim_all.Given as goal
 
 abbrev pub invariant-loop : goal.invariant-loop
-invariant-loop g l = AreMade l.events.engine.now.ids l.initial.client l.refusals l.client × (l.refusals < 1000)
+invariant-loop g l = AreMadeBehind l.events.engine.now.ids l.initial.client 0 l.refusals l.client × (l.refusals < 1000)

@@ -8,5 +8,5 @@ returns-in-Ok g c = came c.args.self.now.events.engine.now.ids g.L.EngineName.re
 
 pub returns-in-Err : goal.returns-in-Err
 returns-in-Err g c = came_bad c.args.self.now.events.engine.now.ids g.L.EngineName.recorded (g.C.Clock.Tells c.args.self.now.clock.now) c.args.client.now (request_view c.args.request.now)
-    c.command_path-path.result.now c.command_path-path.ensures c.at_once.result c.in-Err.bad c.refused.result c.in-Err.ensures.gives c.refused.ensures.refuses c.refused.ensures.watch
-    c.refused.ensures.ready c.at_once.ensures
+    c.command_path-path.result.now c.command_path-path.ensures c.at_once.result c.in-Err.bad c.refused.result c.in-Err.ensures.gives c.refused.ensures.refuses c.refused.ensures.bare
+    c.at_once.ensures
