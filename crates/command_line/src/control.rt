@@ -15,7 +15,7 @@ use crate::serving::{clients_of, ended, engine_of, limits_of, write_closing};
 use command_words::{Args, Serve};
 use commands::{Controlling, Fault, Order, control};
 use engine_lock::{Client, Engine, EngineName, Opening};
-use http_front::{Directing, Gate, Recorded, pool_directed};
+use http_front::{Directing, Gate, GatedEngine, pool_directed};
 use json_gateway::WireOutcome;
 use json_gateway::wire::why_unexpired;
 use std::alloc::{AllocError, Global};
@@ -29,7 +29,7 @@ use std::time;
 /// Does what lines ask of an engine, for one of its clients.
 #[derive(Drop)]
 pub(crate) struct Orders<'e, L: EngineName, G, R> {
-    pub(crate) events: Recorded<'e, L, G, R>,
+    pub(crate) events: GatedEngine<'e, L, G, R>,
 }
 
 impl<'e, L: EngineName, G: Gate, R: Wait> Controlling<Client<L>> for Orders<'e, L, G, R> {
@@ -47,13 +47,13 @@ impl<'e, L: EngineName, G: Gate, R: Wait> Controlling<Client<L>> for Orders<'e, 
 
 /// Makes a step of expiry, at the engine's clock.
 fn expired<L: EngineName, G: Gate, R: Wait>(
-    events: &Recorded<'_, L, G, R>,
+    events: &GatedEngine<'_, L, G, R>,
     client: &mut Client<L>,
 ) -> WireOutcome
     ensures { IsMade events.now.engine.now.ids client.old wire.WireEvent.expire (outcome_view result)
         client.new }
 {
-    match events.expire(client, 0) {
+    match events.expire_once(client, 0) {
         Ok(expiry) => WireOutcome::Expiry(Ok(expiry)),
         Err(refusal) => WireOutcome::Expiry(Err(why_unexpired(refusal))),
     }
@@ -62,7 +62,7 @@ fn expired<L: EngineName, G: Gate, R: Wait>(
 /// Makes a trimming step. `AllocError` comes where readers could not be told of it for want of
 /// memory, and then it was not made.
 fn trimmed<L: EngineName, G: Gate, R: Wait>(
-    events: &Recorded<'_, L, G, R>,
+    events: &GatedEngine<'_, L, G, R>,
     client: &mut Client<L>,
 ) -> Result<WireOutcome, AllocError>
     ensures { IsMade events.now.engine.now.ids client.old wire.WireEvent.trim (made_view result)
@@ -95,7 +95,7 @@ where
     Out: Write,
 {
     fn direct<T: Gate>(&mut self, engine: &Engine<L>, client: &mut Client<L>, gate: &T) {
-        let events = Recorded {
+        let events = GatedEngine {
             rt: self.rt,
             engine,
             gate,

@@ -9,7 +9,7 @@ ghost use Rattle.command_line.specs.From.{IsBegun, IsPlayed, StopsBeginning};
 use crate::control::Orders;
 use commands::{Controlling, Fault, Order, Playing, play};
 use engine_lock::{Client, Engine, EngineName};
-use http_front::{Begun, Gate, Recorded, post};
+use http_front::{Begun, Gate, GatedEngine, post};
 use json_gateway::{WireEvent, WireOutcome};
 use std::alloc::{AllocError, Global};
 use std::net::TcpListener;
@@ -138,7 +138,7 @@ fn play_on<L: EngineName, G: Gate, R: Wait>(
     ensures fault { IfErr result (λ fault. StopsPlaying (IsPlayed engine.now.ids)
         (line_events script.now) client.old fault client.new) }
 {
-    let events = Recorded { rt, engine, gate };
+    let events = GatedEngine { rt, engine, gate };
     let script_of = Script {
         alloc,
         orders: Orders { events },

@@ -18,7 +18,7 @@ use json_gateway::{Ids, Outcome, Refusal, Reply, ReplyBody, Settled, declined, r
 use kv_model::call::{Command, RangeQuery};
 use long_ranges::{Unparted, is_long, may_be_parted, read_in_parts};
 use range_view::RangeReply;
-use recorded_engine::Recorded;
+use recorded_engine::GatedEngine;
 use std::alloc::Global;
 use std::sync::Wait;
 
@@ -34,7 +34,7 @@ use std::sync::Wait;
 /// `View::range`, twice where it is read in parts, and linear in the text. A serializable one waits for
 /// nobody; and no writer waits for longer than a part takes, but where a Range has to be read whole.
 pub(crate) fn looked<L: EngineName, G: Gate, C: Clock, R: Wait>(
-    events: &Recorded<'_, L, G, R>,
+    events: &GatedEngine<'_, L, G, R>,
     clock: &C,
     alloc: Global,
     client: &mut Client<L>,
@@ -65,7 +65,7 @@ fn range_of(command: &Command) -> Option<&RangeQuery>
 
 /// Answers a Range beside the engine; `None` where it has to be submitted.
 fn looked_up<L: EngineName, G: Gate, C: Clock, R: Wait>(
-    events: &Recorded<'_, L, G, R>,
+    events: &GatedEngine<'_, L, G, R>,
     clock: &C,
     alloc: Global,
     client: &mut Client<L>,
@@ -87,7 +87,7 @@ fn looked_up<L: EngineName, G: Gate, C: Clock, R: Wait>(
 /// Whether a Range may be answered by what is published from now on, once the client was told of
 /// all that the engine has done where the Range asks for that.
 fn may_begin<L: EngineName, G: Gate, C: Clock, R: Wait>(
-    events: &Recorded<'_, L, G, R>,
+    events: &GatedEngine<'_, L, G, R>,
     clock: &C,
     client: &mut Client<L>,
     now: u64,
@@ -104,7 +104,7 @@ fn may_begin<L: EngineName, G: Gate, C: Clock, R: Wait>(
 /// Whether the client was told of all that the engine has done, by an event at the moment `now`. It is
 /// not where events are written down: the Range is to be one of them.
 fn is_caught_up<L: EngineName, G: Gate, C: Clock, R: Wait>(
-    events: &Recorded<'_, L, G, R>,
+    events: &GatedEngine<'_, L, G, R>,
     clock: &C,
     client: &mut Client<L>,
     now: u64,

@@ -14,7 +14,7 @@ use http_input::Request;
 use http_loop::{Answering, Told, command_path};
 use http_peer::{Clock, Gate};
 use json_gateway::{Bad, Message, Outcome, Settled, Trim, dismissed, read};
-use recorded_engine::Recorded;
+use recorded_engine::GatedEngine;
 use std::alloc::Global;
 use std::sync::Wait;
 use std::time::Duration;
@@ -29,7 +29,7 @@ pub(crate) const MOST_REFUSALS: u64 = 1000;
 /// What answers a connection: an engine, which others change too, for one of its clients.
 #[derive(Drop)]
 pub struct ByEngine<'e, L: EngineName, G, C, R> {
-    pub events: Recorded<'e, L, G, R>,
+    pub events: GatedEngine<'e, L, G, R>,
     pub clock: &'e C,
     /// The number of the connection.
     pub call: u64,
@@ -119,7 +119,7 @@ where
 /// beside the engine where it can be, and else submits it. The trimming that its answer waits for is not
 /// done.
 fn begun<L: EngineName, G: Gate, C: Clock, R: Wait>(
-    events: &Recorded<'_, L, G, R>,
+    events: &GatedEngine<'_, L, G, R>,
     clock: &C,
     alloc: Global,
     client: &mut Client<L>,
@@ -133,7 +133,7 @@ fn begun<L: EngineName, G: Gate, C: Clock, R: Wait>(
 {
     match looked(events, clock, alloc, client, now, asked.command()) {
         Some(outcome) => at_once(outcome),
-        None => events.submit(client, now, asked),
+        None => events.submit_request(client, now, asked),
     }
 }
 
@@ -150,7 +150,7 @@ fn at_once(outcome: Outcome) -> Submitted
 
 /// What the stream of a watch is told next; `None` where it is told nothing, or no memory was found.
 fn told_next<L: EngineName, G: Gate, R: Wait>(
-    events: &Recorded<'_, L, G, R>,
+    events: &GatedEngine<'_, L, G, R>,
     client: &mut Client<L>,
     number: u64,
 ) -> Option<Told>
@@ -182,7 +182,7 @@ fn refused(alloc: Global, bad: Bad) -> Outcome
 /// is done: its command is submitted, a Range too, at the engine's clock, and the trimming that its
 /// answer waits for is done. Where it asks for no command it is refused, and no event is made.
 pub fn post<L: EngineName, G: Gate, R: Wait>(
-    events: &Recorded<'_, L, G, R>,
+    events: &GatedEngine<'_, L, G, R>,
     alloc: Global,
     client: &mut Client<L>,
     path: &[u8],
@@ -202,19 +202,19 @@ pub fn post<L: EngineName, G: Gate, R: Wait>(
 /// Submits a command at the engine's clock, as the moment 0 leaves that, and does the trimming that its
 /// answer waits for.
 fn submit_alone<L: EngineName, G: Gate, R: Wait>(
-    events: &Recorded<'_, L, G, R>,
+    events: &GatedEngine<'_, L, G, R>,
     client: &mut Client<L>,
     asked: &Asked<'_>,
 ) -> Outcome
     ensures { SubmitsAlone events.now.engine.now.ids client.old asked.now result client.new }
 {
-    let submitted = events.submit(client, 0, asked);
+    let submitted = events.submit_request(client, 0, asked);
     awaited(events, client, submitted)
 }
 
 /// The outcome of a command, once the trimming is done that its answer waits for.
 fn awaited<L: EngineName, G: Gate, R: Wait>(
-    events: &Recorded<'_, L, G, R>,
+    events: &GatedEngine<'_, L, G, R>,
     client: &mut Client<L>,
     submitted: Submitted,
 ) -> Outcome
@@ -245,14 +245,14 @@ fn lost(submitted: Submitted) -> Outcome
 /// refused for memory is tried again; after 1,000 refusals in a row it is given up. Each step that is
 /// not refused is an event of the client.
 fn trim_all<L: EngineName, G: Gate, R: Wait>(
-    events: &Recorded<'_, L, G, R>,
+    events: &GatedEngine<'_, L, G, R>,
     client: &mut Client<L>,
 ) -> bool
     ensures { AreTrimmed events.now.engine.now.ids 0 result client.old client.new }
 {
     let mut refusals = 0;
     for _ in events.rt.forever() {
-        match events.trim(client) {
+        match events.trim_once(client) {
             Ok(Trim::Done(_)) => return true,
             Ok(_) => refusals = 0,
             Err(_) => {

@@ -12,7 +12,7 @@ use http_input::Request;
 use http_loop::{Answering, Told};
 use http_peer::{Clock, Gate};
 use json_gateway::Outcome;
-use recorded_engine::Recorded;
+use recorded_engine::GatedEngine;
 use std::alloc::Global;
 use std::marker::Model;
 use std::sync::Wait;
@@ -67,7 +67,7 @@ impl<L: EngineName> Serving<L> {
     /// Makes at most 100 trimming steps, as [`trim_some`] does.
     pub(crate) fn trim<G: Gate, R: Wait>(
         &mut self,
-        events: &Recorded<'_, L, G, R>,
+        events: &GatedEngine<'_, L, G, R>,
         refusals: u64,
     ) -> Trimmed
         requires { refusals < 1000 }

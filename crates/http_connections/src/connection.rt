@@ -14,7 +14,7 @@ use engine_lock::{Client, Engine, EngineName};
 use http_loop::serve_all;
 use http_peer::{Clock, Gate};
 use http_reply::{Counted, Front};
-use recorded_engine::Recorded;
+use recorded_engine::GatedEngine;
 use std::alloc::Global;
 use std::io::{Read, Write};
 use std::sync::Wait;
@@ -70,7 +70,7 @@ where
     ensures writer { failures_of w.new ≡ failures_after result (failures_of w.old) }
     ensures fault { IfErr result IsOfConnection }
 {
-    let events = Recorded { rt, engine, gate };
+    let events = GatedEngine { rt, engine, gate };
     let by = ByEngine {
         events,
         clock,

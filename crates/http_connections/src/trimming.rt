@@ -8,7 +8,7 @@ use engine_lock::{Client, EngineName};
 use http_loop::Waiting;
 use http_peer::Gate;
 use json_gateway::{Outcome, Settled, Trim};
-use recorded_engine::Recorded;
+use recorded_engine::GatedEngine;
 use std::sync::Wait;
 
 /// How many trimming steps a turn makes.
@@ -28,7 +28,7 @@ pub(crate) enum Trimmed {
 /// Makes at most 100 trimming steps, of which so many before them were refused for memory in a row. Each
 /// step that is not refused is an event of the client.
 pub(crate) fn trim_some<L: EngineName, G: Gate, R: Wait>(
-    events: &Recorded<'_, L, G, R>,
+    events: &GatedEngine<'_, L, G, R>,
     client: &mut Client<L>,
     refusals: u64,
 ) -> Trimmed
@@ -37,7 +37,7 @@ pub(crate) fn trim_some<L: EngineName, G: Gate, R: Wait>(
 {
     let mut refusals = refusals;
     for _ in 0..MOST_STEPS {
-        match events.trim(client) {
+        match events.trim_once(client) {
             Ok(Trim::Done(_)) => return Trimmed::Done,
             Ok(_) => refusals = 0,
             Err(_) => {

@@ -11,7 +11,7 @@ use http_peer::{Clock, Gate};
 use http_streams::Waking;
 use http_workers::Shared;
 use json_gateway::{Expiry, Refusal, Trim};
-use recorded_engine::Recorded;
+use recorded_engine::GatedEngine;
 use std::sync::Wait;
 use std::sync::atomic::Ordering;
 use std::time::Duration;
@@ -46,13 +46,13 @@ pub(crate) fn keep_trimming<L: EngineName, G: Gate, C, R: Wait + time::Clock>(
 /// Makes a trimming step, and tells whether no other is to follow at once: it says that trimming is
 /// done, or it was refused.
 fn make_trim_step<L: EngineName, G: Gate, R: Wait>(
-    events: &Recorded<'_, L, G, R>,
+    events: &GatedEngine<'_, L, G, R>,
     client: &mut Client<L>,
 ) -> bool
     ensures { (step : Result TrimOf RefusalOf)
         × MayTrim events.now.engine.now.ids client.old step client.new × (result ≡ is_last step) }
 {
-    ends_round(events.trim(client))
+    ends_round(events.trim_once(client))
 }
 
 /// Whether no other step is to follow this one at once.
@@ -73,7 +73,7 @@ pub(crate) fn keep_expiring<L: EngineName, G: Gate, C: Clock, R: Wait + time::Cl
     client: Client<L>,
 ) -> Client<L> {
     let waking = Waking::new(shared.gate, &shared.handing, true);
-    let events = Recorded {
+    let events = GatedEngine {
         rt,
         engine: shared.engine,
         gate: &waking,
@@ -92,14 +92,14 @@ pub(crate) fn keep_expiring<L: EngineName, G: Gate, C: Clock, R: Wait + time::Cl
 
 /// Makes a step of expiry, and tells whether a lease has ended by it.
 fn make_expiry_step<L: EngineName, G: Gate, C: Clock, R: Wait>(
-    events: &Recorded<'_, L, G, R>,
+    events: &GatedEngine<'_, L, G, R>,
     clock: &C,
     client: &mut Client<L>,
 ) -> bool
     ensures { (now : ℕ) × C.Tells clock.now now × (step : Result ExpiryOf RefusalOf)
         × SubmitsExpiry events.now.engine.now.ids client.old now step client.new × (result ≡ has_ended step) }
 {
-    ended_lease(events.expire(client, clock.now()))
+    ended_lease(events.expire_once(client, clock.now()))
 }
 
 /// Whether a lease has ended by this step.

@@ -22,7 +22,7 @@
 //! events were made before; a request of those is [`post`].
 //!
 //! Where the gate says so, the engine writes its events down as the lines of a script, and the gate is
-//! told behind each event, and may take them ([`Recorded`], [`Takes`]).
+//! told behind each event, and may take them ([`GatedEngine`], [`Takes`]).
 //!
 //! Threads are started in one small function (`start` of `threads.rt`): what a thread asks of its
 //! closure, that it may cross, is proved where little else is known.
@@ -44,5 +44,5 @@ pub use http_input::{Input, Request, next_request};
 pub use http_loop::serve_alone;
 pub use http_peer::{Clock, Gate, MOST_CONNECTIONS, OpenGate, Takes};
 pub use http_reply::{Counted, Front, ReplyBuffer, write_chunk, write_reply};
-pub use recorded_engine::Recorded;
+pub use recorded_engine::GatedEngine;
 pub use threads::{pool, pool_begun};

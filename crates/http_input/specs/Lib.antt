@@ -1,3 +1,4 @@
 pub mod Buffers
 pub mod Inputs
 pub mod Parts
+pub mod Spares

@@ -1,5 +1,5 @@
 //! The bytes that were read and not yet used.
-ghost use Rattle.std.specs.Prelude.{◌≡◌, ◌+◌, ◌<◌, ◌≤◌, [], length, drop, IfOk, OnErr, OnOk};
+ghost use Rattle.std.specs.Prelude.{◌≡◌, ◌+◌, ◌*◌, ◌<◌, ◌≤◌, [], length, drop, IfOk, OnErr, OnOk};
 ghost use Rattle.http_reply.specs.Counts.{failures_of, inner_of, reads_of};
 ghost use Rattle.http_input.specs.Inputs.{Extends, Took, failures_after_read};
 
@@ -134,6 +134,7 @@ impl Buffer {
     fn grow(&mut self) -> Result<(), AllocError>
         requires { room self.old ≡ 0 }
         ensures items { items self.new ≡ items self.old }
+        ensures twice { OnOk result (length self.new.room.items ≡ 2 * length self.old.room.items) }
         ensures ok { OnOk result (0 < room self.new) }
     {
         let len = self.room.len();

@@ -4,7 +4,8 @@
 //! The one contract is that of [`next_request`]: in place of the bytes that were to come
 //! there is the request that RFC 9112 reads from them and the bytes behind it, or it is told why
 //! there is none; however the reads cut them, no byte is lost. The bytes of a request stay in the
-//! buffer: [`Input::request`] lends them, and [`Input::skip`] moves past them.
+//! buffer: [`Input::request`] lends them, and [`Input::skip`] moves past them. Between two visits to a
+//! connection of which nothing waits its input may serve another ([`Spare`]).
 //!
 //! For example, where a connection's bytes are `POST /v3/kv/put HTTP/1.1`, `Content-Length: 29`,
 //! an empty line, 29 bytes of body and then 10 bytes more:
@@ -22,5 +23,7 @@
 
 mod buffer;
 mod input;
+mod spare;
 
 pub use input::{Input, Request, next_request};
+pub use spare::Spare;

@@ -3,7 +3,7 @@ ghost use Rattle.std.specs.Prelude.{◌≡◌};
 
 use crate::handing::Handing;
 use engine_lock::{Engine, EngineName};
-use recorded_engine::Recorded;
+use recorded_engine::GatedEngine;
 use std::sync::Wait;
 use std::sync::atomic::AtomicBool;
 
@@ -28,10 +28,10 @@ pub struct Around<'s, L: EngineName, G, K> {
 
 impl<'s, L: EngineName, G, K> Around<'s, L, G, K> {
     /// What makes the events of the engine.
-    pub(crate) fn events<'e, R>(&'e self, rt: &'e R) -> Recorded<'e, L, G, R>
+    pub(crate) fn events<'e, R>(&'e self, rt: &'e R) -> GatedEngine<'e, L, G, R>
         ensures { result.engine.now ≡ self.now.engine.now }
     {
-        Recorded {
+        GatedEngine {
             rt,
             engine: self.engine,
             gate: self.gate,

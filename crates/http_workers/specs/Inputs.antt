@@ -1,17 +1,10 @@
--- What has come of a connection and was not answered, where an input is kept for it or none.
-use Rattle.std.specs.Prelude.{◌≡◌, ℕ, List, [], Option, None, Some, Box, ⊤}
+-- A connection between two visits, as it is seen.
+use Rattle.std.specs.Prelude.{ℕ, List, Option, None, Box}
 use Rattle.std.specs.Global.{Global}
 use Rattle.event_book.specs.Events.{Entry}
+use Rattle.http_input.specs.Spares.{pending_of}
 use Rattle.http_connections.specs.Lines.{Sight, sight}
 use Rattle.http_connections.specs.declared.life.Stage.{Stage}
-
-abbrev pub pending_of : Option (Box (List ℕ) Global) → List ℕ
-pending_of None = []
-pending_of (Some b) = b.value
-
--- of one that any connection may have nothing is left
-abbrev pub IsSpare : Option (Box (List ℕ) Global) → Type 0
-IsSpare b = pending_of b ≡ []
 
 -- a connection at its socket, of which no bytes are known but those that have come
 abbrev pub seen : Stage → List Entry → List ℕ → Sight

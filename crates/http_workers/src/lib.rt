@@ -12,7 +12,6 @@ mod line;
 mod lines;
 mod shared;
 mod slots;
-mod spare;
 mod workers;
 
 pub use lines::Lines;

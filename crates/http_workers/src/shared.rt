@@ -5,7 +5,7 @@ use crate::lines::Lines;
 use engine_lock::{Engine, EngineName};
 use http_peer::Door;
 use http_streams::Handing;
-use recorded_engine::Recorded;
+use recorded_engine::GatedEngine;
 use std::net::TcpListener;
 use std::sync::Mutex;
 use std::sync::atomic::AtomicBool;
@@ -53,10 +53,10 @@ impl<'s, L: EngineName, G, C> Shared<'s, L, G, C> {
     }
 
     /// What makes the events of the engine.
-    pub fn events<'e, R>(&'e self, rt: &'e R) -> Recorded<'e, L, G, R>
+    pub fn events<'e, R>(&'e self, rt: &'e R) -> GatedEngine<'e, L, G, R>
         ensures { result.engine.now ≡ self.now.engine.now }
     {
-        Recorded {
+        GatedEngine {
             rt,
             engine: self.engine,
             gate: self.gate,

@@ -7,14 +7,13 @@ use crate::crew::Seat;
 use crate::line::Line;
 use crate::lines::Next;
 use crate::shared::Shared;
-use crate::spare::Spare;
 use engine_lock::{Client, EngineName};
 use http_connections::{After, ByEngine, ByWorker, Serving, Stage, Turning, Wire};
-use http_input::Input;
+use http_input::{Input, Spare};
 use http_peer::{Clock, Gate, Sign, Socket, Wish, open_peer};
 use http_reply::ReplyBuffer;
 use http_streams::{Handed, Waking};
-use recorded_engine::Recorded;
+use recorded_engine::GatedEngine;
 use std::alloc::Global;
 use std::io::ErrorKind;
 use std::net::TcpStream;
@@ -253,7 +252,7 @@ where
             alloc: self.alloc,
             by: ByWorker {
                 by: ByEngine {
-                    events: Recorded {
+                    events: GatedEngine {
                         rt: self.rt,
                         engine: shared.engine,
                         gate: &gate,

@@ -6,7 +6,7 @@ use crate::sides::{Impatient, ONES, Still};
 use crate::texts::{PUT, PUT_REPLY, REPLIES, REQUESTS};
 use engine_lock::{Engine, EngineName, Opening};
 use http_connections::{After, ByEngine, ByWorker, Crowd, Life, Serving, Turning, Wire};
-use http_front::Recorded;
+use http_front::GatedEngine;
 use http_input::Input;
 use http_reply::ReplyBuffer;
 use std::alloc::Global;
@@ -204,7 +204,7 @@ fn is_answered<L: EngineName, R: Wait + time::Clock>(
         alloc,
         by: ByWorker {
             by: ByEngine {
-                events: Recorded {
+                events: GatedEngine {
                     rt,
                     engine: &engine,
                     gate: &Impatient,

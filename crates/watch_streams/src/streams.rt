@@ -15,7 +15,7 @@ use crate::line::Line;
 use crate::turning::{Turn, take_turn};
 use engine_lock::{Client, EngineName};
 use http_peer::Gate;
-use recorded_engine::Recorded;
+use recorded_engine::GatedEngine;
 use std::alloc::{AllocError, Global};
 use std::collections::BTreeMap;
 use std::io::Write;
@@ -123,7 +123,7 @@ impl<L: EngineName, W: Write + Drop> Streams<L, W> {
     }
 
     /// Ends the watch of a stream that could not begin.
-    pub fn refuse<G: Gate, R: Wait>(&mut self, events: &Recorded<'_, L, G, R>, number: u64)
+    pub fn refuse<G: Gate, R: Wait>(&mut self, events: &GatedEngine<'_, L, G, R>, number: u64)
         ensures { Refuses events.now.engine.now.ids number self.old self.new }
     {
         let _ = events.drop_watch(&mut self.client, number);
@@ -133,7 +133,7 @@ impl<L: EngineName, W: Write + Drop> Streams<L, W> {
     /// let go, and its watch is ended.
     pub fn turn<G: Gate, R: Wait>(
         &mut self,
-        events: &Recorded<'_, L, G, R>,
+        events: &GatedEngine<'_, L, G, R>,
         number: u64,
     ) -> Option<Turn>
         ensures { MatchOption result (self.new ≡ self.old)
@@ -148,7 +148,7 @@ impl<L: EngineName, W: Write + Drop> Streams<L, W> {
     /// A turn of a stream, which is kept.
     fn turn_once<G: Gate, R: Wait>(
         &mut self,
-        events: &Recorded<'_, L, G, R>,
+        events: &GatedEngine<'_, L, G, R>,
         number: u64,
     ) -> Option<Turn>
         ensures { MayTurn events.now.engine.now.ids number self.old result self.new }
@@ -162,7 +162,7 @@ impl<L: EngineName, W: Write + Drop> Streams<L, W> {
     /// Lets a stream go that is over behind a turn; gives the turn.
     fn leave_behind<G: Gate, R: Wait>(
         &mut self,
-        events: &Recorded<'_, L, G, R>,
+        events: &GatedEngine<'_, L, G, R>,
         number: u64,
         turn: Turn,
     ) -> Turn
@@ -181,7 +181,7 @@ impl<L: EngineName, W: Write + Drop> Streams<L, W> {
     /// client is there.
     pub fn hear<G: Gate, R: Wait, H: Hearing<W>>(
         &mut self,
-        events: &Recorded<'_, L, G, R>,
+        events: &GatedEngine<'_, L, G, R>,
         ears: &H,
         number: u64,
     ) -> Heard
@@ -209,7 +209,7 @@ impl<L: EngineName, W: Write + Drop> Streams<L, W> {
     }
 
     /// A stream ends in order, as far as its client takes that at once, and its watch is ended.
-    fn part<G: Gate, R: Wait>(&mut self, events: &Recorded<'_, L, G, R>, number: u64)
+    fn part<G: Gate, R: Wait>(&mut self, events: &GatedEngine<'_, L, G, R>, number: u64)
         ensures { Parts events.now.engine.now.ids number self.old self.new }
     {
         let _ = self.close(number);
@@ -233,7 +233,7 @@ impl<L: EngineName, W: Write + Drop> Streams<L, W> {
     /// Where the server ends, a stream is let go, and its watch is ended; says whether the server ends.
     pub fn end_at_end<G: Gate, R: Wait, H: Hearing<W>>(
         &mut self,
-        events: &Recorded<'_, L, G, R>,
+        events: &GatedEngine<'_, L, G, R>,
         ears: &H,
         number: u64,
     ) -> bool
@@ -249,7 +249,7 @@ impl<L: EngineName, W: Write + Drop> Streams<L, W> {
     }
 
     /// Ends the watch of a stream, and lets the stream go.
-    fn let_go<G: Gate, R: Wait>(&mut self, events: &Recorded<'_, L, G, R>, number: u64)
+    fn let_go<G: Gate, R: Wait>(&mut self, events: &GatedEngine<'_, L, G, R>, number: u64)
         ensures { LetsGo events.now.engine.now.ids number self.old self.new }
     {
         let _ = self.lines.remove(&number);

@@ -5,7 +5,7 @@ use crate::line::Line;
 use engine_lock::{Client, EngineName};
 use http_peer::Gate;
 use json_gateway::Message;
-use recorded_engine::Recorded;
+use recorded_engine::GatedEngine;
 use std::io::Write;
 use std::sync::Wait;
 
@@ -31,7 +31,7 @@ pub enum Next {
 ///
 /// It makes one event of the engine at most, with its cost, and copies the message once.
 pub fn tell<L: EngineName, G: Gate, R: Wait, W: Write>(
-    events: &Recorded<'_, L, G, R>,
+    events: &GatedEngine<'_, L, G, R>,
     client: &mut Client<L>,
     line: &mut Line<W>,
 ) -> Next

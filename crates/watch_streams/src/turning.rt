@@ -6,7 +6,7 @@ use crate::line::Line;
 use crate::telling::{Next, tell};
 use engine_lock::{Client, EngineName};
 use http_peer::Gate;
-use recorded_engine::Recorded;
+use recorded_engine::GatedEngine;
 use std::alloc::Global;
 use std::io::Write;
 use std::sync::Wait;
@@ -53,7 +53,7 @@ impl Turn {
 /// by it tell no other watch anything.
 pub fn take_turn<L: EngineName, G: Gate, R: Wait, W: Write>(
     alloc: Global,
-    events: &Recorded<'_, L, G, R>,
+    events: &GatedEngine<'_, L, G, R>,
     client: &mut Client<L>,
     line: &mut Line<W>,
 ) -> Turn
@@ -71,7 +71,7 @@ pub fn take_turn<L: EngineName, G: Gate, R: Wait, W: Write>(
 /// One step of a turn; what the turn comes to, where no further one is to follow.
 fn step<L: EngineName, G: Gate, R: Wait, W: Write>(
     alloc: Global,
-    events: &Recorded<'_, L, G, R>,
+    events: &GatedEngine<'_, L, G, R>,
     client: &mut Client<L>,
     line: &mut Line<W>,
 ) -> Option<Turn>

@@ -16,5 +16,5 @@ returns-in-None g c = inl (record {
   starts = subst (λ (x : Command). Starts c.args.events.now.engine.now.ids (g.C.Clock.Tells c.args.clock.now) x c.args.client.now c.looked.new.client) c.command.ensures.command c.in-None.ensures.none;
   now = c.args.now;
   at = c.requires;
-  submits = c.submit.ensures;
+  submits = c.submit_request.ensures;
 })

@@ -2,8 +2,8 @@ use Rattle.http_connections.proofs.by_engine.submit_alone.Goals as goal
 
 pub returns : goal.returns
 returns g c = record {
-  submitted = c.submit-submitted.result;
-  told = c.submit-submitted.new.client;
-  first = c.submit-submitted.ensures;
+  submitted = c.submit_request-submitted.result;
+  told = c.submit_request-submitted.new.client;
+  first = c.submit_request-submitted.ensures;
   awaits = c.awaited.ensures;
 }

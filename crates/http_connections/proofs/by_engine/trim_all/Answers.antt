@@ -24,7 +24,7 @@ pub loop-preserved-in-Ok : goal.loop-preserved-in-Ok
 loop-preserved-in-Ok g c = (AreMadeBehind.more c.in-Ok.field-0 c.loop.invariant.0 c.in-Ok.ensures.trims, omega arith)
 
 pub returns-then-refusals-eq-MOST_REFUSALS : goal.returns-then-refusals-eq-MOST_REFUSALS
-returns-then-refusals-eq-MOST_REFUSALS g c = subst (λ (k : ℕ). AreMadeBehind c.args.events.now.engine.now.ids c.args.client.now 0 k c.trim.new.client)
+returns-then-refusals-eq-MOST_REFUSALS g c = subst (λ (k : ℕ). AreMadeBehind c.args.events.now.engine.now.ids c.args.client.now 0 k c.trim_once.new.client)
     c.if-refusals-eq-MOST_REFUSALS.true (AreMadeBehind.again c.loop.invariant.0 c.in-Err.ensures.trims)
 
 pub loop-preserved : goal.loop-preserved

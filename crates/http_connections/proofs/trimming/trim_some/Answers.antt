@@ -22,13 +22,13 @@ returns-in-Ok-Done g c = (
 )
 
 pub returns-then-refusals-eq-MOST_REFUSALS : goal.returns-then-refusals-eq-MOST_REFUSALS
-returns-then-refusals-eq-MOST_REFUSALS g c = subst (λ (k : ℕ). AreMadeBehind c.args.events.now.engine.now.ids c.args.client.now c.args.refusals k c.trim.new.client)
+returns-then-refusals-eq-MOST_REFUSALS g c = subst (λ (k : ℕ). AreMadeBehind c.args.events.now.engine.now.ids c.args.client.now c.args.refusals k c.trim_once.new.client)
     c.if-refusals-eq-MOST_REFUSALS.true (AreMadeBehind.again c.loop.invariant.0 c.in-Err.ensures.trims)
 
 pub loop-preserved : goal.loop-preserved
-loop-preserved g c = elim c.match-trim.branch [
-  | in-Ok w ↦ subst (λ (k : ℕ). AreMadeBehind c.args.events.now.engine.now.ids c.args.client.now c.args.refusals k c.trim.new.client × (k < 1000))
+loop-preserved g c = elim c.match-trim_once.branch [
+  | in-Ok w ↦ subst (λ (k : ℕ). AreMadeBehind c.args.events.now.engine.now.ids c.args.client.now c.args.refusals k c.trim_once.new.client × (k < 1000))
       (sym w.refusals-is) (AreMadeBehind.more w.in-Ok.field-0 c.loop.invariant.0 w.in-Ok.ensures.trims, omega arith)
-  | in-Err+else-refusals-eq-MOST_REFUSALS w ↦ subst (λ (k : ℕ). AreMadeBehind c.args.events.now.engine.now.ids c.args.client.now c.args.refusals k c.trim.new.client × (k < 1000))
+  | in-Err+else-refusals-eq-MOST_REFUSALS w ↦ subst (λ (k : ℕ). AreMadeBehind c.args.events.now.engine.now.ids c.args.client.now c.args.refusals k c.trim_once.new.client × (k < 1000))
       (sym w.refusals-is) (AreMadeBehind.again c.loop.invariant.0 w.in-Err.ensures.trims, omega (arith, c.loop.invariant.1, w.if-refusals-eq-MOST_REFUSALS.false))
 ]

@@ -1,7 +1,8 @@
 use Rattle.std.proofs.Common.{ℕ, List, sym, ◌∙◌, ap, subst}
 use Rattle.http_connections.specs.Lines.{Goes}
 use Rattle.http_connections.proofs.Going.{same, stays}
-use Rattle.http_workers.specs.Inputs.{at_place, pending_of, seen}
+use Rattle.http_input.specs.Spares.{pending_of}
+use Rattle.http_workers.specs.Inputs.{at_place, seen}
 use Rattle.http_workers.proofs.workers.Worker.served.Goals as goal
 
 pub returns-in_default-clause-goes : goal.returns-in_default-clause-goes

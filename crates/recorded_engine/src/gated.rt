@@ -19,7 +19,7 @@ use std::sync::Wait;
 /// a line, tells the gate, which may take the lines ([`Engine::take_lines`]). An engine without a
 /// record has none.
 #[derive(Drop)]
-pub struct Recorded<'e, L: EngineName, G, R> {
+pub struct GatedEngine<'e, L: EngineName, G, R> {
     /// What lets a call wait.
     pub rt: &'e R,
     /// The engine.
@@ -28,7 +28,7 @@ pub struct Recorded<'e, L: EngineName, G, R> {
     pub gate: &'e G,
 }
 
-impl<'e, L: EngineName, G, R: Wait> Takes for Recorded<'e, L, G, R> {
+impl<'e, L: EngineName, G, R: Wait> Takes for GatedEngine<'e, L, G, R> {
     ghost use Rattle.event_script.specs.Scripts.{Taken};
     ghost use Rattle.engine_lock.specs.Takings.{TakesLines};
 
@@ -40,7 +40,7 @@ impl<'e, L: EngineName, G, R: Wait> Takes for Recorded<'e, L, G, R> {
     }
 }
 
-impl<'e, L: EngineName, G: Gate, R: Wait> Recorded<'e, L, G, R> {
+impl<'e, L: EngineName, G: Gate, R: Wait> GatedEngine<'e, L, G, R> {
     /// Whether events are written down.
     pub fn is_recorded(&self) -> bool
         ensures { result ≡ L.recorded }
@@ -49,7 +49,7 @@ impl<'e, L: EngineName, G: Gate, R: Wait> Recorded<'e, L, G, R> {
     }
 
     /// [`Engine::submit_request`].
-    pub fn submit(&self, client: &mut Client<L>, now: u64, asked: &Asked<'_>) -> Submitted
+    pub fn submit_request(&self, client: &mut Client<L>, now: u64, asked: &Asked<'_>) -> Submitted
         ensures { Submits self.now.engine.now.ids client.old now asked.now result client.new }
     {
         let submitted = self.engine.submit_request(self.rt, client, now, asked);
@@ -87,7 +87,7 @@ impl<'e, L: EngineName, G: Gate, R: Wait> Recorded<'e, L, G, R> {
     }
 
     /// [`Engine::trim_once`].
-    pub fn trim(&self, client: &mut Client<L>) -> Result<Trim, Refusal>
+    pub fn trim_once(&self, client: &mut Client<L>) -> Result<Trim, Refusal>
         ensures trims { MayTrim self.now.engine.now.ids client.old result client.new }
         ensures refused { IfErr result (λ e. e ≡ Memory) }
     {
@@ -97,7 +97,7 @@ impl<'e, L: EngineName, G: Gate, R: Wait> Recorded<'e, L, G, R> {
     }
 
     /// [`Engine::expire_once`].
-    pub fn expire(&self, client: &mut Client<L>, now: u64) -> Result<Expiry, Refusal>
+    pub fn expire_once(&self, client: &mut Client<L>, now: u64) -> Result<Expiry, Refusal>
         ensures { SubmitsExpiry self.now.engine.now.ids client.old now result client.new }
     {
         let step = self.engine.expire_once(self.rt, client, now);

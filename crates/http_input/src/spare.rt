@@ -1,8 +1,8 @@
 //! What has come of a connection and was not answered, from one visit to the next.
 ghost use Rattle.std.specs.Prelude.{◌≡◌, None, IfSome, IfNone};
-ghost use Rattle.http_workers.specs.Inputs.{IsSpare, pending_of};
+ghost use Rattle.http_input.specs.Spares.{IsSpare, pending_of};
 
-use http_input::Input;
+use crate::input::Input;
 use std::alloc::Global;
 
 /// An input that a longer request took gives its room back, in bytes.
@@ -11,7 +11,7 @@ const MOST_ROOM: usize = 16_384;
 /// An input of which nothing is left, if there is one, for a connection of which nothing waits: so one that
 /// is idle takes none.
 #[derive(Drop)]
-pub(crate) struct Spare {
+pub struct Spare {
     alloc: Global,
     input: Option<Box<Input>>,
     ghost empty: { IsSpare input },
@@ -19,13 +19,13 @@ pub(crate) struct Spare {
 
 impl Spare {
     /// There is none yet. Takes no memory.
-    pub(crate) fn new(alloc: Global) -> Spare {
+    pub fn new(alloc: Global) -> Spare {
         Spare { alloc, input: None }
     }
 
     /// What has come of a connection and was not answered: what was kept of it, or an input of which nothing
     /// is left. `None` where no memory is found for one.
-    pub(crate) fn take(&mut self, kept: Option<Box<Input>>) -> Option<Box<Input>>
+    pub fn take(&mut self, kept: Option<Box<Input>>) -> Option<Box<Input>>
         ensures input { IfSome result (λ input. input.value ≡ pending_of kept) }
         ensures none { IfNone result (kept ≡ None) }
     {
@@ -43,7 +43,7 @@ impl Spare {
 
     /// Keeps an input of which nothing is left for another connection. What is left of one is kept with its
     /// own: that is given back.
-    pub(crate) fn keep(&mut self, input: Box<Input>) -> Option<Box<Input>>
+    pub fn keep(&mut self, input: Box<Input>) -> Option<Box<Input>>
         ensures { pending_of result ≡ input.value }
     {
         if !input.is_empty() {
