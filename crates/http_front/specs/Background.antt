@@ -14,6 +14,5 @@ is_last (Err e) = true
 
 -- a step of expiry by which a lease has ended
 abbrev pub has_ended : Result Expiry Refusal → Bool
-has_ended (Ok expiry.Nothing) = false
 has_ended (Ok (expiry.Expired id revision raised)) = true
-has_ended (Err e) = false
+has_ended _ = false

@@ -6,8 +6,7 @@ ghost use Rattle.http_front.specs.Ends.{IsOfServer};
 use crate::begun::{Begun, Limits};
 use crate::duties::Duty;
 use crate::threads::{
-    Keeping, Served, clients_of, closed, join_all, join_streaming, keeping_of, lines_of, start,
-    start_all, with_client,
+    Keeping, Made, Served, closed, join_all, join_streaming, made_of, start, start_all, with_client,
 };
 use engine_lock::{Client, Engine, EngineName};
 use http_connections::StoppedClock;
@@ -47,7 +46,7 @@ pub trait Directing<L: EngineName> {
 /// further one is let in, and the server still ends when it returns.
 ///
 /// What the gate asks for is as by `pool`; it is for the director to tell the gate of its own events,
-/// as [`Recorded`](crate::Recorded) does.
+/// as [`GatedEngine`](crate::GatedEngine) does.
 ///
 /// Fails as [`pool`](crate::pool) does, but has to have a client fewer; where a list or a thread is
 /// wanting at the start, the director is not called.
@@ -70,18 +69,13 @@ where
 {
     let Begun { engine, client } = begun;
     let mut engine = engine;
-    let clients = match clients_of(rt, alloc, &mut engine, limits.workers) {
-        Ok(clients) => clients,
-        Err(front) => return Err(front),
-    };
-    let (keeping, handing) = match keeping_of(rt, alloc, &mut engine) {
-        Ok(made) => made,
-        Err(front) => return Err(front),
-    };
-    let lines = match lines_of(rt, alloc, listener, limits.workers) {
-        Ok(lines) => lines,
-        Err(front) => return Err(front),
-    };
+    let made = made_of(rt, alloc, &mut engine, listener, limits.workers)?;
+    let Made {
+        clients,
+        keeping,
+        handing,
+        lines,
+    } = made;
     let connections = limits.connections;
     let clock = &StoppedClock;
     let shared = Shared::new(&engine, gate, clock, listener, connections, lines, handing);

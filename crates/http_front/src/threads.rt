@@ -67,10 +67,8 @@ where
         workers,
         connections,
     };
-    match Begun::new(rt, engine) {
-        Ok(begun) => pool_begun(rt, alloc, begun, gate, clock, listener, limits),
-        Err(front) => Err(front),
-    }
+    let begun = Begun::new(rt, engine)?;
+    pool_begun(rt, alloc, begun, gate, clock, listener, limits)
 }
 
 /// As [`pool`], of an engine that has begun, with so many workers and connections as these limits say.
@@ -96,22 +94,14 @@ where
         client: expirer,
     } = begun;
     let mut engine = engine;
-    let clients = match clients_of(rt, alloc, &mut engine, limits.workers) {
-        Ok(clients) => clients,
-        Err(front) => return Err(front),
-    };
-    let trimmer = match client_of(rt, &mut engine) {
-        Ok(client) => client,
-        Err(front) => return Err(front),
-    };
-    let (keeping, handing) = match keeping_of(rt, alloc, &mut engine) {
-        Ok(made) => made,
-        Err(front) => return Err(front),
-    };
-    let lines = match lines_of(rt, alloc, listener, limits.workers) {
-        Ok(lines) => lines,
-        Err(front) => return Err(front),
-    };
+    let trimmer = client_of(rt, &mut engine)?;
+    let made = made_of(rt, alloc, &mut engine, listener, limits.workers)?;
+    let Made {
+        clients,
+        keeping,
+        handing,
+        lines,
+    } = made;
     let connections = limits.connections;
     let shared = Shared::new(&engine, gate, clock, listener, connections, lines, handing);
     let beside = Beside {
@@ -122,6 +112,52 @@ where
     let Served { clients, trouble } = run_threads(rt, alloc, &shared, clients, beside);
     drop(shared);
     closed(rt, engine, clients, trouble)
+}
+
+/// What the workers and the thread that looks after streams begin with.
+#[derive(Drop)]
+pub(crate) struct Made<L: EngineName> {
+    /// A client for each worker.
+    pub(crate) clients: Vec<Client<L>>,
+    pub(crate) keeping: Keeping<L>,
+    pub(crate) handing: Handing,
+    pub(crate) lines: Lines<L>,
+}
+
+/// What so many workers and the thread that looks after streams begin with.
+pub(crate) fn made_of<L: EngineName, R: Wait + Threads + Net>(
+    rt: &R,
+    alloc: Global,
+    engine: &mut Engine<L>,
+    listener: &TcpListener,
+    workers: u64,
+) -> Result<Made<L>, Front>
+    ensures fault { IfErr result IsOfServer }
+    ensures ids { engine.new.ids ≡ engine.old.ids }
+{
+    let clients = clients_of(rt, alloc, engine, workers)?;
+    made_by(rt, alloc, engine, listener, clients)
+}
+
+/// The same, where each worker has its client.
+fn made_by<L: EngineName, R: Wait + Threads + Net>(
+    rt: &R,
+    alloc: Global,
+    engine: &mut Engine<L>,
+    listener: &TcpListener,
+    clients: Vec<Client<L>>,
+) -> Result<Made<L>, Front>
+    ensures fault { IfErr result IsOfServer }
+    ensures ids { engine.new.ids ≡ engine.old.ids }
+{
+    let lines = lines_of(rt, alloc, listener, clients.len() as u64)?;
+    let (keeping, handing) = keeping_of(rt, alloc, engine)?;
+    Ok(Made {
+        clients,
+        keeping,
+        handing,
+        lines,
+    })
 }
 
 /// What the thread that looks after streams begins with.
@@ -140,7 +176,7 @@ struct Beside<L: EngineName> {
 }
 
 /// What the thread that looks after streams begins with, and by what streams are handed to it.
-pub(crate) fn keeping_of<L: EngineName, R: Wait + Net>(
+fn keeping_of<L: EngineName, R: Wait + Net>(
     rt: &R,
     alloc: Global,
     engine: &mut Engine<L>,
@@ -149,10 +185,7 @@ pub(crate) fn keeping_of<L: EngineName, R: Wait + Net>(
     ensures fault { IfErr result IsOfServer }
     ensures ids { engine.new.ids ≡ engine.old.ids }
 {
-    let client = match client_of(rt, engine) {
-        Ok(client) => client,
-        Err(front) => return Err(front),
-    };
+    let client = client_of(rt, engine)?;
     match Watching::new(rt, alloc) {
         Ok((watching, handing)) => Ok((Keeping { client, watching }, handing)),
         Err(_) => Err(Front::Spawn),
@@ -160,7 +193,7 @@ pub(crate) fn keeping_of<L: EngineName, R: Wait + Net>(
 }
 
 /// What the workers wait with.
-pub(crate) fn lines_of<L: EngineName, R: Net + Threads>(
+fn lines_of<L: EngineName, R: Net + Threads>(
     rt: &R,
     alloc: Global,
     listener: &TcpListener,
@@ -217,7 +250,7 @@ fn client_of<L: EngineName, R: Wait>(rt: &R, engine: &mut Engine<L>) -> Result<C
 }
 
 /// So many clients, and no others.
-pub(crate) fn clients_of<L: EngineName, R: Wait>(
+fn clients_of<L: EngineName, R: Wait>(
     rt: &R,
     alloc: Global,
     engine: &mut Engine<L>,
@@ -231,10 +264,7 @@ pub(crate) fn clients_of<L: EngineName, R: Wait>(
 {
     let mut clients = Vec::new(alloc);
     for _ in 0..count {
-        let client = match client_of(rt, engine) {
-            Ok(client) => client,
-            Err(front) => return Err(front),
-        };
+        let client = client_of(rt, engine)?;
         if clients.push(client).is_err() {
             return Err(Front::Memory);
         }
