@@ -18,7 +18,7 @@
 //! ```
 //!
 //! Only tested is that calls which may find no memory succeed where there is ample: in the crate
-//! `http_tests`, in `src/inputs.rt`.
+//! `http_tests`, in `src/inputs.rt` and `src/spares.rt`.
 #![tactic(auto)]
 
 mod buffer;

@@ -14,3 +14,5 @@ mod inputs;
 mod limits;
 #[cfg(test)]
 mod replies;
+#[cfg(test)]
+mod spares;
