@@ -104,11 +104,12 @@ impl Buffer {
         }
     }
 
-    /// Makes room for a byte at least: all that is not taken by the bytes, or twice as much.
+    /// Makes room for a byte at least: all that is not taken by the bytes, or twice as much. Fails for want
+    /// of memory, and only where the bytes take all of its room.
     fn make_room(&mut self) -> Result<(), AllocError>
         ensures items { items self.new ≡ items self.old }
         ensures ok { OnOk result (0 < room self.new) }
-        ensures full { OnErr result (16384 ≤ length (items self.old)) }
+        ensures full { OnErr result (length self.old.room.items ≤ length (items self.old)) }
     {
         self.move_to_front();
         if self.end < self.room.len() {
@@ -121,6 +122,7 @@ impl Buffer {
     fn move_to_front(&mut self)
         ensures items { items self.new ≡ items self.old }
         ensures front { self.new.start ≡ 0 }
+        ensures room { length self.new.room.items ≡ length self.old.room.items }
     {
         if self.start > 0 {
             let (start, end) = (self.start, self.end);

@@ -1,21 +1,23 @@
 //! A worker: it gives one connection after the other its turns, whichever is ready.
 ghost use Rattle.std.specs.Prelude.{◌≡◌};
-ghost use Rattle.http_connections.specs.Lines.{Goes};
-ghost use Rattle.http_workers.specs.Inputs.{at_place, seen};
+ghost use Rattle.std.specs.Io.KnownBytes.{append_known};
+ghost use Rattle.http_connections.specs.Lines.{Goes, IsAway, sight};
+ghost use Rattle.http_connections.specs.declared.turns.After.TheVariants as after;
+ghost use Rattle.http_input.specs.Spares.{pending_of};
 
 use crate::crew::Seat;
 use crate::line::Line;
 use crate::lines::Next;
 use crate::shared::Shared;
 use engine_lock::{Client, EngineName};
-use http_connections::{After, ByEngine, ByWorker, Serving, Stage, Turning, Wire};
+use http_connections::{After, ByEngine, ByWorker, Life, Serving, Stage, Turning, Visited, Wire};
 use http_input::{Input, Spare};
 use http_peer::{Clock, Gate, Sign, Socket, Wish, open_peer};
 use http_reply::ReplyBuffer;
 use http_streams::{Handed, Waking};
 use recorded_engine::GatedEngine;
 use std::alloc::Global;
-use std::io::ErrorKind;
+use std::io::{ErrorKind, Read, Write};
 use std::net::TcpStream;
 use std::sync::Wait;
 use std::sync::atomic::Ordering;
@@ -195,7 +197,13 @@ where
         let lines = &self.shared.lines;
         let mut is_wet = is_wet;
         for _ in self.rt.forever() {
-            let after = self.served(line, is_wet);
+            let wire = Wire {
+                r: Socket::new(&line.stream),
+                w: Socket::new(&line.stream),
+            };
+            let visited = self.served(&mut line.input, &mut line.life, wire, is_wet);
+            let after = visited.after;
+            line.freshen();
             if after != After::Again || !lines.crowd.are_few() {
                 return (after, Next::Nothing);
             }
@@ -209,42 +217,56 @@ where
 
     /// Gives a connection its turns, with what had come of it and was not answered, of which it keeps what
     /// is left. Where no memory is found for a buffer or an input it is over.
-    fn served(&mut self, line: &mut Line<L>, is_wet: bool) -> After
-        ensures goes { Goes self.old.shared.now.engine.now.ids L.recorded (C.Tells self.old.shared.now.clock.now) line.old.life.call
+    ///
+    /// Of any reader and writer that tell their bytes: all that it reads is the reader's, and all that goes
+    /// out, or is still to, is the writer's (`Goes`). So nothing of another connection comes here, nor does
+    /// anything of this one get to another.
+    fn served<In: Read, Out: Write>(
+        &mut self,
+        came: &mut Option<Box<Input>>,
+        life: &mut Life<L>,
+        wire: Wire<In, Out>,
+        is_wet: bool,
+    ) -> Visited<In, Out>
+        ensures goes { Goes self.old.shared.now.engine.now.ids L.recorded (C.Tells self.old.shared.now.clock.now) life.old.call
             self.old.serving.client self.new.serving.client
-            (at_place line.old.life.stage line.old.life.known line.old.input)
-            (at_place line.new.life.stage line.new.life.known line.new.input) }
-        ensures call { line.new.life.call ≡ line.old.life.call }
+            (sight life.old.stage life.old.known (In.remaining wire.r) (pending_of came.old) (append_known (Out.contents wire.w) life.old.unsent))
+            (sight life.new.stage life.new.known (In.remaining result.wire.r) (pending_of came.new)
+            (append_known (Out.contents result.wire.w) life.new.unsent)) }
+        ensures away { IsAway result.after life.new.stage }
+        ensures call { life.new.call ≡ life.old.call }
         ensures shared { self.new.shared ≡ self.old.shared }
     {
         let Some(buffer) = next_buffer(self.alloc, &mut self.buffer) else {
-            return After::Over;
+            return over(wire);
         };
-        let Some(input) = self.spare.take(line.input.take()) else {
-            return After::Over;
+        let Some(input) = self.spare.take(came.take()) else {
+            return over(wire);
         };
         let (mut buffer, mut input) = (buffer, input);
-        let after = self.turns(&mut buffer, &mut input, line, is_wet);
+        let visited = self.turns(&mut buffer, &mut input, life, wire, is_wet);
         keep_buffer(&mut self.buffer, buffer);
-        line.input = self.spare.keep(input);
-        after
+        *came = self.spare.keep(input);
+        visited
     }
 
     /// Gives a connection its turns. Its client reads nothing older than was read for it before.
-    fn turns(
+    fn turns<In: Read, Out: Write>(
         &mut self,
         buffer: &mut ReplyBuffer,
         input: &mut Input,
-        line: &mut Line<L>,
+        life: &mut Life<L>,
+        wire: Wire<In, Out>,
         is_wet: bool,
-    ) -> After
-        ensures goes { Goes self.old.shared.now.engine.now.ids L.recorded (C.Tells self.old.shared.now.clock.now) line.old.life.call
+    ) -> Visited<In, Out>
+        ensures goes { Goes self.old.shared.now.engine.now.ids L.recorded (C.Tells self.old.shared.now.clock.now) life.old.call
             self.old.serving.client self.new.serving.client
-            (seen line.old.life.stage line.old.life.known input.old)
-            (seen line.new.life.stage line.new.life.known input.new) }
-        ensures call { line.new.life.call ≡ line.old.life.call }
+            (sight life.old.stage life.old.known (In.remaining wire.r) input.old (append_known (Out.contents wire.w) life.old.unsent))
+            (sight life.new.stage life.new.known (In.remaining result.wire.r) input.new
+            (append_known (Out.contents result.wire.w) life.new.unsent)) }
+        ensures away { IsAway result.after life.new.stage }
+        ensures call { life.new.call ≡ life.old.call }
         ensures shared { self.new.shared ≡ self.old.shared }
-        ensures kept { line.new.input ≡ line.old.input }
     {
         let shared = self.shared;
         let gate = Waking::new(shared.gate, &shared.handing, false);
@@ -258,21 +280,13 @@ where
                         gate: &gate,
                     },
                     clock: shared.clock,
-                    call: line.life.call,
+                    call: life.call,
                 },
             },
             crowd: &shared.lines.crowd,
             ended: &shared.ended,
         };
-        let wire = Wire {
-            r: Socket::new(&line.stream),
-            w: Socket::new(&line.stream),
-        };
-        let life = &mut line.life;
-        let visited = turning.visit(&mut self.serving, buffer, input, life, wire, is_wet);
-        let after = visited.after;
-        line.freshen();
-        after
+        turning.visit(&mut self.serving, buffer, input, life, wire, is_wet)
     }
 
     /// A connection is over: its socket is closed, and the watch of a stream is ended that did not get
@@ -314,6 +328,17 @@ where
         let events = self.shared.events(self.rt);
         let _ = events.drop_watch(&mut self.serving.client, number);
         self.shared.gate.after(call);
+    }
+}
+
+/// A connection is over of which nothing was read or written.
+fn over<In, Out>(wire: Wire<In, Out>) -> Visited<In, Out>
+    ensures after { result.after ≡ after.Over }
+    ensures wire { result.wire ≡ wire }
+{
+    Visited {
+        after: After::Over,
+        wire,
     }
 }
 
