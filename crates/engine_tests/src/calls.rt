@@ -27,13 +27,31 @@ fn made<L: EngineName, R: Wait>(
     let mut refused = None;
     for _ in 0..=MOST_CLIENTS {
         match engine.client(rt) {
-            Ok(client) => {
-                let _ = clients.push(client);
-            }
+            Ok(client) => drop(clients.push(client)),
             Err(refusal) => refused = Some(refusal),
         }
     }
-    (clients.len(), refused, engine.close(rt, clients).is_ok())
+    let count = clients.len();
+    (count, refused, closed(rt, engine, clients).is_some())
+}
+
+/// The revision of the core that an engine gives back for these clients.
+fn closed<L: EngineName, R: Wait>(
+    rt: &R,
+    engine: Engine<L>,
+    clients: Vec<Client<L>>,
+) -> Option<u64> {
+    match engine.close(rt, clients) {
+        Ok(core) => {
+            let revision = core.status().revision;
+            drop(core);
+            Some(revision)
+        }
+        Err(fault) => {
+            drop(fault);
+            None
+        }
+    }
 }
 
 fn run_made<R: Wait>(rt: &R, alloc: Global) -> (usize, Option<Refusal>, bool) {
@@ -60,11 +78,16 @@ fn posted<L: EngineName, R: Wait>(
     path: &str,
     body: &str,
 ) -> u16 {
-    let Ok(command) = read(alloc, path.as_bytes(), body.as_bytes()) else {
-        return 0;
-    };
-    let submitted = engine.submit(rt, client, 1000, &command);
-    submitted.outcome.settled.wire().0
+    match read(alloc, path.as_bytes(), body.as_bytes()) {
+        Ok(command) => {
+            let submitted = engine.submit(rt, client, 1000, &command);
+            let status = submitted.outcome.settled.wire().0;
+            drop(submitted);
+            drop(command);
+            status
+        }
+        Err(_) => 0,
+    }
 }
 
 /// What each call says, where a watch is told of one put, and ended; a lease of the second key
@@ -128,11 +151,45 @@ fn each_call<L: EngineName, R: Wait>(
     requires ids { L.ListName.ids ≡ record { cluster = 1; member = 1 } }
 {
     let mut engine = Engine::<L>::new(alloc, opening, ONES);
-    let mut client = engine.client(rt).ok()?;
-    let mut other = engine.client(rt).ok()?;
-    begin(rt, alloc, &engine, &mut client);
-    let next = if by_another { &mut other } else { &mut client };
-    Some(call_each(rt, &engine, next))
+    let said = match engine.client(rt) {
+        Ok(client) => each_call_beside(rt, alloc, &mut engine, client, by_another),
+        Err(_) => None,
+    };
+    drop(engine);
+    said
+}
+
+/// The same, where the second client is made.
+fn each_call_beside<L: EngineName, R: Wait>(
+    rt: &R,
+    alloc: Global,
+    engine: &mut Engine<L>,
+    client: Client<L>,
+    by_another: bool,
+) -> Option<Said> {
+    let mut client = client;
+    let said = match engine.client(rt) {
+        Ok(other) if by_another => {
+            begin(rt, alloc, engine, &mut client);
+            Some(call_each_by(rt, engine, other))
+        }
+        Ok(other) => {
+            drop(other);
+            begin(rt, alloc, engine, &mut client);
+            Some(call_each(rt, engine, &mut client))
+        }
+        Err(_) => None,
+    };
+    drop(client);
+    said
+}
+
+/// What each call says to a client, which is let go.
+fn call_each_by<L: EngineName, R: Wait>(rt: &R, engine: &Engine<L>, client: Client<L>) -> Said {
+    let mut client = client;
+    let said = call_each(rt, engine, &mut client);
+    drop(client);
+    said
 }
 
 fn run_each_call<R: Wait>(rt: &R, alloc: Global, by_another: bool) -> Option<Said> {
@@ -224,10 +281,35 @@ fn order_by_two<L: EngineName, R: Wait>(
     alloc: Global,
     engine: &mut Engine<L>,
 ) -> Option<Ordered> {
-    let mut writer = engine.client(rt).ok()?;
+    match engine.client(rt) {
+        Ok(writer) => order_beside(rt, alloc, engine, writer),
+        Err(_) => None,
+    }
+}
+
+/// The same, where the one that reads is made.
+fn order_beside<L: EngineName, R: Wait>(
+    rt: &R,
+    alloc: Global,
+    engine: &mut Engine<L>,
+    writer: Client<L>,
+) -> Option<Ordered> {
+    let mut writer = writer;
     begin(rt, alloc, engine, &mut writer);
-    let mut reader = engine.client(rt).ok()?;
-    Some(order_each(rt, engine, &mut reader))
+    let ordered = match engine.client(rt) {
+        Ok(reader) => Some(order_each_by(rt, engine, reader)),
+        Err(_) => None,
+    };
+    drop(writer);
+    ordered
+}
+
+/// What the orders come to by a client, which is let go.
+fn order_each_by<L: EngineName, R: Wait>(rt: &R, engine: &Engine<L>, reader: Client<L>) -> Ordered {
+    let mut reader = reader;
+    let ordered = order_each(rt, engine, &mut reader);
+    drop(reader);
+    ordered
 }
 
 fn each_order<L: EngineName, R: Wait>(rt: &R, alloc: Global, opening: Opening) -> Option<Ordered>
@@ -238,7 +320,9 @@ fn each_order<L: EngineName, R: Wait>(rt: &R, alloc: Global, opening: Opening) -
     requires ids { L.ListName.ids ≡ record { cluster = 1; member = 1 } }
 {
     let mut engine = Engine::<L>::new(alloc, opening, ONES);
-    order_by_two(rt, alloc, &mut engine)
+    let ordered = order_by_two(rt, alloc, &mut engine);
+    drop(engine);
+    ordered
 }
 
 fn run_each_order<R: Wait>(rt: &R, alloc: Global) -> Option<Ordered> {
@@ -275,7 +359,10 @@ fn closed_twice<L: EngineName, R: Wait>(
     let mut engine = Engine::<L>::new(alloc, opening, ONES);
     match engine.client(rt) {
         Ok(first) => closed_after_a_put(rt, alloc, engine, first),
-        Err(_) => None,
+        Err(_) => {
+            drop(engine);
+            None
+        }
     }
 }
 
@@ -288,12 +375,17 @@ fn closed_after_a_put<L: EngineName, R: Wait>(
 ) -> Option<(u8, usize, u64)> {
     let mut engine = engine;
     match engine.client(rt) {
-        Ok(mut second) => {
+        Ok(second) => {
+            let mut second = second;
             let put = "{\"key\":\"YQ==\"}";
             let _put = posted(rt, alloc, &engine, &mut second, PUT, put);
             closed_without(rt, alloc, engine, first, second)
         }
-        Err(_) => None,
+        Err(_) => {
+            drop(engine);
+            drop(first);
+            None
+        }
     }
 }
 
@@ -306,9 +398,13 @@ fn closed_without<L: EngineName, R: Wait>(
     other: Client<L>,
 ) -> Option<(u8, usize, u64)> {
     let mut clients = Vec::new(alloc);
-    let _ = clients.push(one);
+    drop(clients.push(one));
     match engine.close(rt, clients) {
-        Ok(_) => None,
+        Ok(core) => {
+            drop(core);
+            drop(other);
+            None
+        }
         Err(fault) => closed_with(rt, fault, other),
     }
 }
@@ -323,10 +419,10 @@ fn closed_with<L: EngineName, R: Wait>(
     let CloseFault { engine, clients } = fault;
     let mut clients = clients;
     let count = clients.len();
-    let _ = clients.push(client);
-    match engine.close(rt, clients) {
-        Ok(core) => Some((number, count, core.status().revision)),
-        Err(_) => None,
+    drop(clients.push(client));
+    match closed(rt, engine, clients) {
+        Some(revision) => Some((number, count, revision)),
+        None => None,
     }
 }
 

@@ -25,12 +25,17 @@ fn is_replied<L: EngineName, R: Wait>(
     asked: (&str, &str),
     reply: (u16, &str),
 ) -> bool {
-    let Ok(command) = read(alloc, asked.0.as_bytes(), asked.1.as_bytes()) else {
-        return false;
-    };
-    let submitted = engine.submit(rt, client, now, &command);
-    let (status, body) = submitted.outcome.settled.wire();
-    status == reply.0 && body == reply.1.as_bytes()
+    match read(alloc, asked.0.as_bytes(), asked.1.as_bytes()) {
+        Ok(command) => {
+            let submitted = engine.submit(rt, client, now, &command);
+            let (status, body) = submitted.outcome.settled.wire();
+            let is = status == reply.0 && body == reply.1.as_bytes();
+            drop(submitted);
+            drop(command);
+            is
+        }
+        Err(_) => false,
+    }
 }
 
 /// The watch of a number is told this text.
@@ -144,10 +149,17 @@ fn versions_left<L: EngineName, R: Wait>(
     client: Client<L>,
 ) -> Option<u64> {
     let mut clients = Vec::new(alloc);
-    let _ = clients.push(client);
+    drop(clients.push(client));
     match engine.close(rt, clients) {
-        Ok(core) => dumped(&core),
-        Err(_) => None,
+        Ok(core) => {
+            let count = dumped(&core);
+            drop(core);
+            count
+        }
+        Err(fault) => {
+            drop(fault);
+            None
+        }
     }
 }
 
@@ -191,7 +203,10 @@ fn run<L: EngineName, R: Wait>(
     let mut engine = Engine::<L>::new(alloc, opening, ONES);
     match engine.client(rt) {
         Ok(client) => by_one(rt, alloc, engine, client, steps),
-        Err(_) => (None, None),
+        Err(_) => {
+            drop(engine);
+            (None, None)
+        }
     }
 }
 

@@ -35,11 +35,18 @@ fn posted<L: EngineName, R: Wait>(
     path: &str,
     body: &str,
 ) -> Option<(bool, u64)> {
-    let command = read(alloc, path.as_bytes(), body.as_bytes()).ok()?;
-    let submitted = engine.submit(rt, client, 0, &command);
-    match submitted.outcome.settled.wire().0 {
-        200 => Some((submitted.published, submitted.revision)),
-        _ => None,
+    match read(alloc, path.as_bytes(), body.as_bytes()) {
+        Ok(command) => {
+            let submitted = engine.submit(rt, client, 0, &command);
+            let told = match submitted.outcome.settled.wire().0 {
+                200 => Some((submitted.published, submitted.revision)),
+                _ => None,
+            };
+            drop(submitted);
+            drop(command);
+            told
+        }
+        Err(_) => None,
     }
 }
 
@@ -51,11 +58,16 @@ fn is_answered<L: EngineName, R: Wait>(
     client: &mut Client<L>,
     body: &str,
 ) -> bool {
-    let Ok(command) = read(alloc, RANGE.as_bytes(), RANGE_A.as_bytes()) else {
-        return false;
-    };
-    let submitted = engine.submit(rt, client, 0, &command);
-    submitted.outcome.settled.wire() == (200, body.as_bytes())
+    match read(alloc, RANGE.as_bytes(), RANGE_A.as_bytes()) {
+        Ok(command) => {
+            let submitted = engine.submit(rt, client, 0, &command);
+            let is = submitted.outcome.settled.wire() == (200, body.as_bytes());
+            drop(submitted);
+            drop(command);
+            is
+        }
+        Err(_) => false,
+    }
 }
 
 /// The body of a Range by a client's own reading, or its refusal.
@@ -128,7 +140,12 @@ fn beside<L: EngineName, R: Wait>(
     a: &mut Client<L>,
 ) -> Option<usize> {
     match engine.client(rt) {
-        Ok(mut b) => Some(first_otherwise(rt, alloc, engine, (a, &mut b))),
+        Ok(made) => {
+            let mut b = made;
+            let step = first_otherwise(rt, alloc, engine, (a, &mut b));
+            drop(b);
+            Some(step)
+        }
         Err(_) => None,
     }
 }
@@ -136,7 +153,12 @@ fn beside<L: EngineName, R: Wait>(
 /// The first step that goes otherwise, of two clients of an engine.
 fn by_two<L: EngineName, R: Wait>(rt: &R, alloc: Global, engine: &mut Engine<L>) -> Option<usize> {
     match engine.client(rt) {
-        Ok(mut a) => beside(rt, alloc, engine, &mut a),
+        Ok(made) => {
+            let mut a = made;
+            let step = beside(rt, alloc, engine, &mut a);
+            drop(a);
+            step
+        }
         Err(_) => None,
     }
 }
@@ -150,7 +172,9 @@ fn run<L: EngineName, R: Wait>(rt: &R, alloc: Global, opening: Opening) -> Optio
     requires ids { L.ListName.ids ≡ record { cluster = 1; member = 1 } }
 {
     let mut engine = Engine::<L>::new(alloc, opening, ONES);
-    by_two(rt, alloc, &mut engine)
+    let step = by_two(rt, alloc, &mut engine);
+    drop(engine);
+    step
 }
 
 fn run_read_back<R: Wait>(rt: &R, alloc: Global) -> Option<usize> {

@@ -48,6 +48,8 @@ fn requested<L: EngineName, R: Wait>(
         Ok(command) => {
             let asked = Asked::by(&command, path.as_bytes(), body.as_bytes());
             drop(engine.submit_request(rt, client, 1000, &asked));
+            drop(asked);
+            drop(command);
             true
         }
         Err(_) => false,
@@ -87,13 +89,16 @@ fn unasked<L: EngineName, R: Wait>(
 ) {
     if let Ok(command) = read(alloc, PUT.as_bytes(), b"{\"key\":\"YQ==\"}".as_slice()) {
         drop(engine.submit(rt, client, 0, &command));
+        drop(command);
     }
 }
 
 /// Takes the lines of an engine that were not taken yet, and says whether none is missing.
-fn take<L: EngineName, R: Wait>(rt: &R, engine: &Engine<L>, text: &mut Vec<u8>) -> bool {
+fn taken<L: EngineName, R: Wait>(rt: &R, alloc: Global, engine: &Engine<L>) -> Taken {
+    let mut text = Vec::new(alloc);
     let mut taken = locked(rt, engine.taken());
-    engine.take_lines(rt, &mut *taken, text)
+    let is_all = engine.take_lines(rt, &mut *taken, &mut text);
+    (text, is_all)
 }
 
 /// The lines that are taken behind the requests, behind the other events, and behind a command for
@@ -110,16 +115,30 @@ fn lines<L: EngineName, R: Wait>(
     requires ids { L.ListName.ids ≡ record { cluster = 1; member = 1 } }
 {
     let mut engine = Engine::<L>::recorded(alloc, opening, ONES);
-    let mut client = engine.client(rt).ok()?;
-    let (mut asked, mut done, mut last) = (Vec::new(alloc), Vec::new(alloc), Vec::new(alloc));
-    request_all(rt, alloc, &engine, &mut client);
-    let is_all = take(rt, &engine, &mut asked);
-    make_events(rt, &engine, &mut client);
-    let is_all_done = take(rt, &engine, &mut done);
-    unasked(rt, alloc, &engine, &mut client);
-    request_all(rt, alloc, &engine, &mut client);
-    let is_all_last = take(rt, &engine, &mut last);
-    Some(((asked, is_all), (done, is_all_done), (last, is_all_last)))
+    let taken = match engine.client(rt) {
+        Ok(client) => Some(lines_by(rt, alloc, &engine, client)),
+        Err(_) => None,
+    };
+    drop(engine);
+    taken
+}
+
+/// The same, by a client.
+fn lines_by<L: EngineName, R: Wait>(
+    rt: &R,
+    alloc: Global,
+    engine: &Engine<L>,
+    client: Client<L>,
+) -> (Taken, Taken, Taken) {
+    let mut client = client;
+    request_all(rt, alloc, engine, &mut client);
+    let asked = taken(rt, alloc, engine);
+    make_events(rt, engine, &mut client);
+    let done = taken(rt, alloc, engine);
+    unasked(rt, alloc, engine, &mut client);
+    request_all(rt, alloc, engine, &mut client);
+    drop(client);
+    (asked, done, taken(rt, alloc, engine))
 }
 
 fn run_lines<R: Wait>(rt: &R, alloc: Global) -> Option<(Taken, Taken, Taken)> {
@@ -148,11 +167,25 @@ fn unrecorded<L: EngineName, R: Wait>(rt: &R, alloc: Global, opening: Opening) -
     requires ids { L.ListName.ids ≡ record { cluster = 1; member = 1 } }
 {
     let mut engine = Engine::<L>::new(alloc, opening, ONES);
-    let mut client = engine.client(rt).ok()?;
-    let mut text = Vec::new(alloc);
-    request_all(rt, alloc, &engine, &mut client);
-    let is_all = take(rt, &engine, &mut text);
-    Some((text, is_all))
+    let text = match engine.client(rt) {
+        Ok(client) => Some(unrecorded_by(rt, alloc, &engine, client)),
+        Err(_) => None,
+    };
+    drop(engine);
+    text
+}
+
+/// The same, by a client.
+fn unrecorded_by<L: EngineName, R: Wait>(
+    rt: &R,
+    alloc: Global,
+    engine: &Engine<L>,
+    client: Client<L>,
+) -> Taken {
+    let mut client = client;
+    request_all(rt, alloc, engine, &mut client);
+    drop(client);
+    taken(rt, alloc, engine)
 }
 
 fn run_unrecorded<R: Wait>(rt: &R, alloc: Global) -> Option<Taken> {
