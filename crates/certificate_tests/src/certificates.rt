@@ -268,7 +268,8 @@ static PREVIOUS: [Case; 7] = [
 
 /// What a check says of the first case that it judges otherwise than is told.
 fn first_wrong(alloc: Global, cases: &[Case]) -> Option<Result<Least, NeedFault>> {
-    for (floor, revision, rows, lines, told) in cases.iter().copied() {
+    for row in cases {
+        let (floor, revision, rows, lines, told) = *row;
         let found = verdict(alloc, floor, revision, rows, lines);
         if found != told {
             return Some(found);
@@ -339,7 +340,8 @@ static SHOWN: [(NeedFault, &str); 6] = [
 
 /// The first text whose fault is shown otherwise.
 fn first_shown_wrong(alloc: Global, cases: &[(NeedFault, &'static str)]) -> Option<&'static str> {
-    for (fault, text) in cases.iter().copied() {
+    for row in cases {
+        let (fault, text) = *row;
         if !is_shown(alloc, fault, text) {
             return Some(text);
         }

@@ -22,7 +22,8 @@ watch 9223372036854775807 18446744073709551615 9223372036854775807\nrange 0 0 0\
 
 /// The first text that does not come back, with its last line feed and without.
 fn first_lost(alloc: Global, texts: &[&'static str]) -> Option<&'static str> {
-    for text in texts.iter().copied() {
+    for text in texts {
+        let text = *text;
         let bytes = text.as_bytes();
         let Some((_, unended)) = bytes.split_last() else {
             return Some(text);

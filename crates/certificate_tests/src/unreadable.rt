@@ -95,7 +95,8 @@ fn stops_with(alloc: Global, number: usize, line: &str) -> Option<u64> {
 
 /// The first line that does not make its text unreadable where it should.
 fn first_wrong(alloc: Global, cases: &[Case]) -> Option<&'static str> {
-    for (number, line, expected) in cases.iter().copied() {
+    for row in cases {
+        let (number, line, expected) = *row;
         if stops_with(alloc, number, line) != Some(expected) {
             return Some(line);
         }
@@ -165,7 +166,8 @@ static SHOWN: [(Unreadable, &str); 3] = [
 
 /// The first text whose refusal is shown otherwise.
 fn first_shown_wrong(alloc: Global, cases: &[(Unreadable, &'static str)]) -> Option<&'static str> {
-    for (refusal, text) in cases.iter().copied() {
+    for row in cases {
+        let (refusal, text) = *row;
         if !is_shown(alloc, refusal, text) {
             return Some(text);
         }

@@ -90,16 +90,51 @@ fn answer_on<L: EngineName, R: Wait, W: Write>(
     requires recorded { L.recorded ≡ false }
     requires ids { L.ListName.ids ≡ record { cluster = 1; member = 1 } }
 {
-    let mut clients = match Vec::with_capacity(alloc, 1) {
-        Ok(clients) => clients,
-        Err(_) => return Err(io::Error::from(ErrorKind::OutOfMemory)),
-    };
-    let mut engine = Engine::<L>::new(alloc, opening, IDS);
-    let Ok(mut client) = engine.client(rt) else {
-        return Err(io::Error::from(ErrorKind::Other));
-    };
+    match Vec::with_capacity(alloc, 1) {
+        Ok(clients) => {
+            let engine = Engine::<L>::new(alloc, opening, IDS);
+            answer_by(rt, alloc, engine, clients, script, w)
+        }
+        Err(_) => {
+            drop(opening);
+            Err(io::Error::from(ErrorKind::OutOfMemory))
+        }
+    }
+}
+
+/// Answers a script by a client of an engine, and closes that.
+fn answer_by<L: EngineName, R: Wait, W: Write>(
+    rt: &R,
+    alloc: Global,
+    engine: Engine<L>,
+    clients: Vec<Client<L>>,
+    script: &[u8],
+    w: &mut W,
+) -> io::Result<()> {
+    let mut engine = engine;
+    match engine.client(rt) {
+        Ok(client) => answer_with(rt, alloc, engine, clients, client, script, w),
+        Err(_) => {
+            drop(clients);
+            drop(engine);
+            Err(io::Error::from(ErrorKind::Other))
+        }
+    }
+}
+
+/// The same by this one, for which the list of clients has room.
+fn answer_with<L: EngineName, R: Wait, W: Write>(
+    rt: &R,
+    alloc: Global,
+    engine: Engine<L>,
+    clients: Vec<Client<L>>,
+    client: Client<L>,
+    script: &[u8],
+    w: &mut W,
+) -> io::Result<()> {
+    let (mut clients, mut client) = (clients, client);
     let answered = answer_lines(rt, alloc, &engine, &mut client, script, w);
-    let _ = clients.push(client);
+    drop(clients.push(client));
     let closed = closed_at(rt, engine, clients);
     answered?;
     match closed {
@@ -115,7 +150,14 @@ fn closed_at<L: EngineName, R: Wait>(
     clients: Vec<Client<L>>,
 ) -> Option<u64> {
     match engine.close(rt, clients) {
-        Ok(core) => Some(core.status().revision),
-        Err(_) => None,
+        Ok(core) => {
+            let revision = core.status().revision;
+            drop(core);
+            Some(revision)
+        }
+        Err(fault) => {
+            drop(fault);
+            None
+        }
     }
 }

@@ -23,7 +23,8 @@ const TEXTS: [(Bad, u8, &str); 6] = [
 
 /// The first text whose refusal has another number or is shown otherwise.
 fn first_shown_wrong(alloc: Global, cases: &[(Bad, u8, &'static str)]) -> Option<&'static str> {
-    for (bad, number, text) in cases.iter().copied() {
+    for row in cases {
+        let (bad, number, text) = *row;
         if bad.number() != number || !is_shown_as(alloc, bad, text) {
             return Some(text);
         }

@@ -32,7 +32,8 @@ const BODIES: [(&str, Option<&[u8]>); 9] = [
 /// The first body that is read otherwise than beside it.
 fn first_other(alloc: Global, cases: &[(&'static str, Option<&[u8]>)]) -> Option<&'static str> {
     let mut reading = Reading::new(alloc);
-    for (body, expected) in cases.iter().copied() {
+    for row in cases {
+        let (body, expected) = *row;
         if !is_read(alloc, &mut reading, body, expected) {
             return Some(body);
         }

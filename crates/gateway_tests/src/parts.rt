@@ -57,7 +57,8 @@ fn in_parts(alloc: Global, parts: &[&[KvRef<'_>]]) -> Result<Vec<u8>, AllocError
 fn whole(alloc: Global, parts: &[&[KvRef<'_>]]) -> Result<Vec<u8>, AllocError> {
     let mut kvs = Vec::new(alloc);
     for part in parts {
-        for kv in part.iter().copied() {
+        for kv in part.iter() {
+            let kv = *kv;
             kvs.push(kv)?;
         }
     }

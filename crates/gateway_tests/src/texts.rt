@@ -41,7 +41,8 @@ fn range_says(
     expected: &str,
 ) -> bool {
     let mut kvs = Vec::new(alloc);
-    for kv in shown.iter().copied() {
+    for kv in shown {
+        let kv = *kv;
         let _ = kvs.push(kv);
     }
     let reply = RangeReply {

@@ -31,7 +31,8 @@ const KEYS: [(&str, &[u8]); 12] = [
 
 /// The first body that is not read with the key beside it.
 fn first_other_key(alloc: Global, cases: &[(&'static str, &[u8])]) -> Option<&'static str> {
-    for (body, expected) in cases.iter().copied() {
+    for row in cases {
+        let (body, expected) = *row;
         if !is_key(alloc, body, expected) {
             return Some(body);
         }

@@ -82,7 +82,8 @@ const FRONTS: [(Front, u8, &str); 10] = [
 
 /// The first that has another number or another text.
 fn first_wrong(alloc: Global, cases: &[(Front, u8, &'static str)]) -> Option<u8> {
-    for (front, number, expected) in cases.iter().copied() {
+    for row in cases {
+        let (front, number, expected) = *row;
         let is = match &format!(in alloc; "{front}") {
             Ok(text) => text.as_str() == expected,
             Err(_) => false,

@@ -121,7 +121,8 @@ fn is_read(bytes: &[u8], head: Head, sent: Sent) -> bool {
 
 /// The first head that is not read as what stands beside it.
 fn first_misread(cases: &[Sent]) -> Option<&'static [u8]> {
-    for sent in cases.iter().copied() {
+    for sent in cases {
+        let sent = *sent;
         let is = match seen(sent.0) {
             Look::Head(head) => is_read(sent.0, head, sent),
             _ => false,
@@ -141,7 +142,8 @@ fn heads_that_others_send(rt: HostRuntime) {
 
 /// The first head of which a beginning is more than the beginning of a head.
 fn first_too_early(cases: &[Sent]) -> Option<&'static [u8]> {
-    for sent in cases.iter().copied() {
+    for sent in cases {
+        let sent = *sent;
         for end in 0..sent.0.len() {
             if seen(&sent.0[..end]) != Look::More {
                 return Some(sent.0);
@@ -205,7 +207,8 @@ const FAULTS: [(&[u8], Fault); 17] = [
 
 /// The first head that has not the fault beside it.
 fn first_wrong(cases: &[(&'static [u8], Fault)]) -> Option<&'static [u8]> {
-    for (text, fault) in cases.iter().copied() {
+    for row in cases {
+        let (text, fault) = *row;
         if seen(text) != Look::Fault(fault) {
             return Some(text);
         }

@@ -167,7 +167,8 @@ const TEXTS: [(Text, &[u8]); 13] = [
 
 /// The first text that is not written as what stands beside it.
 fn first_wrong(alloc: Global, cases: &[(Text, &'static [u8])]) -> Option<&'static [u8]> {
-    for (text, expected) in cases.iter().copied() {
+    for row in cases {
+        let (text, expected) = *row;
         if !is_written(alloc, text, expected) || !is_written_in_pieces(alloc, text, expected) {
             return Some(expected);
         }
@@ -198,7 +199,8 @@ fn first_miscut(alloc: Global, text: Text, expected: &[u8]) -> Option<usize> {
 
 /// The first text of which that is so.
 fn first_cut(alloc: Global, cases: &[(Text, &'static [u8])]) -> Option<&'static [u8]> {
-    for (text, expected) in cases.iter().copied() {
+    for row in cases {
+        let (text, expected) = *row;
         if first_miscut(alloc, text, expected).is_some() {
             return Some(expected);
         }
@@ -219,7 +221,8 @@ fn first_told(alloc: Global, cases: &[Front]) -> Option<Front> {
     let Ok(mut buffer) = ReplyBuffer::new(alloc) else {
         return Some(Front::Head);
     };
-    for front in cases.iter().copied() {
+    for front in cases {
+        let front = *front;
         let mut w = writer(alloc, 0, 3, true);
         let ended = write_refusal(&mut buffer, &mut w, front);
         let left = w.into_inner();

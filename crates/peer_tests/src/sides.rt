@@ -110,13 +110,32 @@ fn worked<L: EngineName, R: Wait + time::Clock>(
     requires ids { L.ListName.ids ≡ record { cluster = 1; member = 1 } }
 {
     let mut engine = Engine::<L>::new(alloc, opening, ONES);
-    let mut client = engine.client(rt).ok()?;
-    let ended = work(rt, alloc, &engine, &mut client, &Impatient, &Still, 1, r, w);
-    Some(End {
+    let end = match engine.client(rt) {
+        Ok(client) => Some(worked_by(rt, alloc, &engine, client, r, w)),
+        Err(_) => None,
+    };
+    drop(engine);
+    end
+}
+
+/// How it ends by this client.
+fn worked_by<L: EngineName, R: Wait + time::Clock>(
+    rt: &R,
+    alloc: Global,
+    engine: &Engine<L>,
+    client: Client<L>,
+    r: &mut Counted<Coming<'_>>,
+    w: &mut Counted<Going>,
+) -> End {
+    let mut client = client;
+    let ended = work(rt, alloc, engine, &mut client, &Impatient, &Still, 1, r, w);
+    let end = End {
         ended,
         revision: client.share().saturating_add(1),
         is_watched: !is_nothing(&engine.deliver(rt, &mut client, 1)),
-    })
+    };
+    drop(client);
+    end
 }
 
 /// Whether there is no such watch.
@@ -147,14 +166,40 @@ fn left<L: EngineName, R: Wait + time::Clock>(
     requires ids { L.ListName.ids ≡ record { cluster = 1; member = 1 } }
 {
     let mut engine = Engine::<L>::new(alloc, opening, ONES);
-    let Ok(mut client) = engine.client(rt) else {
-        return Some(0);
+    let first = match engine.client(rt) {
+        Ok(client) => left_by(rt, alloc, &engine, client, count),
+        Err(_) => Some(0),
     };
-    if !puts(rt, alloc, &engine, &mut client) {
+    drop(engine);
+    first
+}
+
+/// The same by this client.
+fn left_by<L: EngineName, R: Wait + time::Clock>(
+    rt: &R,
+    alloc: Global,
+    engine: &Engine<L>,
+    client: Client<L>,
+    count: u64,
+) -> Option<u64> {
+    let mut client = client;
+    let first = first_that_stays(rt, alloc, engine, &mut client, count);
+    drop(client);
+    first
+}
+
+fn first_that_stays<L: EngineName, R: Wait + time::Clock>(
+    rt: &R,
+    alloc: Global,
+    engine: &Engine<L>,
+    client: &mut Client<L>,
+    count: u64,
+) -> Option<u64> {
+    if !puts(rt, alloc, engine, client) {
         return Some(0);
     }
     for number in 1..=count {
-        if !leaves(rt, alloc, &engine, &mut client, number) {
+        if !leaves(rt, alloc, engine, client, number) {
             return Some(number);
         }
     }

@@ -4,7 +4,7 @@ ghost use Rattle.std.specs.Prelude.{◌≡◌, false};
 
 use crate::sides::{Impatient, ONES, Still};
 use crate::texts::{PUT, PUT_REPLY, REPLIES, REQUESTS};
-use engine_lock::{Engine, EngineName, Opening};
+use engine_lock::{Client, Engine, EngineName, Opening};
 use http_connections::{After, ByEngine, ByWorker, Crowd, Life, Serving, Turning, Wire};
 use http_front::GatedEngine;
 use http_input::Input;
@@ -89,19 +89,81 @@ struct Served<L: EngineName> {
 
 impl<L: EngineName> Served<L> {
     fn new<R: Wait>(rt: &R, alloc: Global, engine: &mut Engine<L>) -> Option<Self> {
-        let one = engine.client(rt).ok()?;
-        let other = engine.client(rt).ok()?;
-        let known = other.known();
-        Some(Served {
-            clients: [Serving::new(alloc, one), Serving::new(alloc, other)],
-            buffer: ReplyBuffer::new(alloc).ok()?,
-            input: Input::new(alloc).ok()?,
-            life: Life::new(alloc, 1, known),
-            w: Taking {
-                got: Vec::new(alloc),
-                most: 0,
-            },
-        })
+        match engine.client(rt) {
+            Ok(one) => Served::beside(rt, alloc, engine, one),
+            Err(_) => None,
+        }
+    }
+
+    fn beside<R: Wait>(
+        rt: &R,
+        alloc: Global,
+        engine: &mut Engine<L>,
+        one: Client<L>,
+    ) -> Option<Self> {
+        match engine.client(rt) {
+            Ok(other) => Served::by(alloc, one, other),
+            Err(_) => {
+                drop(one);
+                None
+            }
+        }
+    }
+
+    fn by(alloc: Global, one: Client<L>, other: Client<L>) -> Option<Self> {
+        match ReplyBuffer::new(alloc) {
+            Ok(buffer) => Served::through(alloc, one, other, buffer),
+            Err(_) => {
+                drop(one);
+                drop(other);
+                None
+            }
+        }
+    }
+
+    fn through(
+        alloc: Global,
+        one: Client<L>,
+        other: Client<L>,
+        buffer: ReplyBuffer,
+    ) -> Option<Self> {
+        match Input::new(alloc) {
+            Ok(input) => {
+                let known = other.known();
+                Some(Served {
+                    clients: [Serving::new(alloc, one), Serving::new(alloc, other)],
+                    buffer,
+                    input,
+                    life: Life::new(alloc, 1, known),
+                    w: Taking {
+                        got: Vec::new(alloc),
+                        most: 0,
+                    },
+                })
+            }
+            Err(_) => {
+                drop(one);
+                drop(other);
+                drop(buffer);
+                None
+            }
+        }
+    }
+
+    /// What its client took.
+    fn taken(self) -> Vec<u8> {
+        let Served {
+            clients,
+            buffer,
+            input,
+            life,
+            w,
+        } = self;
+        drop(clients);
+        drop(buffer);
+        drop(input);
+        drop(life);
+        w.got
     }
 }
 
@@ -168,12 +230,13 @@ fn goes_out<L: EngineName, R: Wait + time::Clock>(
         served = then;
         is_new = matches!(after, After::Reads);
         match after {
-            After::Reads if part == 1 => return Some(served.w.got),
+            After::Reads if part == 1 => return Some(served.taken()),
             After::Reads => part = 1,
             After::Writes | After::Again => {}
-            After::Over | After::Away(_) => return None,
+            After::Over | After::Away(_) => break,
         }
     }
+    drop(served);
     None
 }
 
@@ -217,7 +280,11 @@ fn is_answered<L: EngineName, R: Wait + time::Clock>(
         ended: &ended,
     };
     match goes_out(&turning, served, sent, place, row.0) {
-        Some(got) => got.as_slice() == row.1,
+        Some(got) => {
+            let is = got.as_slice() == row.1;
+            drop(got);
+            is
+        }
         None => false,
     }
 }

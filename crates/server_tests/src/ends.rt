@@ -29,7 +29,11 @@ fn ended<L: EngineName + Send + Sync, R: Wait + Threads + time::Clock + Net + Sy
 {
     let engine = Engine::<L>::new(alloc, opening, ONES);
     match pool(rt, alloc, engine, &OpenGate, &Still, listener, workers, 0) {
-        Ok(core) => Ok(core.status().revision),
+        Ok(core) => {
+            let revision = core.status().revision;
+            drop(core);
+            Ok(revision)
+        }
         Err(front) => Err(front),
     }
 }

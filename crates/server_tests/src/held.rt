@@ -73,7 +73,11 @@ fn served<L: EngineName + Send + Sync, R: Wait + Threads + time::Clock + Net + S
     let ended = pool(rt, alloc, engine, &gate, &Still, listener, count, count);
     let held = !gate.gave_up.load(Ordering::SeqCst);
     match ended {
-        Ok(core) => Some((held, core.status().revision)),
+        Ok(core) => {
+            let revision = core.status().revision;
+            drop(core);
+            Some((held, revision))
+        }
         Err(_) => None,
     }
 }

@@ -2,8 +2,8 @@
 //! no clause can say of `http_front`, `commands` and `command_line`, that they succeed
 //! with ample memory, that two connections are answered side by side, and the bytes of requests and
 //! replies from outside. They stand in a crate above, for the tests of a crate have it proved once
-//! more. The worked rows of scripts and certificates are run over memory here (`scripts`), and with
-//! more of them on the program by `tests/rows`. It has nothing but tests.
+//! more. The worked rows of scripts and certificates are run on the program, by `tests/rows`. It has
+//! nothing but tests.
 #![tactic(auto)]
 
 #[cfg(test)]
@@ -12,8 +12,6 @@ mod ends;
 mod held;
 #[cfg(test)]
 mod rows;
-#[cfg(test)]
-mod scripts;
 #[cfg(test)]
 mod serving;
 #[cfg(test)]

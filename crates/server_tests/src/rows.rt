@@ -117,6 +117,7 @@ fn holds(alloc: Global, row: &Row) -> bool {
     let mut writer = Counted::new(Vec::new(alloc));
     let result = serve_alone(alloc, &mut core, &mut reader, &mut writer, limit);
     let at = core.status().revision;
+    drop(core);
     let written = writer.into_inner();
     result == ended && at == revision && written.as_slice() == output
 }
@@ -141,6 +142,7 @@ fn is_cut(alloc: Global, count: usize) -> bool {
     let mut writer = Counted::new(&mut room[..count]);
     let result = serve_alone(alloc, &mut core, &mut reader, &mut writer, 9);
     let (at, failures) = (core.status().revision, writer.failures());
+    drop(core);
     result == Err(Front::Write(count as u64))
         && at == 2
         && failures == 1

@@ -21,11 +21,6 @@ const OTHER_REPLY: &str =
     "HTTP/1.1 200 OK\r\nContent-Type: application/json\r\nContent-Length: 76\r\n\r\n\
     {\"header\":{\"cluster_id\":\"9\",\"member_id\":\"4\",\"raft_term\":\"1\",\"revision\":\"2\"}}";
 
-/// The reply to a put of a store at revision 2.
-const NEXT_REPLY: &str =
-    "HTTP/1.1 200 OK\r\nContent-Type: application/json\r\nContent-Length: 76\r\n\r\n\
-    {\"header\":{\"cluster_id\":\"1\",\"member_id\":\"1\",\"raft_term\":\"1\",\"revision\":\"3\"}}";
-
 /// A server of one connection.
 const LEAST: Serve<'static> = Serve {
     listen: "",
@@ -40,12 +35,11 @@ const LEAST: Serve<'static> = Serve {
 
 const CLOSED: &[u8] = b"closed at revision 2\n";
 
-/// How a server of one connection that goes on from a script ends, where a client has written one put and closed its sending
-/// side before the server accepts, and whether that is answered so.
+/// How a server of one connection ends, where a client has written one put and closed its sending side
+/// before the server accepts, and whether that is answered so.
 fn served<R, W: Write>(
     rt: &R,
     (cluster, member): (u64, u64),
-    script: &[u8],
     reply: &str,
     said: &mut W,
 ) -> Result<(Result<(), Fault>, bool), Fail>
@@ -70,7 +64,7 @@ where
     });
     let start = Start {
         listener: &listener,
-        script: script.to_vec(alloc)?,
+        script: Vec::new(alloc),
         hears: &Unheard,
     };
     let ended = serve_by(rt, alloc, start, &args, &OpenGate, said);
@@ -81,7 +75,7 @@ where
 #[test]
 fn serves_one_connection(rt: HostRuntime) -> Result<(), Fail> {
     let mut said = Vec::new(rt.alloc());
-    let ended = served(&rt, (1, 1), b"", REPLY, &mut said)?;
+    let ended = served(&rt, (1, 1), REPLY, &mut said)?;
     assert!(rt; matches!(ended, (Ok(()), true)));
     assert!(rt; said.as_slice() == CLOSED);
     Ok(())
@@ -91,7 +85,7 @@ fn serves_one_connection(rt: HostRuntime) -> Result<(), Fail> {
 #[test]
 fn answers_by_its_ids(rt: HostRuntime) -> Result<(), Fail> {
     let mut said = Vec::new(rt.alloc());
-    let ended = served(&rt, (9, 4), b"", OTHER_REPLY, &mut said)?;
+    let ended = served(&rt, (9, 4), OTHER_REPLY, &mut said)?;
     assert!(rt; matches!(ended, (Ok(()), true)));
     Ok(())
 }
@@ -100,29 +94,13 @@ fn answers_by_its_ids(rt: HostRuntime) -> Result<(), Fail> {
 #[test]
 fn closing_lines_that_fail(rt: HostRuntime) -> Result<(), Fail> {
     let mut cut = small_writer(rt.alloc(), 6, true, true);
-    let ended = served(&rt, (1, 1), b"", REPLY, &mut cut)?;
+    let ended = served(&rt, (1, 1), REPLY, &mut cut)?;
     assert!(rt; matches!(ended, (Err(Fault::Write(_)), true)));
     assert!(rt; cut.got.as_slice() == b"closed".as_slice());
     let mut kept_back = small_writer(rt.alloc(), usize::MAX, true, false);
-    let ended = served(&rt, (1, 1), b"", REPLY, &mut kept_back)?;
+    let ended = served(&rt, (1, 1), REPLY, &mut kept_back)?;
     assert!(rt; matches!(ended, (Err(Fault::Write(_)), true)));
     assert!(rt; kept_back.got.as_slice() == CLOSED);
-    Ok(())
-}
-
-/// A script with a put, a watch and a lease: the store's revision is 2.
-const SCRIPT: &[u8] = b"AT 1000\nPOST /v3/kv/put {\"key\":\"Zm9v\"}\n\
-    POST /v3/watch {\"create_request\":{\"key\":\"Zm9v\"}}\nDELIVER 1\nCLOSE 2\nEXPIRE\nTRIM\nCERTIFY\n\
-    POST /v3/lease/grant {\"TTL\":\"9\",\"ID\":\"7\"}\nPOST /v3/nothing {}";
-
-/// A server's next put after a script is answered as the script's next line would be.
-#[test]
-fn goes_on_from_a_script(rt: HostRuntime) -> Result<(), Fail> {
-    let mut said = Vec::new(rt.alloc());
-    let ended = served(&rt, (1, 1), SCRIPT, NEXT_REPLY, &mut said)?;
-    assert!(rt; matches!(ended, (Ok(()), true)));
-    assert!(rt; said.as_slice() == b"closed at revision 3\n".as_slice());
-    assert!(rt; check_script(SCRIPT).is_ok());
     Ok(())
 }
 

@@ -49,6 +49,7 @@ fn served<L: EngineName + Send + Sync, R: Wait + Threads + time::Clock + Net + S
     match pool(rt, alloc, engine, &gate, &Still, listener, 2, 1) {
         Ok(core) => {
             let status = core.status();
+            drop(core);
             Some((status.revision, status.versions))
         }
         Err(_) => None,

@@ -60,7 +60,8 @@ fn fault(alloc: Global, walked: Walked) -> Option<Refusal> {
 
 /// The place of the first transaction that has another fault than stands beside it.
 fn first_wrong_walk(alloc: Global, rows: &[(Walked, Option<Refusal>)]) -> Option<usize> {
-    for (place, (walked, expected)) in rows.iter().copied().enumerate() {
+    for (place, row) in rows.iter().enumerate() {
+        let (walked, expected) = *row;
         if fault(alloc, walked) != expected {
             return Some(place);
         }
@@ -147,7 +148,8 @@ type Check = (Op, Op, Result<(), Refusal>);
 
 /// The place of the first pair that is refused for something else than stands beside it.
 fn first_wrong_check(alloc: Global, rows: &[Check]) -> Option<usize> {
-    for (place, (first, second, expected)) in rows.iter().copied().enumerate() {
+    for (place, row) in rows.iter().enumerate() {
+        let (first, second, expected) = *row;
         if checked(alloc, first, second) != expected {
             return Some(place);
         }

@@ -184,7 +184,8 @@ fn is_so(core: &mut Core, row: Row) -> bool {
 }
 
 fn first_wrong(core: &mut Core, rows: &[Row]) -> Option<usize> {
-    for (place, row) in rows.iter().copied().enumerate() {
+    for (place, row) in rows.iter().enumerate() {
+        let row = *row;
         if !is_so(core, row) {
             return Some(place);
         }

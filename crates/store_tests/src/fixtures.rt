@@ -46,7 +46,8 @@ pub(crate) fn append(alloc: Global, tables: &mut Tables, version: Version) {
 
 /// Appends each of the changes as a revision.
 pub(crate) fn fill(alloc: Global, tables: &mut Tables, changes: &[Change]) {
-    for change in changes.iter().copied() {
+    for change in changes {
+        let change = *change;
         append(alloc, tables, version(change));
     }
 }

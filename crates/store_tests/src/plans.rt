@@ -87,7 +87,8 @@ type Row = (Held, Success, Put, Planned);
 
 /// The place of the first transaction that is planned otherwise.
 fn first_wrong(alloc: Global, rows: &[Row]) -> Option<usize> {
-    for (place, (held, success, failure, expected)) in rows.iter().copied().enumerate() {
+    for (place, row) in rows.iter().enumerate() {
+        let (held, success, failure, expected) = *row;
         let txn = compared(alloc, held, success_of(alloc, success), failure);
         if planned(alloc, txn) != expected {
             return Some(place);

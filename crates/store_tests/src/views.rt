@@ -232,7 +232,8 @@ fn is_told(alloc: Global, tables: &Tables, row: Row) -> bool {
 }
 
 fn first_wrong(alloc: Global, tables: &mut Tables, rows: &[Row]) -> Option<usize> {
-    for (place, row) in rows.iter().copied().enumerate() {
+    for (place, row) in rows.iter().enumerate() {
+        let row = *row;
         if !is_so(alloc, tables, row) {
             return Some(place);
         }

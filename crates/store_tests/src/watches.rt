@@ -131,7 +131,8 @@ fn is_so(alloc: Global, hub: &mut WatchHub, tables: &Tables, row: Row) -> bool {
 }
 
 fn first_wrong(alloc: Global, hub: &mut WatchHub, tables: &Tables, rows: &[Row]) -> Option<usize> {
-    for (place, row) in rows.iter().copied().enumerate() {
+    for (place, row) in rows.iter().enumerate() {
+        let row = *row;
         if !is_so(alloc, hub, tables, row) {
             return Some(place);
         }

@@ -186,7 +186,8 @@ fn is_so(index: &mut KeyIndex, row: Row) -> bool {
 }
 
 fn first_wrong(index: &mut KeyIndex, rows: &[Row]) -> Option<usize> {
-    for (place, row) in rows.iter().copied().enumerate() {
+    for (place, row) in rows.iter().enumerate() {
+        let row = *row;
         if !is_so(index, row) {
             return Some(place);
         }

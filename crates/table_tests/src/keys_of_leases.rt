@@ -52,7 +52,8 @@ fn version(main: u64, sub: u64, change: Change) -> Version {
 fn append(alloc: Global, tables: &mut Tables, changes: &[Change]) -> Vec<Version> {
     let main = tables.revision().saturating_add(1);
     let mut versions = Vec::new(alloc);
-    for (sub, change) in changes.iter().copied().enumerate() {
+    for (sub, change) in changes.iter().enumerate() {
+        let change = *change;
         let _ = versions.push(version(main, sub as u64, change));
     }
     if tables.takes(&versions) {
@@ -115,7 +116,8 @@ fn first_wrong(
     tables: &mut Tables,
     rows: &[Row],
 ) -> Option<usize> {
-    for (place, row) in rows.iter().copied().enumerate() {
+    for (place, row) in rows.iter().enumerate() {
+        let row = *row;
         if !is_so(alloc, index, tables, row) {
             return Some(place);
         }

@@ -86,7 +86,8 @@ fn is_so(book: &mut LeaseBook, row: Row) -> bool {
 }
 
 fn first_wrong(book: &mut LeaseBook, rows: &[Row]) -> Option<usize> {
-    for (place, row) in rows.iter().copied().enumerate() {
+    for (place, row) in rows.iter().enumerate() {
+        let row = *row;
         if !is_so(book, row) {
             return Some(place);
         }

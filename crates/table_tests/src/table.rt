@@ -121,7 +121,8 @@ fn is_told(table: &VersionTable, row: Row) -> bool {
 }
 
 fn first_wrong(table: &mut VersionTable, rows: &[Row]) -> Option<usize> {
-    for (place, row) in rows.iter().copied().enumerate() {
+    for (place, row) in rows.iter().enumerate() {
+        let row = *row;
         if !is_so(table, row) {
             return Some(place);
         }
