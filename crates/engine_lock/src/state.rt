@@ -1,5 +1,5 @@
 //! What stands under the lock: the core, the list of all events, and what readers are told of.
-ghost use Rattle.std.specs.Prelude.{◌≡◌, ◌≤◌, ◌==◌, ◌&&◌, not, false, MatchBool, is_ok, map, length, [], ◌++◌};
+ghost use Rattle.std.specs.Prelude.{◌≡◌, ◌≤◌, not, false, is_ok, map, length, [], ◌++◌};
 ghost use Rattle.std.specs.Prelude.{IfOk, IfErr, OnErr};
 ghost use mathlib.Core.List.{IsPrefix};
 ghost use Rattle.kv_model.specs.Follows.Outcome.{said};
@@ -122,8 +122,7 @@ impl<L: EngineName> State<L> {
         self.copies.status()
     }
 
-    /// Hands in a moment and then does a command. Readers are told of it as soon as all that was
-    /// appended is published.
+    /// Hands in a moment and then does a command. Readers are shown then all that was done.
     pub(crate) fn submit<R: Wait>(
         &mut self,
         rt: &R,
@@ -135,12 +134,12 @@ impl<L: EngineName> State<L> {
     ) -> Submitted
         requires ids { ids.now ≡ L.ListName.ids }
         requires out { client.old.reader.inside ≡ false }
-        ensures { Submits ids.now client.old now asked.now result client.new }
+        ensures submits { Submits ids.now client.old now asked.now result client.new }
+        ensures shown { self.new.feed.pending ≡ [] }
     {
-        let before = self.status();
         let outcome = self.make(rt, alloc, ids, client, now, asked);
         let after = self.status();
-        let published = self.tell(rt, client, has_appended(&before, &after));
+        let published = self.tell(rt, client);
         Submitted {
             outcome,
             published,
@@ -178,36 +177,35 @@ impl<L: EngineName> State<L> {
         outcome
     }
 
-    /// Tells readers of all that was appended, where something was, and then the client, which has
-    /// seen all of the list, where all of it is published; says whether it is.
-    fn tell<R: Wait>(&mut self, rt: &R, client: &mut Client<L>, has_appended: bool) -> bool
+    /// Shows readers all that was done, trimming steps too, and then tells the client, which has seen
+    /// all of the list; says whether it did.
+    fn tell<R: Wait>(&mut self, rt: &R, client: &mut Client<L>) -> bool
         requires { client.old.holder.front ≡ self.old.log }
         ensures told { IsTold result client.old client.new }
         ensures others { client.new ≡ record client.old { reader = client.new.reader } }
         ensures out { StaysOut client.old client.new }
-        ensures settled { MatchBool has_appended (self.new.feed.pending ≡ [])
-            (self.new.feed ≡ self.old.feed) }
+        ensures settled { self.new.feed.pending ≡ [] }
         ensures appended { appended self.new.feed ≡ appended self.old.feed }
         ensures same { self.new ≡ record self.old { feed = self.new.feed } }
     {
-        if has_appended {
+        if !self.copies.is_settled() {
             self.copies.show(rt, &self.listing.front());
         }
         client.learn(&self.copies)
     }
 
-    /// Hands in a moment, and tells the client of all that was done; says whether it did. Where some
-    /// of it is not published yet, it is published first.
+    /// Hands in a moment, shows readers all that was done, and tells the client of it; says whether it
+    /// did.
     pub(crate) fn catch_up<R: Wait>(&mut self, rt: &R, client: &mut Client<L>, now: u64) -> bool
         requires { client.old.reader.inside ≡ false }
-        ensures { CatchesUp L.ListName.ids client.old now result client.new }
+        ensures catches { CatchesUp L.ListName.ids client.old now result client.new }
+        ensures shown { self.new.feed.pending ≡ [] }
     {
         self.moment(rt, client, now);
-        let has_pending = !self.copies.is_settled();
-        self.tell(rt, client, has_pending)
+        self.tell(rt, client)
     }
 
-    /// Hands in a moment and then makes a step of expiry.
+    /// Hands in a moment and then makes a step of expiry. Readers are shown then all that was done.
     pub(crate) fn expire<R: Wait>(
         &mut self,
         rt: &R,
@@ -215,12 +213,11 @@ impl<L: EngineName> State<L> {
         now: u64,
     ) -> Result<Expiry, Refusal>
         requires { client.old.reader.inside ≡ false }
-        ensures { SubmitsExpiry L.ListName.ids client.old now result client.new }
+        ensures submits { SubmitsExpiry L.ListName.ids client.old now result client.new }
+        ensures shown { self.new.feed.pending ≡ [] }
     {
-        let before = self.status();
         let step = self.end(rt, client, now);
-        let after = self.status();
-        let _published = self.tell(rt, client, has_appended(&before, &after));
+        let _published = self.tell(rt, client);
         step
     }
 
@@ -284,12 +281,4 @@ impl<L: EngineName> State<L> {
         note_dropped(&mut self.lines, number, stood);
         ended
     }
-}
-
-/// Whether what was done between these appended an operation of its own.
-fn has_appended(before: &Status, after: &Status) -> bool
-    ensures { result ≡ not (before.now.revision == after.now.revision
-        && before.now.compacted == after.now.compacted) }
-{
-    before.revision != after.revision || before.compacted != after.compacted
 }

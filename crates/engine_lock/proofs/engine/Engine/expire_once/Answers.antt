@@ -7,4 +7,4 @@ use Rattle.engine_lock.proofs.engine.Engine.expire_once.Goals as goal
 
 pub returns : goal.returns
 returns g c = subst (λ (i : Ids). SubmitsExpiry i c.args.client.now c.args.now c.expire-step.result c.expire-step.new.client) (sym c.self.invariant.0 ∙ ap (λ (s : EngineState). s.ids) c.self.view_is)
-    (left_expires g.L.ListName.ids c.args.client.now c.expire-step.new.client c.leave.new.self c.args.now c.expire-step.result c.leave.ensures c.expire-step.ensures)
+    (left_expires g.L.ListName.ids c.args.client.now c.expire-step.new.client c.leave.new.self c.args.now c.expire-step.result c.leave.ensures c.expire-step.ensures.submits)

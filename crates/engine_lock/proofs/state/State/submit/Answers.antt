@@ -5,8 +5,8 @@ use Rattle.event_book.specs.Events.{Event, led_to}
 use Rattle.engine_lock.proofs.Submitting.{submits_told, tells}
 use Rattle.engine_lock.proofs.state.State.submit.Goals as goal
 
-pub returns : goal.returns
-returns g c =
+pub returns-clause-submits : goal.returns-clause-submits
+returns-clause-submits g c =
     submits_told c.args.ids.now c.args.client.now c.make-outcome.new.client c.tell-published.new.client c.args.now c.args.asked.now c.make-outcome.result
     c.tell-published.result (revision (led_to c.make-outcome.new.client.holder.front)) c.status-after.result.revision
     (tells c.args.ids.now c.args.client.now (Event.command c.args.now c.args.asked.now) (command_view c.make-outcome.result) c.make-outcome.new.client
