@@ -27,9 +27,8 @@
 //! at revision 9
 //! ```
 //!
-//! Only tested is that calls which may find no memory succeed where there is ample: in the crate
-//! `store_tests`, in `src/cores.rt`, and here, in `src/store/spent.rt`, those of the last revisions,
-//! which need a core made near them.
+//! Only tested is that calls which may find no memory succeed where there is ample, those of the last
+//! revisions too: in the crate `store_tests`, in `src/cores.rt`.
 #![tactic(auto)]
 
 pub mod answer;

@@ -16,8 +16,6 @@ mod ranging;
 mod receipts;
 mod rest;
 mod revoking;
-#[cfg(test)]
-mod spent;
 mod transacting;
 mod trimming;
 mod watching;

@@ -5,8 +5,9 @@ use bytes::Bytes;
 use kv_model::call::{Command, PutRequest, Watched};
 use kv_model::refusal::Refusal;
 use kv_model::version::{KeyRange, Rev};
+use range_view::Tables;
 use request_core::answer::{Answer, Status};
-use request_core::store::Core;
+use request_core::store::{Core, LAST_MAIN};
 use std::alloc::{AllocError, Global};
 use trim_core::Trim;
 use watch_hub::Delivery;
@@ -43,6 +44,52 @@ fn put_a() -> Command {
         ignore_value: false,
         ignore_lease: false,
     })
+}
+
+/// The revision that a command raised the store to, or the number of its refusal.
+type Raised = Result<Option<u64>, u8>;
+
+fn raised(core: &mut Core, command: &Command) -> Raised {
+    match core.apply(command) {
+        Ok(receipt) => Ok(receipt.raised),
+        Err(refusal) => Err(refusal.number()),
+    }
+}
+
+/// A core that keeps nothing and has come to the last revision but two, as no script comes so far: one is
+/// put together of a fresh core and of tables at that revision.
+fn near_the_last(alloc: Global) -> Core {
+    let late = Tables::at(alloc, LAST_MAIN - 2);
+    let (tables, rest) = Core::new(alloc).part();
+    let core = rest.join(late);
+    drop(tables);
+    core
+}
+
+/// What three puts raise such a core to: the first gives it one version, at the last revision but one.
+fn three_puts(alloc: Global) -> (Raised, Raised, Raised) {
+    let put = put_a();
+    let mut core = near_the_last(alloc);
+    let found = (
+        raised(&mut core, &put),
+        raised(&mut core, &put),
+        raised(&mut core, &put),
+    );
+    drop(core);
+    drop(put);
+    found
+}
+
+#[test]
+fn no_put_is_accepted_at_the_last_revision(rt: HostRuntime) {
+    assert_eq!(rt;
+        three_puts(rt.alloc()),
+        (
+            Ok(Some(9_223_372_036_854_775_806)),
+            Ok(Some(9_223_372_036_854_775_807)),
+            Err(17),
+        )
+    );
 }
 
 /// A watch of the key a from a revision on, and where that is 0 from the next one.
