@@ -166,7 +166,8 @@ impl<L: EngineName> Engine<L> {
     /// The client's share rises by one where the outcome tells a new revision, also where its
     /// answer was lost, and else stays. Its reading is left.
     ///
-    /// What was changed is published, which takes no memory and waits for nobody. Before, the core
+    /// What was changed is published, and each trimming step that waits for it, which takes no memory
+    /// and waits for nobody. Before, the core
     /// takes the copy of the tables that readers do not see, unless it has it: that waits for the
     /// readings that began before the last publication, and does there what was done on the other
     /// copy. Where that finds no memory the command is refused for it. The text of the answer is made

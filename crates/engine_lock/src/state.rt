@@ -43,8 +43,8 @@ use std::alloc::{AllocError, Global};
 use std::marker::Model;
 use std::sync::Wait;
 
-/// What stands under the lock. `steps` counts the trimming steps since readers were last told of some.
-/// `lines` are what is written down of the events that led to the core.
+/// What stands under the lock. `steps` counts the trimming steps since one of them last showed readers
+/// what was done. `lines` are what is written down of the events that led to the core.
 #[derive(Drop)]
 pub(crate) struct State<L: EngineName> {
     copies: Copies,

@@ -1,5 +1,5 @@
 -- Each line is its words, as they are written, one behind the other.
-use Rattle.std.proofs.Common.{List, ◌∷◌, [], ◌++◌, codes, sym, subst}
+use Rattle.std.proofs.Common.{◌∷◌, [], ◌++◌, codes, sym, subst}
 use Rattle.witness_core.specs.declared.fault.NeedFault.{NeedFault}
 use Rattle.commands.specs.Judging.{fault_text}
 use Rattle.commands.specs.Writes.{Writes}
